@@ -1,0 +1,42 @@
+-- Two bits are set, one after the other, as in the definition.
+-- Assumes nothing.
+use mathlib.Core.Path.{ap, ap₂, _∙_}
+use Rattle.label.specs.Filter.{setBit, insertHash}
+use borrow.Author.Needs.{needs}
+use Rattle.label.proofs.bloom.insert.Statement.{statement}
+use Rattle.label.proofs.bloom.insert.Tie as tie
+
+first-bit-requires : tie.Need-first-bit-requires
+first-bit-requires c κs = search needs
+
+second-bit-requires : tie.Need-second-bit-requires
+second-bit-requires c κs = search needs
+
+set-bit-requires : tie.Need-set-bit-requires
+set-bit-requires c κs = search needs
+
+set-bit-requires-2 : tie.Need-set-bit-requires-2
+set-bit-requires-2 c κs = search needs
+
+same-length : tie.Need-same-length
+same-length c = search needs
+
+returns : tie.Need-returns
+unfolding insertHash
+returns c =
+    let first = c .before .before .before .before .before .before in
+    let bits = first .before .before in
+    let filter = bits .before .before .before .args .filter .now in
+    c .before .before .set-bit2 .ensures
+    ∙ ap₂ setBit (first .set-bit .ensures ∙ ap (setBit filter) (bits .before .first-bit .ensures)) (bits .second-bit .ensures)
+
+pub insert-spec : {M : Type 1} → statement M
+insert-spec =
+    tie.close
+    (tie.spec
+    first-bit-requires
+    second-bit-requires
+    set-bit-requires
+    set-bit-requires-2
+    same-length
+    returns)

@@ -1,0 +1,5 @@
+-- Definitions and laws on lists beyond those of `lib.ListN` and `lib.Seq`, for every element type.
+pub mod Lists
+pub mod Parts
+pub mod Counting
+pub mod Partition

@@ -1,0 +1,282 @@
+-- Laws of `part` (reading a run of elements) and of lib.Seq's `sets` (writing one), and what a lent part that comes back is.
+--
+-- In order: a part's length and elements, parts of parts, of `_++_` and after a store; a run of stores, read element by
+-- element, before, in and after it, by `take`, `drop` and `part`; two runs; a part that is written back; lent parts.
+use mathlib.Core.Path.{_≡_, refl, sym, ap, _∙_}
+use mathlib.Core.Logic.{_⊎_, inl, inr}
+use Prim.Native.Nat.{ℕ, zero, suc, _+_, _-_, _≤_, _<_}
+use native.Mathlib.Nat.{not-suc-le-zero, le-of-suc-le-suc, add-zero, zero-add, add-suc, sub-zero, zero-sub, suc-sub-suc, le-of-eq}
+use native.Mathlib.Omega.{arith}
+use mathlib.Core.List.{List, [], _∷_, _++_, append-assoc}
+use lib.ListN.{length, getD, set, take, drop, length-set, length-drop, take-append-drop}
+use lib.Seq.{sets, sets-eq, slice, length-sets, length-take-le, take-length, take-nil, drop-nil, take-suc, drop-cons, take-append-seam, take-append-le, drop-append-le, drop-append-add, drop-at, getD-set-same, getD-set-other, set-set, set-comm, take-set-le, take-set-lt, drop-set-lt, drop-set-add, getD-take, getD-drop, take-take, drop-drop, take-add, ext-getD}
+use Rattle.lists.specs.Lists.{part}
+
+-- the place after one more element
+next : (i n : ℕ) → i + suc n ≡ suc i + n
+next i n = omega arith
+
+module _ {ℓ} {A : Type ℓ} where
+  -- ---- a part
+
+  pub length-part : (s c : ℕ) (l : List A) → s + c ≤ length l → length (part s c l) ≡ c
+  length-part s c l h = length-take-le c (drop s l) (rw length-drop (omega arith))
+
+  pub getD-part : (s c : ℕ) (l : List A) (i : ℕ) (d : A) → i < c → getD (part s c l) i d ≡ getD l (s + i) d
+  getD-part s c l i d h = getD-take c (drop s l) i d h ∙ getD-drop s l i d
+
+  pub drop-take : (m n : ℕ) (l : List A) → drop m (take n l) ≡ take (n - m) (drop m l)
+  drop-take zero n l = rw sub-zero
+  drop-take (suc m) zero l = rw zero-sub
+  drop-take (suc m) (suc n) [] = sym (take-nil (suc n - suc m))
+  drop-take (suc m) (suc n) (x ∷ xs) = rw suc-sub-suc (drop-take m n xs)
+
+  -- a part by its two ends
+  pub part-slice : (s c : ℕ) (l : List A) → part s c l ≡ slice s (s + c) l
+  part-slice s c l = let e : s + c - s ≡ c = omega arith in sym (drop-take s (s + c) l ∙ ap (λ (k : ℕ). take k (drop s l)) e)
+
+  pub part-zero : (s : ℕ) (l : List A) → part s zero l ≡ []
+  part-zero s l = refl
+
+  pub part-all : (l : List A) → part zero (length l) l ≡ l
+  part-all l = take-length l
+
+  -- one more element in front, and at the end
+  pub part-cons : (s c : ℕ) (l : List A) (d : A) → s < length l → part s (suc c) l ≡ getD l s d ∷ part (suc s) c l
+  part-cons s c l d h = ap (λ (r : List A). take (suc c) r) (drop-cons l s d h)
+
+  pub part-snoc : (s c : ℕ) (l : List A) (d : A) → s + c < length l → part s (suc c) l ≡ part s c l ++ (getD l (s + c) d ∷ [])
+  part-snoc s c l d h =
+      take-suc (drop s l) c d (rw length-drop (omega arith)) ∙ ap (λ (x : A). part s c l ++ (x ∷ [])) (getD-drop s l c d)
+
+  -- a part of a part
+  pub part-part : (a m s c : ℕ) (l : List A) → s + c ≤ m → part s c (part a m l) ≡ part (a + s) c l
+  part-part a m s c l h =
+      ap (λ (r : List A). take c r) (drop-take s m (drop a l))
+      ∙ take-take c (m - s) (drop s (drop a l)) (omega arith)
+      ∙ ap (λ (r : List A). take c r) (drop-drop s a l)
+
+  -- two parts side by side
+  pub part-append-parts : (a m n : ℕ) (l : List A) → part a m l ++ part (a + m) n l ≡ part a (m + n) l
+  part-append-parts a m n l = sym (take-add m n (drop a l) ∙ ap (λ (r : List A). part a m l ++ take n r) (drop-drop m a l))
+
+  -- a list, cut around a part
+  pub split-part : (s c : ℕ) (l : List A) → take s l ++ part s c l ++ drop (s + c) l ≡ l
+  split-part s c l =
+      append-assoc (take s l) (part s c l) (drop (s + c) l)
+      ∙ ap (λ (r : List A). take s l ++ (part s c l ++ r)) (sym (drop-drop c s l))
+      ∙ ap (λ (r : List A). take s l ++ r) (take-append-drop c (drop s l))
+      ∙ take-append-drop s l
+
+  -- left of the seam, right of it, and a list in the middle
+  pub part-append-left : (s c : ℕ) (xs ys : List A) → s + c ≤ length xs → part s c (xs ++ ys) ≡ part s c xs
+  part-append-left s c xs ys h =
+      ap (λ (r : List A). take c r) (drop-append-le s xs ys (omega arith))
+      ∙ take-append-le c (drop s xs) ys (rw length-drop (omega arith))
+
+  pub part-append-right : (s c : ℕ) (xs ys : List A) → part (length xs + s) c (xs ++ ys) ≡ part s c ys
+  part-append-right s c xs ys = ap (λ (r : List A). take c r) (drop-append-add xs ys s)
+
+  pub part-middle : (xs ys zs : List A) → part (length xs) (length ys) (xs ++ ys ++ zs) ≡ ys
+  part-middle xs ys zs =
+      ap (λ (r : List A). part (length xs) (length ys) r) (append-assoc xs ys zs)
+      ∙ ap (λ (r : List A). take (length ys) r) (drop-at xs (ys ++ zs) (length xs) refl)
+      ∙ take-append-seam ys zs
+
+  -- two lists that agree at each place of a part have the same part
+  pub ext-part : (d : A) (s c : ℕ) (l m : List A) → s + c ≤ length l → s + c ≤ length m
+      → ((i : ℕ) → i < c → getD l (s + i) d ≡ getD m (s + i) d) → part s c l ≡ part s c m
+  ext-part d s c l m hl hm h =
+      let n : length (part s c l) ≡ c = length-part s c l hl in
+      ext-getD d (part s c l) (part s c m) (n ∙ sym (length-part s c m hm))
+      (λ i b. let b′ : i < c = omega arith in getD-part s c l i d b′ ∙ h i b′ ∙ sym (getD-part s c m i d b′))
+
+  -- a store before a part, after it, and in it
+  pub part-set-before : (s c : ℕ) (l : List A) (i : ℕ) (x : A) → i < s → part s c (set l i x) ≡ part s c l
+  part-set-before s c l i x h = ap (λ (r : List A). take c r) (drop-set-lt s l i x h)
+
+  pub part-set-after : (s c : ℕ) (l : List A) (i : ℕ) (x : A) → s + c ≤ i → part s c (set l i x) ≡ part s c l
+  part-set-after s c l i x h =
+      part-slice s c (set l i x) ∙ ap (λ (r : List A). drop s r) (take-set-le (s + c) l i x h) ∙ sym (part-slice s c l)
+
+  pub part-set-in : (s c : ℕ) (l : List A) (i : ℕ) (x : A) → i < c → part s c (set l (s + i) x) ≡ set (part s c l) i x
+  part-set-in s c l i x h = ap (λ (r : List A). take c r) (drop-set-add s l i x) ∙ take-set-lt c (drop s l) i x h
+
+  -- ---- a run of stores
+
+  pub sets-nil : (l : List A) (i : ℕ) → sets l i [] ≡ l
+  sets-nil l i = refl
+
+  pub sets-one : (l : List A) (i : ℕ) (x : A) → set l i x ≡ sets l i (x ∷ [])
+  sets-one l i x = refl
+
+  pub sets-cons : (x : A) (l : List A) (i : ℕ) (vs : List A) → sets (x ∷ l) (suc i) vs ≡ x ∷ sets l i vs
+  sets-cons x l i [] = refl
+  sets-cons x l i (v ∷ vs) = sets-cons x (set l i v) (suc i) vs
+
+  pub sets-append : (l : List A) (i : ℕ) (xs ys : List A) → sets l i (xs ++ ys) ≡ sets (sets l i xs) (i + length xs) ys
+  sets-append l i [] ys = rw add-zero
+  sets-append l i (x ∷ xs) ys =
+      sets-append (set l i x) (suc i) xs ys ∙ ap (λ (k : ℕ). sets (sets (set l i x) (suc i) xs) k ys) (sym (next i (length xs)))
+
+  -- one more element at the end: a turn of a loop that writes
+  pub sets-snoc : (l : List A) (i : ℕ) (xs : List A) (y : A) → sets l i (xs ++ (y ∷ [])) ≡ set (sets l i xs) (i + length xs) y
+  sets-snoc l i xs y = sets-append l i xs (y ∷ [])
+
+  -- the elements before the run, after it, and in it
+  pub getD-sets-before : (l : List A) (i : ℕ) (vs : List A) (k : ℕ) (d : A) → k < i → getD (sets l i vs) k d ≡ getD l k d
+  getD-sets-before l i [] k d h = refl
+  getD-sets-before l i (v ∷ vs) k d h =
+      getD-sets-before (set l i v) (suc i) vs k d (omega arith) ∙ getD-set-other l i k v d (λ e. omega arith)
+
+  pub getD-sets-after : (l : List A) (i : ℕ) (vs : List A) (k : ℕ) (d : A) → i + length vs ≤ k → getD (sets l i vs) k d ≡ getD l k d
+  getD-sets-after l i [] k d h = refl
+  getD-sets-after l i (v ∷ vs) k d h =
+      getD-sets-after (set l i v) (suc i) vs k d (omega arith) ∙ getD-set-other l i k v d (λ e. omega arith)
+
+  pub getD-sets-in : (l : List A) (i : ℕ) (vs : List A) (k : ℕ) (d : A) → k < length vs → i + length vs ≤ length l
+      → getD (sets l i vs) (i + k) d ≡ getD vs k d
+  getD-sets-in l i [] k d h g = absurd (not-suc-le-zero h)
+  getD-sets-in l i (v ∷ vs) zero d h g =
+      ap (λ (n : ℕ). getD (sets (set l i v) (suc i) vs) n d) (add-zero i)
+      ∙ getD-sets-before (set l i v) (suc i) vs i d (omega arith)
+      ∙ getD-set-same l i v d (omega arith)
+  getD-sets-in l i (v ∷ vs) (suc k) d h g =
+      ap (λ (n : ℕ). getD (sets (set l i v) (suc i) vs) n d) (next i k)
+      ∙ getD-sets-in (set l i v) (suc i) vs k d (le-of-suc-le-suc h) (rw length-set (omega arith))
+
+  -- the front and the rest, outside of the run and around it
+  pub take-sets : (n : ℕ) (l : List A) (i : ℕ) (vs : List A) → n ≤ i → take n (sets l i vs) ≡ take n l
+  take-sets n l i [] h = refl
+  take-sets n l i (v ∷ vs) h = take-sets n (set l i v) (suc i) vs (omega arith) ∙ take-set-le n l i v h
+
+  pub drop-sets : (n : ℕ) (l : List A) (i : ℕ) (vs : List A) → i + length vs ≤ n → drop n (sets l i vs) ≡ drop n l
+  drop-sets n l i [] h = refl
+  drop-sets n l i (v ∷ vs) h = drop-sets n (set l i v) (suc i) vs (omega arith) ∙ drop-set-lt n l i v (omega arith)
+
+  pub take-sets-in : (n : ℕ) (l : List A) (i : ℕ) (vs : List A) → i + length vs ≤ n → take n (sets l i vs) ≡ sets (take n l) i vs
+  take-sets-in n l i [] h = refl
+  take-sets-in n l i (v ∷ vs) h =
+      take-sets-in n (set l i v) (suc i) vs (omega arith) ∙ ap (λ (r : List A). sets r (suc i) vs) (take-set-lt n l i v (omega arith))
+
+  pub drop-sets-add : (n : ℕ) (l : List A) (i : ℕ) (vs : List A) → drop n (sets l (n + i) vs) ≡ sets (drop n l) i vs
+  drop-sets-add n l i [] = refl
+  drop-sets-add n l i (v ∷ vs) =
+      ap (λ (k : ℕ). drop n (sets (set l (n + i) v) k vs)) (sym (add-suc n i))
+      ∙ drop-sets-add n (set l (n + i) v) (suc i) vs
+      ∙ ap (λ (r : List A). sets r (suc i) vs) (drop-set-add n l i v)
+
+  -- the part that was written, a part before it, one after it, and one around it
+  pub part-sets-same : (l : List A) (i : ℕ) (vs : List A) → i + length vs ≤ length l → part i (length vs) (sets l i vs) ≡ vs
+  part-sets-same l i vs h =
+      let n : length (take i l) ≡ i = length-take-le i l (omega arith) in
+      ap (λ (r : List A). part i (length vs) r) (sets-eq vs l i h)
+      ∙ ap (λ (k : ℕ). part k (length vs) (take i l ++ vs ++ drop (i + length vs) l)) (sym n)
+      ∙ part-middle (take i l) vs (drop (i + length vs) l)
+
+  pub part-sets-before : (s c : ℕ) (l : List A) (i : ℕ) (vs : List A) → s + c ≤ i → part s c (sets l i vs) ≡ part s c l
+  part-sets-before s c l i vs h =
+      part-slice s c (sets l i vs) ∙ ap (λ (r : List A). drop s r) (take-sets (s + c) l i vs h) ∙ sym (part-slice s c l)
+
+  pub part-sets-after : (s c : ℕ) (l : List A) (i : ℕ) (vs : List A) → i + length vs ≤ s → part s c (sets l i vs) ≡ part s c l
+  part-sets-after s c l i vs h = ap (λ (r : List A). take c r) (drop-sets s l i vs h)
+
+  pub part-sets-in : (s c : ℕ) (l : List A) (i : ℕ) (vs : List A) → i + length vs ≤ c → part s c (sets l (s + i) vs) ≡ sets (part s c l) i vs
+  part-sets-in s c l i vs h = ap (λ (r : List A). take c r) (drop-sets-add s l i vs) ∙ take-sets-in c (drop s l) i vs h
+
+  -- ---- a store and a run, two runs
+
+  pub set-sets-before : (l : List A) (i : ℕ) (x : A) (j : ℕ) (vs : List A) → i < j → set (sets l j vs) i x ≡ sets (set l i x) j vs
+  set-sets-before l i x j [] h = refl
+  set-sets-before l i x j (v ∷ vs) h =
+      set-sets-before (set l j v) i x (suc j) vs (omega arith)
+      ∙ ap (λ (r : List A). sets r (suc j) vs) (set-comm l j i v x (λ e. omega arith))
+
+  pub set-sets-after : (l : List A) (i : ℕ) (x : A) (j : ℕ) (vs : List A) → j + length vs ≤ i → set (sets l j vs) i x ≡ sets (set l i x) j vs
+  set-sets-after l i x j [] h = refl
+  set-sets-after l i x j (v ∷ vs) h =
+      set-sets-after (set l j v) i x (suc j) vs (omega arith)
+      ∙ ap (λ (r : List A). sets r (suc j) vs) (set-comm l j i v x (λ e. omega arith))
+
+  pub set-sets-comm : (l : List A) (i : ℕ) (x : A) (j : ℕ) (vs : List A) → (i < j) ⊎ (j + length vs ≤ i)
+      → set (sets l j vs) i x ≡ sets (set l i x) j vs
+  set-sets-comm l i x j vs (inl h) = set-sets-before l i x j vs h
+  set-sets-comm l i x j vs (inr h) = set-sets-after l i x j vs h
+
+  -- runs that do not meet, the first before the second
+  pub sets-comm : (l : List A) (i : ℕ) (xs : List A) (j : ℕ) (ys : List A) → i + length xs ≤ j
+      → sets (sets l i xs) j ys ≡ sets (sets l j ys) i xs
+  sets-comm l i [] j ys h = refl
+  sets-comm l i (x ∷ xs) j ys h =
+      sets-comm (set l i x) (suc i) xs j ys (omega arith)
+      ∙ ap (λ (r : List A). sets r (suc i) xs) (sym (set-sets-before l i x j ys (omega arith)))
+
+  -- a run over another from the same place, no shorter: the later wins
+  pub sets-sets-le : (l : List A) (i : ℕ) (vs ws : List A) → length vs ≤ length ws → sets (sets l i vs) i ws ≡ sets l i ws
+  sets-sets-le l i [] ws h = refl
+  sets-sets-le l i (v ∷ vs) [] h = absurd (not-suc-le-zero h)
+  sets-sets-le l i (v ∷ vs) (w ∷ ws) h =
+      ap (λ (r : List A). sets r (suc i) ws)
+      (set-sets-before (set l i v) i w (suc i) vs (omega arith) ∙ ap (λ (r : List A). sets r (suc i) vs) (set-set l i v w))
+      ∙ sets-sets-le (set l i w) (suc i) vs ws (le-of-suc-le-suc h)
+
+  pub sets-sets-same : (l : List A) (i : ℕ) (vs ws : List A) → length vs ≡ length ws → sets (sets l i vs) i ws ≡ sets l i ws
+  sets-sets-same l i vs ws e = sets-sets-le l i vs ws (le-of-eq e)
+
+  -- ---- a part that is written back
+
+  -- writing what stands there changes nothing
+  pub sets-self : (l : List A) (i n : ℕ) → sets l i (part i n l) ≡ l
+  sets-self [] i n = rw (drop-nil, take-nil)
+  sets-self (x ∷ xs) zero zero = refl
+  sets-self (x ∷ xs) zero (suc n) = sets-cons x xs zero (take n xs) ∙ ap (λ (r : List A). x ∷ r) (sets-self xs zero n)
+  sets-self (x ∷ xs) (suc i) n = sets-cons x xs i (part i n xs) ∙ ap (λ (r : List A). x ∷ r) (sets-self xs i n)
+
+  -- the part of a list m, written into one that is as m outside of the part, gives m
+  pub sets-part : (l m : List A) (a n : ℕ) → a + n ≤ length l → a + n ≤ length m → take a l ≡ take a m → drop (a + n) l ≡ drop (a + n) m
+      → sets l a (part a n m) ≡ m
+  sets-part l m a n hl hm front rest =
+      let c : length (part a n m) ≡ n = length-part a n m hm in
+      sets-eq (part a n m) l a (rw c hl)
+      ∙ ap (λ (k : ℕ). take a l ++ part a n m ++ drop (a + k) l) c
+      ∙ ap (λ (r : List A). r ++ part a n m ++ drop (a + n) l) front
+      ∙ ap (λ (r : List A). take a m ++ part a n m ++ r) rest
+      ∙ split-part a n m
+
+  -- a run written into a part that is then written back
+  pub sets-in-part : (l : List A) (a n i : ℕ) (ys : List A) → a + n ≤ length l → i + length ys ≤ n
+      → sets l a (sets (part a n l) i ys) ≡ sets l (a + i) ys
+  sets-in-part l a n i ys h g =
+      ap (λ (r : List A). sets l a r) (sym (part-sets-in a n l i ys g))
+      ∙ sets-part l (sets l (a + i) ys) a n h (rw length-sets h) (sym (take-sets a l (a + i) ys (omega arith)))
+      (sym (drop-sets (a + n) l (a + i) ys (omega arith)))
+
+  -- a single store in the part
+  pub sets-part-set : (l : List A) (a n i : ℕ) (x : A) → a + n ≤ length l → i < n → sets l a (set (part a n l) i x) ≡ set l (a + i) x
+  sets-part-set l a n i x h g = sets-in-part l a n i (x ∷ []) h (let k : i + 1 ≤ n = omega arith in k)
+
+  -- the part's front was overwritten
+  pub sets-of-sets-part : (l : List A) (a n : ℕ) (ys : List A) → a + n ≤ length l → length ys ≤ n
+      → sets l a (sets (part a n l) zero ys) ≡ sets l a ys
+  sets-of-sets-part l a n ys h g =
+      sets-in-part l a n zero ys h (let k : zero + length ys ≤ n = omega arith in k) ∙ ap (λ (k : ℕ). sets l k ys) (add-zero a)
+
+  -- ---- a lent part that came back, as the borrow checker writes it
+
+  -- `&mut l[a..e]`
+  pub lent-part : (l : List A) (a e : ℕ) (ys : List A) → a ≤ e → e ≤ length l → length ys ≡ e - a
+      → take a l ++ (ys ++ drop (e - a) (drop a l)) ≡ sets l a ys
+  lent-part l a e ys h g n =
+      sym (sets-eq ys l a (omega arith)
+      ∙ append-assoc (take a l) ys (drop (a + length ys) l)
+      ∙ ap (λ (r : List A). take a l ++ (ys ++ r)) (sym (drop-drop (length ys) a l) ∙ ap (λ (k : ℕ). drop k (drop a l)) n))
+
+  -- `&mut l[a..]`
+  pub lent-rest : (l : List A) (a : ℕ) (ys : List A) → a ≤ length l → length ys ≡ length l - a
+      → take a l ++ (ys ++ drop (length l - a) (drop a l)) ≡ sets l a ys
+  lent-rest l a ys h n = lent-part l a (length l) ys h (let k : length l ≤ length l = omega arith in k) n
+
+  -- `&mut l[..e]`
+  pub lent-front : (l : List A) (e : ℕ) (ys : List A) → e ≤ length l → length ys ≡ e → ys ++ drop e l ≡ sets l zero ys
+  lent-front l e ys g n =
+      sym (sets-eq ys l zero (omega arith) ∙ ap (λ (k : ℕ). ys ++ drop k l) (zero-add (length ys) ∙ n))

@@ -1,0 +1,1 @@
+// Laws on lists that several crates share: specs/ alone, no code.

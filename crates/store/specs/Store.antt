@@ -1,0 +1,75 @@
+-- The sizes and the parts of a store, in the words and the order of document 01, 'The store'. Starts count from the front of their list.
+use Prim.Native.Nat.{ℕ, _+_, _*_, _≤_, max}
+use mathlib.Core.List.{List}
+use lib.Ieee.{Float}
+use Rattle.lists.specs.Lists.{part}
+use Rattle.store.specs.declared.Shape.{Shape}
+
+-- The three lists that hold an index. The work list holds nothing between calls and is not among them.
+pub record Store : Type 0 where
+  pub floats : List Float
+  pub numbers : List ℕ
+  pub hashes : List ℕ
+
+-- 'dimension D 1 to 128; branching_factor B 1 to 64', 'V vectors 1 to 4,096, E label entries 0 to 16,384, M nodes 1 to 65,537'
+pub record Limits (s : Shape) : Type 0 where
+  pub dimension-low : 1 ≤ s .dimension
+  pub dimension-high : s .dimension ≤ 128
+  pub branching-low : 1 ≤ s .branching
+  pub branching-high : s .branching ≤ 64
+  pub vectors-low : 1 ≤ s .vectors
+  pub vectors-high : s .vectors ≤ 4096
+  pub entries-high : s .entries ≤ 16384
+  pub nodes-low : 1 ≤ s .nodes
+  pub nodes-high : s .nodes ≤ 65537
+
+-- 'Floats (f32): D times (V + M + B): vectors, centroids, cluster centres.'
+abbrev pub centroidsAt : Shape → ℕ
+centroidsAt s = s .dimension * s .vectors
+
+abbrev pub centresAt : Shape → ℕ
+centresAt s = s .dimension * (s .vectors + s .nodes)
+
+abbrev pub floatsSize : Shape → ℕ
+floatsSize s = s .dimension * (s .vectors + s .nodes + s .branching)
+
+-- 'Numbers (u32): 2V + 2E + 7M: document ids, entry owners, leaf order of vectors, six per node (start and count of children, vectors, entries),
+-- child links, leaf order of entries.'
+abbrev pub ownersAt : Shape → ℕ
+ownersAt s = s .vectors
+
+abbrev pub orderAt : Shape → ℕ
+orderAt s = s .vectors + s .entries
+
+abbrev pub nodesAt : Shape → ℕ
+nodesAt s = 2 * s .vectors + s .entries
+
+abbrev pub linksAt : Shape → ℕ
+linksAt s = 2 * s .vectors + s .entries + 6 * s .nodes
+
+abbrev pub entryOrderAt : Shape → ℕ
+entryOrderAt s = 2 * s .vectors + s .entries + 7 * s .nodes
+
+abbrev pub numbersSize : Shape → ℕ
+numbersSize s = 2 * s .vectors + 2 * s .entries + 7 * s .nodes
+
+-- 'Hashes (u64): E + 4M: entry hashes, filters.'
+abbrev pub filtersAt : Shape → ℕ
+filtersAt s = s .entries
+
+abbrev pub hashesSize : Shape → ℕ
+hashesSize s = s .entries + 4 * s .nodes
+
+-- 'Work (u32): 3M + 3 times the larger of V and E.' A search uses it as waiting nodes, marks of pushed nodes, hits.
+abbrev pub marksAt : Shape → ℕ
+marksAt s = 2 * s .nodes
+
+abbrev pub hitsAt : Shape → ℕ
+hitsAt s = 3 * s .nodes
+
+abbrev pub workSize : Shape → ℕ
+workSize s = 3 * s .nodes + 3 * max (s .vectors) (s .entries)
+
+-- 'a vector or centroid is the part of the float list that starts at its number times D'
+abbrev pub vectorAt : ℕ → List Float → ℕ → List Float
+vectorAt dimension floats i = part (i * dimension) dimension floats
