@@ -1,0 +1,3 @@
+-- Lemmas of the proofs in `distance`.
+pub mod RootLift
+pub mod Steps
