@@ -8,6 +8,7 @@ ghost use lib.Ieee.{binary32, sub};
 ghost use Rattle.distance.specs.Vector.{dot};
 ghost use Rattle.distance.specs.Distance.{one32, distance};
 
+pub mod bits;
 pub mod nan;
 pub mod root;
 pub mod total;

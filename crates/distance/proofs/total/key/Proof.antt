@@ -1,49 +1,36 @@
--- `total::key` meets its contract: `keyOf` by cases of whether x is NaN, and of its sign bit.
-use Prim.Native.Nat.{_+_, _-_, _^_, _≤_, _<_}
+-- `keyOf` by cases of the sign bit of the pattern.
+use Prim.Native.Nat.{ℕ, _+_, _-_, _^_, _≤_, _<_}
 use mathlib.Core.Path.{_≡_, sym, subst}
-use mathlib.Core.Bool.{true}
 use native.Mathlib.Omega.{arith}
 use borrow.Author.Needs.{needs}
 use borrow.Author.Tests.{le-leb, lt-leb}
-use lib.Dec.{T}
-use lib.Ieee.{Float, binary32, ne, toBits}
-use lib.Ieee.Bits.{toBits-lt}
-use lib.Ieee.Compare.{differs-from-itself}
+use lib.Ieee.{Float, binary32, toBits}
 use Rattle.distance.specs.TotalOrder.{keyOf}
-use Rattle.distance.specs.RootValues.{equal-no-nan}
 use Rattle.distance.proofs.total.key.Statement.{statement}
 use Rattle.distance.proofs.total.key.Tie as tie
 
-key-nan : (x : Float) → ne x x ≡ true → 0xFFC00000 ≡ keyOf x
+negative : (x : Float) (b : ℕ) → b ≡ toBits binary32 x → 2 ^ 31 ≤ b → 0xFFFFFFFF - b ≡ keyOf x
 unfolding keyOf
-key-nan x t = rw (differs-from-itself x (subst T (sym t) tt))
+negative x b e h = rw (← e, le-leb (2 ^ 31) b h) (omega arith)
 
-key-negative : (x : Float) → 2 ^ 31 ≤ toBits binary32 x → 0xFFFFFFFF - toBits binary32 x ≡ keyOf x
+positive : (x : Float) (b : ℕ) → b ≡ toBits binary32 x → b < 2 ^ 31 → b + 2 ^ 31 ≡ keyOf x
 unfolding keyOf
-key-negative x h = rw (le-leb (2 ^ 31) (toBits binary32 x) h) (omega arith)
+positive x b e h = rw (← e, lt-leb (2 ^ 31) b h)
 
-key-positive : (x : Float) → toBits binary32 x < 2 ^ 31 → toBits binary32 x + 2 ^ 31 ≡ keyOf x
-unfolding keyOf
-key-positive x h = rw (lt-leb (2 ^ 31) (toBits binary32 x) h)
-
-returns : tie.Need-returns
-returns c = key-nan _ (c .if1 .taken)
-
-float-to-bits-bits : tie.Need-float-to-bits-bits
-float-to-bits-bits c = equal-no-nan _ (c .if1 .left)
+to-bits-requires : tie.Need-to-bits-requires
+to-bits-requires c κs = search needs
 
 sub-result : tie.Need-sub-result
-sub-result c = omega (arith, toBits-lt binary32 (c .before .before .args .x) (subst T (sym (c .before .before .good .0 .1)) tt))
+sub-result c = search needs
 
-returns-2 : tie.Need-returns-2
-returns-2 c = key-negative _ (c .if2 .taken)
+returns : tie.Need-returns
+returns c = negative _ _ (c .before .to-bits .ensures) (omega arith)
 
 add-result : tie.Need-add-result
 add-result c = search needs
 
-returns-3 : tie.Need-returns-3
-returns-3 c = key-positive _ (c .if2 .left)
+returns-2 : tie.Need-returns-2
+returns-2 c = positive _ _ (c .before .to-bits .ensures) (omega arith)
 
 pub key-spec : {M : Type 1} → statement M
-key-spec =
-    tie.close (tie.spec returns float-to-bits-bits sub-result returns-2 add-result returns-3)
+key-spec = tie.close (tie.spec to-bits-requires sub-result returns add-result returns-2)
