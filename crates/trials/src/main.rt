@@ -1,0 +1,173 @@
+// Prints what the leaves give for the records on standard input, a line each. A record has 40 bytes: what is asked, a count, two bytes unused, and nine
+// numbers of four bytes, low byte first. The records and the lines that they must give are made by tools/trials.c.
+use distance::bits::from_bits;
+use distance::bits::to_bits;
+use libc::STDIN_FILENO;
+use libc::STDOUT_FILENO;
+ghost use Prim.Native.Nat.{_+_, _*_, _≤_, _<_};
+ghost use mathlib.Core.Path.{_≡_};
+ghost use lib.ListN.{length};
+
+fn wide(b: u8) -> u32
+    ensures { λ r. ⌜ r < 256 ⌝ }
+{
+    b as u32
+}
+
+// Number i of a record.
+fn number(r: &[u8], i: usize) -> u32
+    requires { ⌜ length (now r) ≡ 40 ⌝ }
+    requires { ⌜ i < 9 ⌝ }
+{
+    let at = 4 * i + 4;
+    wide(r[at]) + 256 * wide(r[at + 1]) + 65536 * wide(r[at + 2]) + 16777216 * wide(r[at + 3])
+}
+
+// The count of a record, at most `most`.
+fn count(r: &[u8], most: usize) -> usize
+    requires { ⌜ length (now r) ≡ 40 ⌝ }
+    ensures { λ n. ⌜ n ≤ most ⌝ }
+{
+    let n = wide(r[1]) as usize;
+    if n < most {
+        return n;
+    }
+    most
+}
+
+// Four floats from number i on.
+fn four(r: &[u8], i: usize) -> [f32; 4]
+    requires { ⌜ length (now r) ≡ 40 ⌝ }
+    requires { ⌜ i < 6 ⌝ }
+{
+    [
+        from_bits(number(r, i)),
+        from_bits(number(r, i + 1)),
+        from_bits(number(r, i + 2)),
+        from_bits(number(r, i + 3)),
+    ]
+}
+
+fn line_end() {
+    io::write_all(STDOUT_FILENO, b"\n");
+}
+
+fn print_number(n: u32) {
+    io::print_hex(STDOUT_FILENO, n as u64, 8);
+    line_end();
+}
+
+fn print_float(x: f32) {
+    print_number(to_bits(x));
+}
+
+// 1: the square root.
+fn root(r: &[u8])
+    requires { ⌜ length (now r) ≡ 40 ⌝ }
+{
+    print_float(distance::root::sqrt(from_bits(number(r, 0))));
+}
+
+// 2: the norm of a vector of `count` components.
+fn norm(r: &[u8])
+    requires { ⌜ length (now r) ≡ 40 ⌝ }
+{
+    let v = four(r, 0);
+    let start = 0;
+    let n = count(r, 4);
+    print_float(distance::vector::norm(&v[start..n]));
+}
+
+// 3: what is stored of a vector of four components.
+fn stored(r: &[u8])
+    requires { ⌜ length (now r) ≡ 40 ⌝ }
+{
+    let v = four(r, 0);
+    let mut out = [0.0f32; 4];
+    distance::vector::normalize(&v, distance::vector::dot(&v, &v), &mut out);
+    print_float(out[0]);
+    print_float(out[1]);
+    print_float(out[2]);
+    print_float(out[3]);
+}
+
+// 4: the distance of two vectors of `count` components.
+fn between(r: &[u8])
+    requires { ⌜ length (now r) ≡ 40 ⌝ }
+{
+    let a = four(r, 0);
+    let b = four(r, 4);
+    let start = 0;
+    let n = count(r, 4);
+    print_float(distance::cosine_distance_normalized(&a[start..n], &b[start..n]));
+}
+
+// 5: the key of a value, and the value back from it.
+fn keys(r: &[u8])
+    requires { ⌜ length (now r) ≡ 40 ⌝ }
+{
+    let key = distance::total::key(from_bits(number(r, 0)));
+    print_number(key);
+    print_float(distance::total::from_key(key));
+}
+
+// 6: the hash of the first bytes, as many as the second byte says.
+fn hash(r: &[u8])
+    requires { ⌜ length (now r) ≡ 40 ⌝ }
+{
+    let end = 4 + count(r, 36);
+    io::print_hex(STDOUT_FILENO, label::hash_label(&r[4..end]), 16);
+    line_end();
+}
+
+// 7: the words of an empty filter with a hash inserted, and whether it denies another.
+fn filter(r: &[u8])
+    requires { ⌜ length (now r) ≡ 40 ⌝ }
+{
+    let hash = number(r, 0) as u64 + 4294967296 * number(r, 1) as u64;
+    let other = number(r, 2) as u64 + 4294967296 * number(r, 3) as u64;
+    let mut words = [0u64; 4];
+    label::bloom::insert(&mut words, hash);
+    io::print_hex(STDOUT_FILENO, words[0], 16);
+    io::print_hex(STDOUT_FILENO, words[1], 16);
+    io::print_hex(STDOUT_FILENO, words[2], 16);
+    io::print_hex(STDOUT_FILENO, words[3], 16);
+    if label::bloom::may_contain(&words, other) {
+        io::write_all(STDOUT_FILENO, b" kept");
+    } else {
+        io::write_all(STDOUT_FILENO, b" denied");
+    }
+    line_end();
+}
+
+fn answer(r: &[u8])
+    requires { ⌜ length (now r) ≡ 40 ⌝ }
+{
+    let asked = r[0];
+    match asked {
+        1 => root(r),
+        2 => norm(r),
+        3 => stored(r),
+        4 => between(r),
+        5 => keys(r),
+        6 => hash(r),
+        7 => filter(r),
+        _ => line_end(),
+    }
+}
+
+fn answer_all(records: &[u8]) {
+    let mut left = records.len() / 40;
+    while 0 < left {
+        left -= 1;
+        let end = records.len() - 40 * left;
+        let start = end - 40;
+        answer(&records[start..end]);
+    }
+}
+
+fn main() {
+    let mut space = io::large_buffer();
+    let n = io::read_full(STDIN_FILENO, &mut space);
+    answer_all(&space[..n]);
+}
