@@ -1,0 +1,26 @@
+-- Trial echoes of document 01 over the definitions: the tree of the worked example has five nodes; one vector at leaf size 0 has 17.
+use mathlib.Core.List.{List, [], _∷_, map}
+use mathlib.Core.Path.{_≡_, refl}
+use Prim.Native.Nat.{ℕ}
+use lib.Ieee.{Float, binary32, ofBits}
+use lib.ListN.{length}
+use Rattle.cluster.specs.Trials.{sample}
+use Rattle.tree.specs.Tree.{Splitting, treeOf, size, sizes, leaf, inner, none, more}
+use Rattle.tree.specs.Nodes.{nodesOf, Node}
+use Rattle.tree.specs.Layout.{sixFrom}
+
+-- 'D 2, B 2, leaf size 1'
+abbrev pub two : Splitting
+two = record { dimension = 2; branching = 2; leaf-size = 1 }
+
+pub five-nodes : size (treeOf two sample) ≡ 5
+unfolding treeOf size sizes sample
+five-nodes = refl
+
+pub shape : treeOf two sample ≡ inner (0 ∷ 1 ∷ 2 ∷ []) (more (leaf (0 ∷ [])) (more (inner (1 ∷ 2 ∷ []) (more (leaf (1 ∷ [])) (more (leaf (2 ∷ [])) none))) none))
+unfolding treeOf sample
+shape = refl
+
+pub seventeen-nodes : size (treeOf (record { dimension = 2; branching = 2; leaf-size = 0 }) (map (map (ofBits binary32)) ((0x3F800000 ∷ 0 ∷ []) ∷ []))) ≡ 17
+unfolding treeOf size sizes ofBits
+seventeen-nodes = refl
