@@ -131,7 +131,7 @@ module _ (floats : List Float) (ids work : List ℕ) (d n at j : ℕ) (room : Ro
   handed-room work′ found e f = subst (λ (l : List ℕ). Room floats l d n at d) (sym (handed work′ found e f)) chosen-room
 
   pub chosen-mean : (floats′ : List Float) (work′ : List ℕ) (found : ℕ) → work′ ≡ sets work (length ids) chosen → found ≡ length chosen
-      → length ids < length ids + found
+      → 0 < found
       → floats′ ≡ sets floats at (meanOf d (vectorsIn d n floats) (take (length ids + found - length ids) (drop (length ids) work′)))
       → floats′ ≡ sets floats at (recentred d (vectorsIn d n floats) (part at d floats) chosen)
   chosen-mean floats′ work′ found e f h q =
@@ -139,7 +139,7 @@ module _ (floats : List Float) (ids work : List ℕ) (d n at j : ℕ) (room : Ro
       ∙ ap (λ (l : List ℕ). sets floats at (meanOf d (vectorsIn d n floats) l)) (handed work′ found e f)
       ∙ ap (λ (v : List Float). sets floats at v) (sym (recentred-some d (vectorsIn d n floats) (part at d floats) chosen (omega arith)))
 
-  pub chosen-none : (found : ℕ) → found ≡ length chosen → length ids + found ≤ length ids
+  pub chosen-none : (found : ℕ) → found ≡ length chosen → found ≤ 0
       → floats ≡ sets floats at (recentred d (vectorsIn d n floats) (part at d floats) chosen)
   chosen-none found f h =
       sym

@@ -53,8 +53,9 @@ fn recentre_cluster(
     ensures { λ _. ⌜ AlikeBut (length (now (ids .entry))) (length (now (ids .entry))) (now (work .entry)) (now (work .exit)) ⌝ }
 {
     let n = ids.len();
-    let end = n + crate::marks::gather(ids, work, j, n);
-    if n < end {
+    let found = crate::marks::gather(ids, work, j, n);
+    let end = n + found;
+    if 0 < found {
         crate::mean::mean_into(floats, &work[n..end], dimension, count, at);
     }
 }
