@@ -1,0 +1,58 @@
+-- `split::split_ids` meets its contract: the marks of the third round sort the ids into the clusters.
+use Prim.Native.Nat.{_*_, _≤_}
+use native.Mathlib.Omega.{arith}
+use lib.ListN.{length}
+use Rattle.build_tree.proofs.Dividing.{room-smaller, clustering-end}
+use borrow.Author.Needs.{needs}
+use Rattle.build_tree.proofs.split.split_ids.Statement.{statement}
+use Rattle.build_tree.proofs.split.split_ids.Tie as tie
+
+smaller-requires : tie.Need-smaller-requires
+smaller-requires c κs = search needs
+
+centres-at-requires : tie.Need-centres-at-requires
+centres-at-requires c κs = search needs
+
+simple-kmeans-requires : tie.Need-simple-kmeans-requires
+simple-kmeans-requires c κs =
+    let a = c .before .before .before .before .before .before .before .args in
+    let p = c .before .before .before .before .before .before .before .pre in
+    let k = c .before .before .before .smaller in
+    let e = k .ensures in
+    let b = p .0 .branching-low in
+    let room = room-smaller (a .shape .branching) {k = k .result} (p .1 .0) (omega arith) in
+    (rw (c .centres-at .ensures) room, (omega arith, (omega arith, p .1 .1 .1 .1 .1 .0)))
+
+sort-by-mark-requires : tie.Need-sort-by-mark-requires
+sort-by-mark-requires c κs =
+    let p = c .before .before .before .before .before .before .before .before .before .before .before .before .before .pre in
+    let e = c .before .before .before .before .before .before .before .before .before .smaller .ensures in
+    let b = p .0 .branching-high in
+    let w = c .before .before .before .before .before .simple-kmeans .kept .1 .1 .0 in
+    (omega (arith, w, p .1 .1 .1 .1 .1 .0), (p .1 .1 .1 .1 .0, (λ i h. let k = p .1 .0 .below i h in omega (arith, k, p .1 .1 .0), (omega arith, p .1 .1 .1 .1 .1 .1))))
+
+same-length : tie.Need-same-length
+same-length c = search needs
+
+same-length-2 : tie.Need-same-length-2
+same-length-2 c = search needs
+
+returns : tie.Need-returns
+returns c =
+    let a = c .before .before .before .before .before .before .before .before .before .before .before .before .before .before .before .before .args in
+    let p = c .before .before .before .before .before .before .before .before .before .before .before .before .before .before .before .before .pre in
+    let w = c .before .before .before .before .before .before .before .before .simple-kmeans .kept .1 .1 .0 in
+    let room : 2 * length (a .ids .now) ≤ length (c .before .before .before .before .before .before .before .before .simple-kmeans .last .1 .1 .0) = omega (arith, w, p .1 .1 .1 .1 .1 .0) in
+    clustering-end (p .0) (c .before .before .before .before .before .before .before .before .before .centres-at .ensures) (c .before .before .before .before .before .before .before .before .before .before .before .before .smaller .ensures) room (c .before .before .before .before .before .before .before .before .simple-kmeans .ensures) (c .before .before .sort-by-mark .ensures .0) (c .before .before .sort-by-mark .ensures .1)
+
+pub split-ids-spec : {M : Type 1} → statement M
+split-ids-spec =
+    tie.close
+    (tie.spec
+    smaller-requires
+    centres-at-requires
+    simple-kmeans-requires
+    sort-by-mark-requires
+    same-length
+    same-length-2
+    returns)

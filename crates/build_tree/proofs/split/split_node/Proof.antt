@@ -1,0 +1,96 @@
+-- `split::split_node` meets its contract: the clusters are copied to the group's place, and their number is the count of the children.
+use native.Mathlib.Omega.{arith}
+use Rattle.build_tree.proofs.Dividing.{length-lentIds, split-room, split-work, split-few, divided}
+use borrow.Author.Needs.{needs}
+use Rattle.build_tree.proofs.split.split_node.Statement.{statement}
+use Rattle.build_tree.proofs.split.split_node.Tie as tie
+
+add-end : tie.Need-add-end
+add-end c = search needs
+
+mul-twice : tie.Need-mul-twice
+mul-twice c = search needs
+
+mul-split-ids : tie.Need-mul-split-ids
+mul-split-ids c = search needs
+
+sub-split-ids : tie.Need-sub-split-ids
+sub-split-ids c = search needs
+
+part-split-ids-start : tie.Need-part-split-ids-start
+part-split-ids-start c = search needs
+
+part-split-ids-end : tie.Need-part-split-ids-end
+part-split-ids-end c = search needs
+
+split-ids-requires : tie.Need-split-ids-requires
+split-ids-requires c κs =
+    let a = c .before .before .before .before .before .before .before .args in
+    let p = c .before .before .before .before .before .before .before .pre in
+    let k = length-lentIds (p .0) (p .1) in
+    let room = split-room (p .0) (p .1) in
+    let work = split-work (p .0) (p .1) in
+    let v = p .0 .limits .vectors-high in
+    let h = p .0 .held in
+    (p .0 .limits, (room, (omega (arith, v, h), (omega (arith, k, p .1 .filled), (omega (arith, k, v, h, p .1 .many), (work, p .1 .few))))))
+
+mul-write-ids : tie.Need-mul-write-ids
+mul-write-ids c = search needs
+
+sub-write-ids : tie.Need-sub-write-ids
+sub-write-ids c = search needs
+
+part-write-ids-start : tie.Need-part-write-ids-start
+part-write-ids-start c = search needs
+
+part-write-ids-end : tie.Need-part-write-ids-end
+part-write-ids-end c = search needs
+
+write-ids-requires : tie.Need-write-ids-requires
+write-ids-requires c κs = search needs
+
+write-six-requires : tie.Need-write-six-requires
+write-six-requires c κs =
+    let a = c .before .before .before .before .before .before .before .before .before .before .before .before .before .before .before .before .before .before .before .args in
+    let p = c .before .before .before .before .before .before .before .before .before .before .before .before .before .before .before .before .before .before .before .pre in
+    let d = c .before .before .before .before .before .before .before .before .before .before .before .split-ids in
+    let few = split-few (p .0) (p .1) (d .ensures) in
+    (omega (arith, p .1 .room, c .before .before .before .write-ids .kept .0), (few, (omega arith, omega arith)))
+
+same-length : tie.Need-same-length
+same-length c = search needs
+
+same-length-2 : tie.Need-same-length-2
+same-length-2 c = search needs
+
+same-length-3 : tie.Need-same-length-3
+same-length-3 c = search needs
+
+returns : tie.Need-returns
+returns c =
+    let a = c .before .before .before .before .before .before .before .before .before .before .before .before .before .before .before .before .before .before .before .before .before .before .args in
+    let p = c .before .before .before .before .before .before .before .before .before .before .before .before .before .before .before .before .before .before .before .before .before .before .pre in
+    let d = c .before .before .before .before .before .before .before .before .before .before .before .before .before .before .split-ids in
+    divided (p .0) (p .1) (d .ensures) (c .before .before .before .before .before .before .write-ids .ensures) (c .before .before .write-six .ensures)
+
+pub split-node-spec : {M : Type 1} → statement M
+split-node-spec =
+    tie.close
+    (tie.spec
+    add-end
+    mul-twice
+    mul-split-ids
+    sub-split-ids
+    part-split-ids-start
+    part-split-ids-end
+    split-ids-requires
+    mul-write-ids
+    sub-write-ids
+    part-write-ids-start
+    part-write-ids-end
+    write-ids-requires
+    write-six-requires
+    same-length
+    same-length-2
+    same-length-3
+    returns)

@@ -1,0 +1,2 @@
+-- Steps that the proofs of several functions take.
+pub mod Steps

@@ -1,0 +1,30 @@
+-- The three tests of the definition, over the sizes that the methods give.
+use Prim.Native.Nat.{ℕ}
+use mathlib.Core.Bool.{not, _&&_}
+use mathlib.Core.Path.{ap, ap₂}
+use lib.Dec.{leb}
+use Rattle.curator.specs.Rows.{storeShort}
+use borrow.Author.Needs.{needs}
+use Rattle.curator.proofs.add.store_short.Statement.{statement}
+use Rattle.curator.proofs.add.store_short.Tie as tie
+
+floats-size-requires : tie.Need-floats-size-requires
+floats-size-requires c κs = search needs
+
+numbers-size-requires : tie.Need-numbers-size-requires
+numbers-size-requires c κs = search needs
+
+hashes-size-requires : tie.Need-hashes-size-requires
+hashes-size-requires c κs = search needs
+
+returns : tie.Need-returns
+unfolding storeShort
+returns c =
+    ap not
+    (ap₂ _&&_ (ap (λ (n : ℕ). leb n (c .before .before .before .args .floats)) (c .before .before .floats-size .ensures))
+    (ap₂ _&&_ (ap (λ (n : ℕ). leb n (c .before .before .before .args .numbers)) (c .before .numbers-size .ensures))
+    (ap (λ (n : ℕ). leb n (c .before .before .before .args .hashes)) (c .hashes-size .ensures))))
+
+pub store-short-spec : {M : Type 1} → statement M
+store-short-spec =
+    tie.close (tie.spec floats-size-requires numbers-size-requires hashes-size-requires returns)

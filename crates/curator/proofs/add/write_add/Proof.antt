@@ -1,0 +1,103 @@
+-- Each list is written by one call; the facts of `Room` say that it fits. The owners stand after the document ids.
+use Prim.Native.Nat.{ℕ, _+_}
+use mathlib.Core.Path.{_≡_, sym, ap, _∙_, subst}
+use mathlib.Core.List.{List}
+use native.Mathlib.Omega.{arith}
+use borrow.Author.Needs.{needs}
+use lib.ListN.{length, set, replicate}
+use lib.Seq.{sets}
+use Rattle.store.specs.declared.Shape.{Shape}
+use Rattle.store.specs.Store.{Limits}
+use Rattle.curator.proofs.Steps.{place-fits, place-room}
+use Rattle.curator.proofs.add.write_add.Statement.{statement}
+use Rattle.curator.proofs.add.write_add.Tie as tie
+
+-- the function's entry, from the place where the owners' start is known
+abbrev entry : tie.After-owners-at → tie.Start
+entry c = c .before .before .before .before .before .before .before .before .before
+
+owners : (c : tie.After-owners-at) → c .owners-at .result ≡ entry c .args .index .capacities .vectors
+owners c = c .owners-at .ensures ∙ ap (λ (s : Shape). s .vectors) (c .before .shape-of .ensures)
+
+-- what `write_numbers` left, by an equal start of the owners
+started : {after : List ℕ} (numbers : List ℕ) (vector document held count : ℕ) {a b : ℕ}
+    → after ≡ sets (set numbers vector document) (a + held) (replicate count vector) → a ≡ b
+    → after ≡ sets (set numbers vector document) (b + held) (replicate count vector)
+started numbers vector document held count h e = h ∙ ap (λ (o : ℕ). sets (set numbers vector document) (o + held) (replicate count vector)) e
+
+shape-of-requires : tie.Need-shape-of-requires
+shape-of-requires c κs = search needs
+
+owners-at-requires : tie.Need-owners-at-requires
+owners-at-requires c κs =
+    let start = c .before .before .before .before .before .before .before .before in
+    subst (λ (s : Shape). Limits s) (sym (c .shape-of .ensures)) (start .pre .limits)
+
+add-owners : tie.Need-add-owners
+add-owners c = let start = owners (c .before) in omega arith
+
+mul-write-vector : tie.Need-mul-write-vector
+mul-write-vector c = place-fits _ _ (omega arith) (omega arith)
+
+write-vector-requires : tie.Need-write-vector-requires
+write-vector-requires c κs =
+    let start = entry (c .before .before .before .before) in
+    let index = start .args .index in
+    let fits =
+    place-room (index .counts .vectors) (index .dimension) (index .capacities .vectors) (index .capacities .nodes)
+    (index .params .«branching_factor»)
+    (start .pre .vectors) in
+    omega arith
+
+write-numbers-requires : tie.Need-write-numbers-requires
+write-numbers-requires c κs =
+    let known = c .before .before .before .before .before .before .before .before in
+    let start = owners known in
+    (omega (arith, entry known .pre), omega (arith, entry known .pre), omega (arith, entry known .pre))
+
+write-hashes-requires : tie.Need-write-hashes-requires
+write-hashes-requires c κs =
+    let known = c .before .before .before .before .before .before .before .before .before .before .before .before in
+    (omega (arith, entry known .pre), entry known .pre .labels)
+
+same-length : tie.Need-same-length
+same-length c = search needs
+
+same-length-2 : tie.Need-same-length-2
+same-length-2 c = search needs
+
+same-length-3 : tie.Need-same-length-3
+same-length-3 c = search needs
+
+returns : tie.Need-returns
+returns c =
+    let numbered = c .before .before .before .before .before .before in
+    let stored = numbered .before .before .before .before in
+    let known = stored .before .before .before .before .before in
+    let args = entry known .args in
+    record {
+      stored = stored .write-vector .ensures .stored;
+      normalized = stored .write-vector .ensures .normalized;
+      floats = stored .write-vector .ensures .floats;
+      numbers =
+          started (args .numbers .now) (args .index .counts .vectors) (args .doc-id) (args .index .counts .entries) (length (args .lengths .now))
+          (numbered .write-numbers .ensures)
+          (owners known);
+      hashes = c .before .before .write-hashes .ensures;
+    }
+
+pub write-add-spec : {M : Type 1} → statement M
+write-add-spec =
+    tie.close
+    (tie.spec
+    shape-of-requires
+    owners-at-requires
+    add-owners
+    mul-write-vector
+    write-vector-requires
+    write-numbers-requires
+    write-hashes-requires
+    same-length
+    same-length-2
+    same-length-3
+    returns)

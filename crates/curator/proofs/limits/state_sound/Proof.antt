@@ -1,0 +1,54 @@
+-- The tests of the definition, in its order; it ends the list with `true`.
+use mathlib.Core.Bool.{Bool, _&&_, and-true}
+use mathlib.Core.Path.{_≡_}
+use Rattle.curator.specs.declared.CuratorIndex.{CuratorIndex}
+use Rattle.curator.specs.Limits.{dimensionAllowed, paramsAllowed, capacitiesAllowed, countsAllowed, builtAllowed, stateSound}
+use borrow.Author.Needs.{needs}
+use Rattle.curator.proofs.limits.state_sound.Statement.{statement}
+use Rattle.curator.proofs.limits.state_sound.Tie as tie
+
+joined : (index : CuratorIndex) (d p c h b : Bool) → d ≡ dimensionAllowed (index .dimension) → p ≡ paramsAllowed (index .params)
+    → c ≡ capacitiesAllowed (index .capacities) → h ≡ countsAllowed (index .capacities) (index .counts)
+    → b ≡ builtAllowed (index .built) (index .counts) → d && (p && (c && (h && b))) ≡ stateSound index
+unfolding stateSound
+joined index d p c h b i j k l m = rw (i, j, k, l, m) (simp and-true)
+
+dimension-allowed-requires : tie.Need-dimension-allowed-requires
+dimension-allowed-requires c κs = search needs
+
+params-allowed-requires : tie.Need-params-allowed-requires
+params-allowed-requires c κs = search needs
+
+capacities-allowed-requires : tie.Need-capacities-allowed-requires
+capacities-allowed-requires c κs = search needs
+
+counts-allowed-requires : tie.Need-counts-allowed-requires
+counts-allowed-requires c κs = search needs
+
+built-allowed-requires : tie.Need-built-allowed-requires
+built-allowed-requires c κs = search needs
+
+returns : tie.Need-returns
+returns c = joined
+    (c .before .before .before .before .before .before .before .before .args .index)
+    _
+    _
+    _
+    _
+    _
+    (c .before .before .before .before .dimension-allowed .ensures)
+    (c .before .before .before .params-allowed .ensures)
+    (c .before .before .capacities-allowed .ensures)
+    (c .before .counts-allowed .ensures)
+    (c .built-allowed .ensures)
+
+pub state-sound-spec : {M : Type 1} → statement M
+state-sound-spec =
+    tie.close
+    (tie.spec
+    dimension-allowed-requires
+    params-allowed-requires
+    capacities-allowed-requires
+    counts-allowed-requires
+    built-allowed-requires
+    returns)

@@ -1,0 +1,128 @@
+-- Laws of an add: what an accepted call may rely on.
+use Prim.Native.Nat.{ℕ, _≤_}
+use mathlib.Core.Bool.{Bool, true, false}
+use mathlib.Core.Path.{_≡_, refl, sym, ap, _∙_, subst}
+use mathlib.Core.List.{[]}
+use native.Mathlib.Omega.{arith}
+use borrow.Author.Tests.{not-false, leb-true, ltb-false, eqb-true, eqb-false}
+use lib.Dec.{leb, eqb}
+use lib.ListN.{length}
+use Rattle.distance.specs.Vector.{allFinite}
+use Rattle.store.specs.declared.Shape.{Shape}
+use Rattle.store.specs.Store.{Store, floatsSize, numbersSize, hashesSize}
+use Rattle.walk.specs.declared.Counts.{Counts}
+use Rattle.curator.specs.declared.Changed.{Changed}
+use Rattle.curator.specs.declared.Changed.the-variants as Changed′
+use Rattle.curator.specs.declared.Check.{Check}
+use Rattle.curator.specs.declared.Check.the-variants.{Fine, Refused}
+use Rattle.curator.specs.declared.CuratorIndex.{CuratorIndex}
+use Rattle.curator.specs.declared.refusal.Refusal.{Refusal}
+use Rattle.curator.specs.Limits.{builtAllowed, stateSound, indexShape}
+use Rattle.curator.specs.Rows.{Lengths, storeShort, addRows}
+use Rattle.curator.specs.Calls.{lengthsOf, grown}
+use Rattle.curator.specs.Changes.{AddCall, addCheck, Wrote, AddsBy, Adds}
+use Rattle.curator.specs.Lent.{Room}
+use Rattle.curator.specs.RowLaws.{NoneHolds, fine-none, rowsOfAdd, add-check-rows}
+use Rattle.curator.specs.StateLaws.{and-all, Sound, sound-facts, facts-sound}
+
+-- three lists that are not short
+pub long-enough : (s : Shape) (lent : Lengths) → storeShort s lent ≡ false
+    → (floatsSize s ≤ lent .floats) × (numbersSize s ≤ lent .numbers) × (hashesSize s ≤ lent .hashes)
+unfolding storeShort
+long-enough s lent h =
+    let (f, rest) = and-all (leb (floatsSize s) (lent .floats)) _ (not-false _ h) in
+    let (n, k) = and-all (leb (numbersSize s) (lent .numbers)) (leb (hashesSize s) (lent .hashes)) rest in
+    (leb-true _ _ f, leb-true _ _ n, leb-true _ _ k)
+
+-- What an accepted add was asked of, as plain facts.
+pub record Accepted (index : CuratorIndex) (store : Store) (call : AddCall) : Type 0 where
+  pub sound : Sound index
+  pub unbuilt : index .built ≡ false
+  pub finite : allFinite (call .vector) ≡ true
+  pub room : Room index store call
+
+accepted-of : (index : CuratorIndex) (store : Store) (call : AddCall) → NoneHolds (rowsOfAdd index store call) → Accepted index store call
+unfolding addRows
+accepted-of index store call (sound, (short, (built, (dimension, (finite, (labels, (full, (entries, _)))))))) =
+    let s = sound-facts index (not-false _ sound) in
+    let (f, n, h) = long-enough (indexShape index) (lengthsOf store []) short in
+    let below = eqb-false (index .counts .vectors) (index .capacities .vectors) full in
+    record {
+      sound = s;
+      unbuilt = built;
+      finite = not-false _ finite;
+      room =
+          record {
+            limits = s .limits;
+            floats = f;
+            numbers = n;
+            hashes = h;
+            dimension = eqb-true _ _ (not-false _ dimension);
+            labels = eqb-true _ _ (not-false _ labels);
+            vectors = omega arith;
+            entries = ltb-false _ _ entries;
+          };
+    }
+
+pub add-facts : (index : CuratorIndex) (store : Store) (call : AddCall) → addCheck index store call ≡ Fine → Accepted index store call
+add-facts index store call fine = accepted-of index store call (fine-none _ (sym (add-check-rows index store call) ∙ fine))
+
+-- ---- the relation by what the check comes to
+
+pub adds-by : (index : CuratorIndex) (store : Store) (call : AddCall) (answer : Changed) (store′ : Store) (check : Check)
+    → addCheck index store call ≡ check → AddsBy check index store call answer store′ → Adds index store call answer store′
+unfolding Adds
+adds-by index store call answer store′ check e h = subst (λ (k : Check). AddsBy k index store call answer store′) (sym e) h
+
+pub adds-accepted : (index : CuratorIndex) (store : Store) (call : AddCall) (index′ : CuratorIndex) (store′ : Store)
+    → Adds index store call (Changed′.Index index′) store′
+    → (addCheck index store call ≡ Fine) × (index′ ≡ grown index (length (call .lengths))) × Wrote index store call store′
+unfolding Adds AddsBy
+adds-accepted index store call index′ store′ h = by (addCheck index store call) refl h
+  where
+    by : (check : Check) → addCheck index store call ≡ check → AddsBy check index store call (Changed′.Index index′) store′
+        → (addCheck index store call ≡ Fine) × (index′ ≡ grown index (length (call .lengths))) × Wrote index store call store′
+    by Fine e (a, w) = (e, (cc), w)
+    by (Refused r) e (a, w) = let z : _≡_ {A = ℕ} 0 1 = cc in absurd (omega arith)
+
+-- a refused add changes nothing
+pub adds-refused : (index : CuratorIndex) (store : Store) (call : AddCall) (r : Refusal) (store′ : Store)
+    → Adds index store call (Changed′.Refused r) store′ → (addCheck index store call ≡ Refused r) × (store′ ≡ store)
+unfolding Adds AddsBy
+adds-refused index store call r store′ h = by (addCheck index store call) refl h
+  where
+    by : (check : Check) → addCheck index store call ≡ check → AddsBy check index store call (Changed′.Refused r) store′
+        → (addCheck index store call ≡ Refused r) × (store′ ≡ store)
+    by Fine e (a, w) = let z : _≡_ {A = ℕ} 0 1 = cc in absurd (omega arith)
+    by (Refused q) e (a, w) = (e ∙ (cc), w)
+
+-- ---- soundness
+
+unbuilt-allowed : (built : Bool) (held : Counts) → built ≡ false → builtAllowed built held ≡ eqb (held .nodes) 0
+unfolding builtAllowed
+unbuilt-allowed built held e = rw e
+
+pub grown-sound : (index : CuratorIndex) (store : Store) (call : AddCall) → Accepted index store call
+    → Sound (grown index (length (call .lengths)))
+grown-sound index store call a =
+    let next = grown index (length (call .lengths)) in
+    record {
+      limits = a .room .limits;
+      leaf-size = a .sound .leaf-size;
+      ef-search = a .sound .ef-search;
+      beam-width = a .sound .beam-width;
+      vectors = omega (arith, a .room .vectors);
+      entries = a .room .entries;
+      nodes = a .sound .nodes;
+      built =
+          unbuilt-allowed (index .built) (next .counts) (a .unbuilt)
+          ∙ sym (unbuilt-allowed (index .built) (index .counts) (a .unbuilt))
+          ∙ a .sound .built;
+    }
+
+-- an accepted add returns a sound state
+pub adds-sound : (index : CuratorIndex) (store : Store) (call : AddCall) (index′ : CuratorIndex) (store′ : Store)
+    → Adds index store call (Changed′.Index index′) store′ → stateSound index′ ≡ true
+adds-sound index store call index′ store′ h =
+    let (fine, e, _) = adds-accepted index store call index′ store′ h in
+    ap stateSound e ∙ facts-sound _ (grown-sound index store call (add-facts index store call fine))

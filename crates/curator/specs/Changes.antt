@@ -1,0 +1,183 @@
+-- The result of `new`, `add` and `build` in full: the answer, the state, and every place of every lent list.
+use Prim.Native.Nat.{ℕ, zero, suc, _+_, _*_}
+use mathlib.Core.Bool.{Bool, true, false, not}
+use mathlib.Core.List.{List, [], _∷_}
+use mathlib.Core.Path.{_≡_}
+use lib.Dec.{ltb}
+use lib.Ieee.{Float}
+use lib.ListN.{length, set, replicate}
+use lib.Seq.{sets}
+use Rattle.distance.specs.Vector.{dot, Normalized}
+use Rattle.store.specs.declared.Shape.{Shape}
+use Rattle.store.specs.Store.{Store, centroidsAt, centresAt, ownersAt, orderAt, nodesAt, linksAt, entryOrderAt, filtersAt, workSize}
+use Rattle.tree.specs.Tree.{treeOf, size}
+use Rattle.tree.specs.Nodes.{Node, Entries, nodesOf}
+use Rattle.tree.specs.Layout.{numbersOf, hashesOf, floatsOf}
+use Rattle.walk.specs.StoreView.{allPass}
+use Rattle.curator.specs.declared.CuratorParams.{CuratorParams}
+use Rattle.curator.specs.declared.Capacities.{Capacities}
+use Rattle.curator.specs.declared.CuratorIndex.{CuratorIndex}
+use Rattle.curator.specs.declared.Check.{Check}
+use Rattle.curator.specs.declared.Check.the-variants as Check′
+use Rattle.curator.specs.declared.Changed.{Changed}
+use Rattle.curator.specs.declared.Changed.the-variants as Changed′
+use Rattle.curator.specs.declared.refusal.Refusal.{Refusal}
+use Rattle.curator.specs.declared.refusal.Refusal.the-variants as Refusal′
+use Rattle.curator.specs.declared.refusal.StoreRefusal.{StoreRefusal}
+use Rattle.curator.specs.declared.refusal.StoreRefusal.the-variants.{ListTooShort, VectorsFull, EntriesFull, NodesFull, Damaged}
+use Rattle.curator.specs.Limits.{stateSound, indexShape}
+use Rattle.curator.specs.Rows.{firstOf, stateRow, newRows, addRows, buildRows}
+use Rattle.curator.specs.Calls.{factsOf, lengthsOf, hashesOfLabels, heldVectors, heldEntries, splittingOf, fresh, grown, builtWith}
+
+-- ---- free parts
+
+-- a part of a list by its start and length
+pub record Part : Type 0 where
+  pub start : ℕ
+  pub count : ℕ
+
+-- a list with those parts, and nothing else, replaced by some lists of their lengths
+unfoldable pub Freed {ℓ} : {A : Type ℓ} → List Part → List A → List A → Type ℓ
+Freed [] before after = after ≡ before
+Freed {A = A} (p ∷ parts) before after = (new : List A) × (length new ≡ p .count) × Freed parts (sets before (p .start) new) after
+
+-- what a call may leave other than it was, list by list
+pub record Free : Type 0 where
+  pub floats : List Part
+  pub numbers : List Part
+  pub hashes : List Part
+  pub work : List Part
+
+abbrev pub centresPart : Shape → Part
+centresPart s = record { start = centresAt s; count = s .dimension * s .branching }
+
+abbrev pub workPart : Shape → Part
+workPart s = record { start = 0; count = workSize s }
+
+-- The table's last column. Row 13: 'centroids, the six per node, child links, leaf orders, filters, work, centres'; row 15: 'work'; no other row
+-- has anything there.
+unfoldable pub freeStore : Shape → StoreRefusal → Free
+freeStore s ListTooShort = record { floats = []; numbers = []; hashes = []; work = [] }
+freeStore s VectorsFull = record { floats = []; numbers = []; hashes = []; work = [] }
+freeStore s EntriesFull = record { floats = []; numbers = []; hashes = []; work = [] }
+freeStore s NodesFull =
+    record {
+      floats = record { start = centroidsAt s; count = s .dimension * s .nodes } ∷ centresPart s ∷ [];
+      numbers =
+          record { start = orderAt s; count = s .vectors } ∷ record { start = nodesAt s; count = 6 * s .nodes }
+          ∷ record { start = linksAt s; count = s .nodes }
+          ∷ record { start = entryOrderAt s; count = s .entries }
+          ∷ [];
+      hashes = record { start = filtersAt s; count = 4 * s .nodes } ∷ [];
+      work = workPart s ∷ [];
+    }
+freeStore s Damaged = record { floats = []; numbers = []; hashes = []; work = workPart s ∷ [] }
+
+unfoldable pub freeOf : Shape → Refusal → Free
+unfolding freeStore
+freeOf s (Refusal′.Settings r) = record { floats = []; numbers = []; hashes = []; work = [] }
+freeOf s (Refusal′.State r) = record { floats = []; numbers = []; hashes = []; work = [] }
+freeOf s (Refusal′.Input r) = record { floats = []; numbers = []; hashes = []; work = [] }
+freeOf s (Refusal′.Store r) = freeStore s r
+
+-- 'Any refusal leaves state, store and answer lists unchanged; the last column names what is free.'
+pub record Left (s : Shape) (r : Refusal) (store : Store) (lent : List ℕ) (store′ : Store) (lent′ : List ℕ) : Type 0 where
+  pub floats : Freed (freeOf s r .floats) (store .floats) (store′ .floats)
+  pub numbers : Freed (freeOf s r .numbers) (store .numbers) (store′ .numbers)
+  pub hashes : Freed (freeOf s r .hashes) (store .hashes) (store′ .hashes)
+  pub work : Freed (freeOf s r .work) lent lent′
+
+-- ---- new
+
+unfoldable pub newAnswer : Check → ℕ → CuratorParams → Capacities → Changed
+newAnswer Check′.Fine dimension params capacities = Changed′.Index (fresh dimension params capacities)
+newAnswer (Check′.Refused r) dimension params capacities = Changed′.Refused r
+
+-- what `new` answers
+unfoldable pub created : ℕ → CuratorParams → Capacities → Changed
+unfolding newAnswer firstOf newRows
+created dimension params capacities = newAnswer (firstOf (newRows dimension params capacities)) dimension params capacities
+
+-- ---- add
+
+-- what an add brings: document id, vector, label lengths and label bytes
+pub record AddCall : Type 0 where
+  pub document : ℕ
+  pub vector : List Float
+  pub lengths : List ℕ
+  pub bytes : List ℕ
+
+unfoldable pub addCheck : CuratorIndex → Store → AddCall → Check
+unfolding firstOf stateSound addRows
+addCheck index store call =
+    firstOf (stateRow (stateSound index) ∷ addRows (factsOf index) (lengthsOf store []) (call .vector) (call .lengths) (call .bytes))
+
+-- an accepted add writes the normalised vector, the document id, and one owner and hash for each label, after those held; nothing else
+pub record Wrote (index : CuratorIndex) (store : Store) (call : AddCall) (store′ : Store) : Type 0 where
+  pub stored : List Float
+  pub normalized : Normalized (dot (call .vector) (call .vector)) (call .vector) stored
+  pub floats : store′ .floats ≡ sets (store .floats) (index .counts .vectors * index .dimension) stored
+  pub numbers :
+      store′ .numbers
+      ≡ sets (set (store .numbers) (index .counts .vectors) (call .document)) (ownersAt (indexShape index) + index .counts .entries)
+      (replicate (length (call .lengths)) (index .counts .vectors))
+  pub hashes : store′ .hashes ≡ sets (store .hashes) (index .counts .entries) (hashesOfLabels (call .lengths) (call .bytes))
+
+unfoldable pub AddsBy : Check → CuratorIndex → Store → AddCall → Changed → Store → Type 0
+AddsBy Check′.Fine index store call answer store′ =
+    (answer ≡ Changed′.Index (grown index (length (call .lengths)))) × Wrote index store call store′
+AddsBy (Check′.Refused r) index store call answer store′ = (answer ≡ Changed′.Refused r) × (store′ ≡ store)
+
+-- the whole result of an add: state, store and call at entry; answer and store at exit
+unfoldable pub Adds : CuratorIndex → Store → AddCall → Changed → Store → Type 0
+unfolding AddsBy addCheck
+Adds index store call answer store′ = AddsBy (addCheck index store call) index store call answer store′
+
+-- ---- build
+
+-- 'Build's 15: an owner not below n.'
+unfoldable pub ownersDamaged : CuratorIndex → Store → Bool
+unfolding allPass heldEntries
+ownersDamaged index store = not (allPass (λ owner. ltb owner (index .counts .vectors)) (heldEntries index store .owners))
+
+-- 'the defined tree has more than M nodes'
+unfoldable pub tooManyNodes : CuratorIndex → Store → Bool
+unfolding treeOf size heldVectors
+tooManyNodes index store =
+    ltb (index .capacities .nodes) (size (treeOf (splittingOf (index .dimension) (index .params)) (heldVectors index store)))
+
+unfoldable pub buildCheck : CuratorIndex → Store → List ℕ → Check
+unfolding firstOf stateSound buildRows ownersDamaged tooManyNodes
+buildCheck index store work =
+    firstOf
+    (stateRow (stateSound index) ∷ buildRows (factsOf index) (lengthsOf store work) (ownersDamaged index store) (tooManyNodes index store))
+
+-- the nodes of the tree of what is held
+unfoldable pub heldNodes : CuratorIndex → Store → List Node
+unfolding nodesOf heldVectors heldEntries
+heldNodes index store = nodesOf (splittingOf (index .dimension) (index .params)) (heldVectors index store) (heldEntries index store)
+
+-- an accepted build of an unbuilt index lays its nodes out; 'Work and cluster centres are free after an accepted build'
+pub record LaidOut (index : CuratorIndex) (store : Store) (lent : List ℕ) (store′ : Store) (lent′ : List ℕ) : Type 0 where
+  pub centres : List Float
+  pub centres-length : length centres ≡ index .dimension * index .params .«branching_factor»
+  pub floats : store′ .floats ≡ floatsOf (indexShape index) (heldNodes index store) centres (store .floats)
+  pub numbers : store′ .numbers ≡ numbersOf (indexShape index) (heldNodes index store) (store .numbers)
+  pub hashes : store′ .hashes ≡ hashesOf (indexShape index) (heldNodes index store) (store .hashes)
+  pub work : Freed (workPart (indexShape index) ∷ []) lent lent′
+
+unfoldable pub BuildsFine : Bool → CuratorIndex → Store → List ℕ → Changed → Store → List ℕ → Type 0
+BuildsFine true index store work answer store′ work′ = (answer ≡ Changed′.Index index) × (store′ ≡ store) × (work′ ≡ work)
+BuildsFine false index store work answer store′ work′ =
+    (answer ≡ Changed′.Index (builtWith index (length (heldNodes index store)))) × LaidOut index store work store′ work′
+
+unfoldable pub BuildsBy : Check → CuratorIndex → Store → List ℕ → Changed → Store → List ℕ → Type 0
+unfolding BuildsFine
+BuildsBy Check′.Fine index store work answer store′ work′ = BuildsFine (index .built) index store work answer store′ work′
+BuildsBy (Check′.Refused r) index store work answer store′ work′ =
+    (answer ≡ Changed′.Refused r) × Left (indexShape index) r store work store′ work′
+
+-- the whole result of a build: state, store and work at entry; answer, store and work at exit
+unfoldable pub Builds : CuratorIndex → Store → List ℕ → Changed → Store → List ℕ → Type 0
+unfolding BuildsBy buildCheck
+Builds index store work answer store′ work′ = BuildsBy (buildCheck index store work) index store work answer store′ work′

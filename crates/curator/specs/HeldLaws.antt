@@ -1,0 +1,266 @@
+-- An accepted add grows what is held by exactly what it brings, and nothing past the counts held is read.
+use Prim.Native.Nat.{ℕ, zero, suc, _+_, _*_, _<_, _≤_}
+use mathlib.Core.Path.{_≡_, refl, sym, ap, ap₂, _∙_, subst}
+use mathlib.Core.List.{List, [], _∷_, _++_, map, map-append}
+use native.Mathlib.Nat.{zero-add, suc-mul, mul-comm, mul-le-mul-right}
+use native.Mathlib.Numerals.{add-one}
+use native.Mathlib.Omega.{arith}
+use lib.Ieee.{Float}
+use lib.ListN.{length, take, set, replicate, length-set, length-replicate}
+use lib.Seq.{sets, take-suc-set}
+use Rattle.distance.specs.Normalized.{normalized, normalized-is, normalized-holds}
+use Rattle.lists.specs.Counting.{countFrom-snoc}
+use Rattle.lists.specs.Lists.{part, countFrom}
+use Rattle.lists.specs.Parts.{part-append-parts, part-set-before, part-sets-before, part-sets-same}
+use Rattle.store.specs.Store.{Store, vectorAt, ownersAt}
+use Rattle.tree.specs.Nodes.{Entries}
+use Rattle.curator.specs.declared.Changed.{Changed}
+use Rattle.curator.specs.declared.Changed.the-variants as Changed′
+use Rattle.curator.specs.declared.Check.{Check}
+use Rattle.curator.specs.declared.Check.the-variants.{Fine, Refused}
+use Rattle.curator.specs.declared.CuratorIndex.{CuratorIndex}
+use Rattle.curator.specs.AddLaws.{add-facts}
+use Rattle.curator.specs.Calls.{lengthsOf, factsOf, hashesOfLabels, heldVectors, heldDocuments, heldEntries, grown}
+use Rattle.curator.specs.Changes.{AddCall, addCheck, Wrote, AddsBy, Adds}
+use Rattle.curator.specs.LabelLaws.{length-hashesOfLabels}
+use Rattle.curator.specs.Lent.{Room}
+use Rattle.curator.specs.Limits.{stateSound, indexShape}
+use Rattle.curator.specs.Rows.{Lengths, firstOf, stateRow, addRows}
+use Rattle.curator.specs.StateLaws.{length-stored}
+
+-- ---- lists
+
+map-below : {A : Type 0} (f g : ℕ → A) (i n : ℕ) → ((k : ℕ) → k < i + n → f k ≡ g k) → map f (countFrom i n) ≡ map g (countFrom i n)
+unfolding countFrom
+map-below f g i zero h = refl
+map-below f g i (suc n) h = ap₂ _∷_ (h i (omega arith)) (map-below f g (suc i) n (λ k l. h k (omega arith)))
+
+-- a vector with a number ends where the next one starts
+pub next-place : (k n d : ℕ) → k < n → k * d + d ≤ n * d
+next-place k n d h = let l : suc k * d ≤ n * d = mul-le-mul-right d h in omega (arith, suc-mul k d)
+
+pub vectors-snoc : (d n : ℕ) (l v : List Float) → length v ≡ d → n * d + d ≤ length l
+    → map (vectorAt d (sets l (n * d) v)) (countFrom 0 (n + 1)) ≡ map (vectorAt d l) (countFrom 0 n) ++ (v ∷ [])
+vectors-snoc d n l v e h =
+    let after = vectorAt d (sets l (n * d) v) in
+    let fits : n * d + length v ≤ length l = omega arith in
+    let same : part (n * d) d (sets l (n * d) v) ≡ v = subst (λ (k : ℕ). part (n * d) k (sets l (n * d) v) ≡ v) e (part-sets-same l (n * d) v fits) in
+    let last : after (0 + n) ≡ v = rw zero-add same in
+    ap (λ (k : ℕ). map after (countFrom 0 k)) (add-one n)
+    ∙ ap (map after) (countFrom-snoc 0 n)
+    ∙ map-append after (countFrom 0 n) ((0 + n) ∷ [])
+    ∙ ap₂ _++_
+    (map-below after (vectorAt d l) 0 n
+    (λ k j. part-sets-before (k * d) d l (n * d) v (next-place k n d (let i : k < n = omega arith in i))))
+    (ap (λ (x : List Float). x ∷ []) last)
+
+pub part-grows : {A : Type 0} (l : List A) (s m : ℕ) (xs : List A) → s + m + length xs ≤ length l
+    → part s (m + length xs) (sets l (s + m) xs) ≡ part s m l ++ xs
+part-grows l s m xs h =
+    sym (part-append-parts s m (length xs) (sets l (s + m) xs))
+    ∙ ap₂ _++_ (part-sets-before s m l (s + m) xs (let k : s + m ≤ s + m = omega arith in k)) (part-sets-same l (s + m) xs h)
+
+-- ---- an accepted add grows what is held by its line
+
+module _ (index : CuratorIndex) (store : Store) (call : AddCall) (store′ : Store) (room : Room index store call)
+    (wrote : Wrote index store call store′) where
+  vectors-fit : index .counts .vectors * index .dimension + index .dimension ≤ length (store .floats)
+  vectors-fit =
+      let h = room .vectors in
+      let parts = index .capacities .vectors + index .capacities .nodes + index .params .«branching_factor» in
+      let next = next-place (index .counts .vectors) parts (index .dimension) (omega arith) in
+      omega (arith, room .floats, mul-comm parts (index .dimension))
+
+  pub vectors-grown :
+      heldVectors (grown index (length (call .lengths))) store′ ≡ heldVectors index store ++ (wrote .stored ∷ [])
+  unfolding heldVectors
+  vectors-grown =
+      ap (λ (l : List Float). map (vectorAt (index .dimension) l) (countFrom 0 (index .counts .vectors + 1))) (wrote .floats)
+      ∙ vectors-snoc (index .dimension) (index .counts .vectors) (store .floats) (wrote .stored)
+      (length-stored (wrote .normalized) ∙ room .dimension)
+      vectors-fit
+
+  pub documents-grown :
+      heldDocuments (grown index (length (call .lengths))) store′ ≡ heldDocuments index store ++ (call .document ∷ [])
+  unfolding heldDocuments
+  documents-grown =
+      let h = room .vectors in
+      let fits : index .counts .vectors < length (store .numbers) = omega (arith, room .numbers) in
+      ap (part 0 (index .counts .vectors + 1)) (wrote .numbers)
+      ∙ part-sets-before 0 (index .counts .vectors + 1) (set (store .numbers) (index .counts .vectors) (call .document))
+      (ownersAt (indexShape index) + index .counts .entries)
+      (replicate (length (call .lengths)) (index .counts .vectors))
+      (omega arith)
+      ∙ ap (λ (k : ℕ). take k (set (store .numbers) (index .counts .vectors) (call .document))) (add-one (index .counts .vectors))
+      ∙ take-suc-set (store .numbers) (index .counts .vectors) (call .document) fits
+
+  pub owners-grown :
+      heldEntries (grown index (length (call .lengths))) store′ .owners
+      ≡ heldEntries index store .owners ++ replicate (length (call .lengths)) (index .counts .vectors)
+  unfolding heldEntries
+  owners-grown =
+      let owners = replicate (length (call .lengths)) (index .counts .vectors) in
+      let numbers = set (store .numbers) (index .counts .vectors) (call .document) in
+      let many : length owners ≡ length (call .lengths) = length-replicate (length (call .lengths)) (index .counts .vectors) in
+      let wide : length numbers ≡ length (store .numbers) = length-set (store .numbers) (index .counts .vectors) (call .document) in
+      let start = ownersAt (indexShape index) in
+      let fits : start + index .counts .entries + length owners ≤ length numbers = omega (arith, room .numbers, room .entries) in
+      ap₂ (λ (k : ℕ) (l : List ℕ). part (ownersAt (indexShape index)) (index .counts .entries + k) l) (sym many) (wrote .numbers)
+      ∙ part-grows numbers (ownersAt (indexShape index)) (index .counts .entries) owners fits
+      ∙ ap (λ (l : List ℕ). l ++ owners)
+      (part-set-before start (index .counts .entries) (store .numbers) (index .counts .vectors) (call .document) (room .vectors))
+
+  pub hashes-grown :
+      heldEntries (grown index (length (call .lengths))) store′ .hashes
+      ≡ heldEntries index store .hashes ++ hashesOfLabels (call .lengths) (call .bytes)
+  unfolding heldEntries
+  hashes-grown =
+      let hashes = hashesOfLabels (call .lengths) (call .bytes) in
+      let many : length hashes ≡ length (call .lengths) = length-hashesOfLabels (call .lengths) (call .bytes) in
+      let fits : 0 + index .counts .entries + length hashes ≤ length (store .hashes) = omega (arith, room .hashes, room .entries) in
+      ap₂ (λ (k : ℕ) (l : List ℕ). part 0 (index .counts .entries + k) l) (sym many)
+      (wrote .hashes ∙ ap (λ (k : ℕ). sets (store .hashes) k hashes) (sym (zero-add (index .counts .entries))))
+      ∙ part-grows (store .hashes) 0 (index .counts .entries) hashes fits
+
+  pub entries-grown :
+      heldEntries (grown index (length (call .lengths))) store′
+      ≡ record {
+        owners = heldEntries index store .owners ++ replicate (length (call .lengths)) (index .counts .vectors);
+        hashes = heldEntries index store .hashes ++ hashesOfLabels (call .lengths) (call .bytes);
+      }
+  entries-grown = λ i. record { owners = owners-grown i; hashes = hashes-grown i }
+
+-- ---- the result of an add is a function of state, store and call
+
+-- the store that an accepted add leaves
+unfoldable pub added : CuratorIndex → Store → AddCall → Store
+unfolding normalized hashesOfLabels
+added index store call =
+    record {
+      floats = sets (store .floats) (index .counts .vectors * index .dimension) (normalized (call .vector));
+      numbers =
+          sets (set (store .numbers) (index .counts .vectors) (call .document)) (ownersAt (indexShape index) + index .counts .entries)
+          (replicate (length (call .lengths)) (index .counts .vectors));
+      hashes = sets (store .hashes) (index .counts .entries) (hashesOfLabels (call .lengths) (call .bytes));
+    }
+
+pub stored-is : (index : CuratorIndex) (store : Store) (call : AddCall) (store′ : Store) (wrote : Wrote index store call store′)
+    → wrote .stored ≡ normalized (call .vector)
+stored-is index store call store′ wrote = normalized-is (call .vector) (wrote .stored) (wrote .normalized)
+
+pub wrote-added : (index : CuratorIndex) (store : Store) (call : AddCall) (store′ : Store) → Wrote index store call store′
+    → store′ ≡ added index store call
+unfolding added
+wrote-added index store call store′ w =
+    let floats =
+    w .floats
+    ∙ ap (λ (v : List Float). sets (store .floats) (index .counts .vectors * index .dimension) v) (stored-is index store call store′ w) in
+    λ i. record { floats = floats i; numbers = w .numbers i; hashes = w .hashes i }
+
+pub added-wrote : (index : CuratorIndex) (store : Store) (call : AddCall) → Wrote index store call (added index store call)
+unfolding added
+added-wrote index store call =
+    record {
+      stored = normalized (call .vector);
+      normalized = normalized-holds (call .vector);
+      floats = refl;
+      numbers = refl;
+      hashes = refl;
+    }
+
+-- what an add answers, and the store that it leaves, by what its check comes to
+abbrev pub addedAnswer : Check → CuratorIndex → AddCall → Changed
+addedAnswer Fine index call = Changed′.Index (grown index (length (call .lengths)))
+addedAnswer (Refused r) index call = Changed′.Refused r
+
+abbrev pub addedStore : Check → CuratorIndex → Store → AddCall → Store
+addedStore Fine index store call = added index store call
+addedStore (Refused r) index store call = store
+
+pub adds-is : (index : CuratorIndex) (store : Store) (call : AddCall) (answer : Changed) (store′ : Store) → Adds index store call answer store′
+    → (answer ≡ addedAnswer (addCheck index store call) index call) × (store′ ≡ addedStore (addCheck index store call) index store call)
+unfolding Adds AddsBy
+adds-is index store call answer store′ h = by (addCheck index store call) h
+  where
+    by : (check : Check) → AddsBy check index store call answer store′
+        → (answer ≡ addedAnswer check index call) × (store′ ≡ addedStore check index store call)
+    by Fine (e, w) = (e, wrote-added index store call store′ w)
+    by (Refused r) h = h
+
+-- every call has a result
+pub adds-has : (index : CuratorIndex) (store : Store) (call : AddCall)
+    → Adds index store call (addedAnswer (addCheck index store call) index call) (addedStore (addCheck index store call) index store call)
+unfolding Adds AddsBy
+adds-has index store call = by (addCheck index store call)
+  where
+    by : (check : Check) → AddsBy check index store call (addedAnswer check index call) (addedStore check index store call)
+    by Fine = (refl, added-wrote index store call)
+    by (Refused r) = (refl, refl)
+
+-- ---- 'Parts past the counts held are never read'
+
+-- two stores whose lists have the same lengths
+pub record SameLengths (s t : Store) : Type 0 where
+  pub floats : length (s .floats) ≡ length (t .floats)
+  pub numbers : length (s .numbers) ≡ length (t .numbers)
+  pub hashes : length (s .hashes) ≡ length (t .hashes)
+
+-- two stores that agree on what an index holds
+pub record SameHeld (index : CuratorIndex) (s t : Store) : Type 0 where
+  pub vectors : heldVectors index s ≡ heldVectors index t
+  pub documents : heldDocuments index s ≡ heldDocuments index t
+  pub entries : heldEntries index s ≡ heldEntries index t
+
+-- an add is refused, or not, by the lengths alone
+pub add-check-same : (index : CuratorIndex) (s t : Store) (call : AddCall) → SameLengths s t → addCheck index s call ≡ addCheck index t call
+unfolding addCheck
+add-check-same index s t call h =
+    let same : lengthsOf s [] ≡ lengthsOf t [] = λ i. record { floats = h .floats i; numbers = h .numbers i; hashes = h .hashes i; work = 0 } in
+    ap (λ (l : Lengths). firstOf (stateRow (stateSound index) ∷ addRows (factsOf index) l (call .vector) (call .lengths) (call .bytes))) same
+
+-- the state from now on
+abbrev pub stateAfter : CuratorIndex → Changed → CuratorIndex
+stateAfter index (Changed′.Index next) = next
+stateAfter index (Changed′.Refused r) = index
+
+grown-same : (index : CuratorIndex) (s t : Store) (call : AddCall) → SameHeld index s t → Room index s call → Room index t call
+    → SameHeld (grown index (length (call .lengths))) (added index s call) (added index t call)
+grown-same index s t call h r q =
+    let w = added-wrote index s call in
+    let v = added-wrote index t call in
+    let same : w .stored ≡ v .stored = stored-is index s call _ w ∙ sym (stored-is index t call _ v) in
+    record {
+      vectors =
+          vectors-grown index s call _ r w
+          ∙ ap₂ (λ (a : List (List Float)) (b : List Float). a ++ (b ∷ [])) (h .vectors) same
+          ∙ sym (vectors-grown index t call _ q v);
+      documents =
+          documents-grown index s call _ r w ∙ ap (λ (a : List ℕ). a ++ (call .document ∷ [])) (h .documents)
+          ∙ sym (documents-grown index t call _ q v);
+      entries =
+          entries-grown index s call _ r w
+          ∙ ap
+          (λ (e : Entries).
+          record {
+            owners = e .owners ++ replicate (length (call .lengths)) (index .counts .vectors);
+            hashes = e .hashes ++ hashesOfLabels (call .lengths) (call .bytes);
+          })
+          (h .entries)
+          ∙ sym (entries-grown index t call _ q v);
+    }
+
+-- stores that agree on what is held give the same answer, are written alike, and agree afterwards on what is held
+pub adds-same : (index : CuratorIndex) (s t : Store) (call : AddCall) (a b : Changed) (s′ t′ : Store) → SameLengths s t → SameHeld index s t
+    → Adds index s call a s′ → Adds index t call b t′ → (a ≡ b) × SameHeld (stateAfter index a) s′ t′
+adds-same index s t call a b s′ t′ l h x y =
+    let check = add-check-same index s t call l in
+    let (e, f) = adds-is index s call a s′ x in
+    let (g, k) = adds-is index t call b t′ y in
+    let g′ : b ≡ addedAnswer (addCheck index s call) index call = g ∙ ap (λ (c : Check). addedAnswer c index call) (sym check) in
+    let k′ : t′ ≡ addedStore (addCheck index s call) index t call = k ∙ ap (λ (c : Check). addedStore c index t call) (sym check) in
+    (e ∙ sym g′, rw (e, f, k′) (after (addCheck index s call) refl (sym check)))
+  where
+    after : (c : Check) → addCheck index s call ≡ c → addCheck index t call ≡ c
+        → SameHeld (stateAfter index (addedAnswer c index call)) (addedStore c index s call) (addedStore c index t call)
+    after Fine m n = grown-same index s t call h (add-facts index s call m .room) (add-facts index t call n .room)
+    after (Refused r) m n = h

@@ -1,0 +1,59 @@
+-- Laws of the labels of an add: the i-th label starts at the sum of the lengths before it.
+use Prim.Native.Nat.{ℕ, zero, suc, _+_, _<_}
+use mathlib.Core.Path.{_≡_, refl, sym, ap, _∙_}
+use mathlib.Core.List.{List, [], _∷_, _++_, map}
+use native.Mathlib.Nat.{zero-add, add-assoc}
+use native.Mathlib.Omega.{arith}
+use lib.ListN.{length, getD, take, drop, length-map}
+use lib.Seq.{drop-cons, drop-drop}
+use Rattle.label.specs.Fnv.{fnv}
+use Rattle.lists.specs.Lists.{part}
+use Rattle.curator.specs.Rows.{total}
+use Rattle.curator.specs.Calls.{labelsOf, hashesOfLabels}
+
+-- ---- sums
+
+pub total-append : (a b : List ℕ) → total (a ++ b) ≡ total a + total b
+unfolding total
+total-append [] b = sym (zero-add (total b))
+total-append (x ∷ a) b = ap (λ (n : ℕ). x + n) (total-append a b) ∙ sym (add-assoc x (total a) (total b))
+
+-- the lengths from a place on
+pub total-drop : (l : List ℕ) (i : ℕ) → i < length l → total (drop i l) ≡ getD l i 0 + total (drop (suc i) l)
+unfolding total
+total-drop l i h = ap total (drop-cons l i 0 h)
+
+-- ---- labels
+
+-- the i-th label: it starts at the sum of the lengths before it
+abbrev pub labelAt : List ℕ → List ℕ → ℕ → List ℕ
+labelAt lengths bytes i = part (total (take i lengths)) (getD lengths i 0) bytes
+
+pub length-labelsOf : (lengths bytes : List ℕ) → length (labelsOf lengths bytes) ≡ length lengths
+unfolding labelsOf
+length-labelsOf [] bytes = refl
+length-labelsOf (n ∷ lengths) bytes = ap suc (length-labelsOf lengths (drop n bytes))
+
+pub label-at : (lengths bytes : List ℕ) (i : ℕ) → i < length lengths → getD (labelsOf lengths bytes) i [] ≡ labelAt lengths bytes i
+unfolding labelsOf total
+label-at [] bytes i h = absurd (omega arith)
+label-at (n ∷ lengths) bytes zero h = refl
+label-at (n ∷ lengths) bytes (suc i) h =
+    label-at lengths (drop n bytes) i (omega arith)
+    ∙ ap (λ (r : List ℕ). take (getD lengths i 0) r) (drop-drop (total (take i lengths)) n bytes)
+
+-- ---- their hashes
+
+pub length-hashesOfLabels : (lengths bytes : List ℕ) → length (hashesOfLabels lengths bytes) ≡ length lengths
+unfolding hashesOfLabels
+length-hashesOfLabels lengths bytes = length-map (labelsOf lengths bytes) fnv ∙ length-labelsOf lengths bytes
+
+-- the hashes from a place on, where its label starts
+pub hashes-drop : (lengths bytes : List ℕ) (i start : ℕ) → i < length lengths
+    → hashesOfLabels (drop i lengths) (drop start bytes)
+    ≡ fnv (part start (getD lengths i 0) bytes) ∷ hashesOfLabels (drop (suc i) lengths) (drop (start + getD lengths i 0) bytes)
+unfolding hashesOfLabels labelsOf
+hashes-drop lengths bytes i start h =
+    ap (λ (l : List ℕ). map fnv (labelsOf l (drop start bytes))) (drop-cons lengths i 0 h)
+    ∙ ap (λ (r : List ℕ). fnv (part start (getD lengths i 0) bytes) ∷ map fnv (labelsOf (drop (suc i) lengths) r))
+    (drop-drop (getD lengths i 0) start bytes)

@@ -1,0 +1,106 @@
+-- The result of both searches in full: the answer and every place of the work and answer lists. The store is lent to be read only.
+use Prim.Native.Nat.{ℕ, zero, suc}
+use mathlib.Core.Bool.{Bool, true, false}
+use mathlib.Core.List.{List, [], _∷_}
+use mathlib.Core.Path.{_≡_}
+use lib.Ieee.{Float}
+use lib.ListN.{length}
+use lib.Seq.{sets}
+use Rattle.distance.specs.Vector.{dot, Normalized}
+use Rattle.label.specs.Fnv.{fnv}
+use Rattle.store.specs.Store.{Store}
+use Rattle.walk.specs.declared.Wanted.{Wanted}
+use Rattle.walk.specs.declared.Wanted.the-variants.{Everything, Label}
+use Rattle.walk.specs.Walk.{State, damaged, going, walk}
+use Rattle.walk.specs.Answer.{Answer, answer}
+use Rattle.walk.specs.StoreView.{storeView}
+use Rattle.curator.specs.declared.CuratorIndex.{CuratorIndex}
+use Rattle.curator.specs.declared.Check.{Check}
+use Rattle.curator.specs.declared.Check.the-variants as Check′
+use Rattle.curator.specs.declared.Found.{Found}
+use Rattle.curator.specs.declared.Found.the-variants as Found′
+use Rattle.curator.specs.declared.refusal.Refusal.the-variants as Refusal′
+use Rattle.curator.specs.declared.refusal.StoreRefusal.the-variants as StoreRefusal′
+use Rattle.curator.specs.Limits.{stateSound, indexShape}
+use Rattle.curator.specs.Rows.{firstOf, stateRow, searchRows}
+use Rattle.curator.specs.Calls.{factsOf, lengthsOf}
+use Rattle.curator.specs.Changes.{Freed, workPart}
+
+-- what a search asks for: every vector, or those with a label, which is any bytes
+pub data Asked : Type 0 where
+  everything : Asked
+  labelled : List ℕ → Asked
+
+unfoldable pub wantedOf : Asked → Wanted
+unfolding fnv
+wantedOf everything = Everything
+wantedOf (labelled bytes) = Label (fnv bytes)
+
+-- what a search brings: the query, what it asks for, k, and the two answer lists
+pub record SearchCall : Type 0 where
+  pub query : List Float
+  pub asked : Asked
+  pub k : ℕ
+  pub ids : List ℕ
+  pub distances : List Float
+
+-- what a search leaves: its answer, the work list and the two answer lists
+pub record SearchEnd : Type 0 where
+  pub answer : Found
+  pub work : List ℕ
+  pub ids : List ℕ
+  pub distances : List Float
+
+unfoldable pub searchCheck : CuratorIndex → Store → List ℕ → SearchCall → Check
+unfolding firstOf stateSound searchRows
+searchCheck index store work call =
+    firstOf
+    (stateRow (stateSound index)
+    ∷ searchRows (factsOf index) (lengthsOf store work) (call .query) (call .k) (length (call .ids)) (length (call .distances)))
+
+-- nothing but the answer
+pub record Untouched (lent : List ℕ) (call : SearchCall) (found : Found) (end : SearchEnd) : Type 0 where
+  pub answer : end .answer ≡ found
+  pub work : end .work ≡ lent
+  pub ids : end .ids ≡ call .ids
+  pub distances : end .distances ≡ call .distances
+
+-- row 15: the answer lists as they were, the work part free
+pub record Broken (index : CuratorIndex) (lent : List ℕ) (call : SearchCall) (end : SearchEnd) : Type 0 where
+  pub answer : end .answer ≡ Found′.Refused (Refusal′.Store StoreRefusal′.Damaged)
+  pub work : Freed (workPart (indexShape index) ∷ []) lent (end .work)
+  pub ids : end .ids ≡ call .ids
+  pub distances : end .distances ≡ call .distances
+
+-- 'The answer carries the hit count, the nodes opened, and whole or cut'; 'Answer places from the hit count on keep what they held'
+pub record Answered (index : CuratorIndex) (lent : List ℕ) (call : SearchCall) (a : Answer) (end : SearchEnd) : Type 0 where
+  pub answer : end .answer ≡ Found′.Hits (length (a .ids)) (a .opened) (a .complete)
+  pub work : Freed (workPart (indexShape index) ∷ []) lent (end .work)
+  pub ids : end .ids ≡ sets (call .ids) 0 (a .ids)
+  pub distances : end .distances ≡ sets (call .distances) 0 (a .distances)
+
+unfoldable pub WalkedTo : State → CuratorIndex → List ℕ → SearchCall → SearchEnd → Type 0
+unfolding answer
+WalkedTo damaged index work call end = Broken index work call end
+WalkedTo (going p) index work call end = Answered index work call (answer (call .k) p) end
+
+-- 'Normalise the query', then the walk over what the store shows
+pub record Walked (index : CuratorIndex) (store : Store) (work : List ℕ) (call : SearchCall) (end : SearchEnd) : Type 0 where
+  pub query : List Float
+  pub normalized : Normalized (dot (call .query) (call .query)) (call .query) query
+  pub walked :
+      WalkedTo
+      (walk (storeView (indexShape index) (index .counts) store query (wantedOf (call .asked))) (index .params .«ef_search»))
+      index
+      work
+      call
+      end
+
+unfoldable pub SearchesBy : Check → CuratorIndex → Store → List ℕ → SearchCall → SearchEnd → Type 0
+SearchesBy Check′.Fine index store work call end = Walked index store work call end
+SearchesBy (Check′.Refused r) index store work call end = Untouched work call (Found′.Refused r) end
+
+-- the whole result of a search: state, store, work and call at entry; answer, work and answer lists at exit
+unfoldable pub Searches : CuratorIndex → Store → List ℕ → SearchCall → SearchEnd → Type 0
+unfolding SearchesBy searchCheck
+Searches index store work call end = SearchesBy (searchCheck index store work call) index store work call end

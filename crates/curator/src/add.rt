@@ -1,0 +1,193 @@
+// What an add asks and what it writes.
+ghost use mathlib.Core.Path.{_≡_};
+ghost use Prim.Native.Nat.{_+_, _-_, _≤_, _<_};
+ghost use lib.Dec.{eqb};
+ghost use lib.ListN.{length, set, replicate};
+ghost use lib.Seq.{sets};
+ghost use Rattle.label.specs.Fnv.{fnv};
+ghost use Rattle.lists.specs.Lists.{part};
+ghost use Rattle.store.specs.Store.{Limits};
+ghost use Rattle.curator.specs.Rows.{storeShort, total};
+ghost use Rattle.curator.specs.Calls.{hashesOfLabels, grown};
+ghost use Rattle.curator.specs.Changes.{Wrote};
+ghost use Rattle.curator.specs.Lent.{lent, storeLengths, adding, addChecked, Room, VectorAt};
+use crate::Check;
+use crate::CuratorIndex;
+use crate::limits;
+use crate::refusal::InputRefusal;
+use crate::refusal::Refusal;
+use crate::refusal::StateRefusal;
+use crate::refusal::StoreRefusal;
+use store::Shape;
+use walk::Counts;
+
+// Whether a list of the store is shorter than its size.
+fn store_short(shape: Shape, floats: usize, numbers: usize, hashes: usize) -> bool
+    requires { ⌜ Limits shape ⌝ }
+    ensures { λ r. ⌜ r ≡ storeShort shape (storeLengths floats numbers hashes) ⌝ }
+{
+    !((shape.floats_size() <= floats)
+        & ((shape.numbers_size() <= numbers) & (shape.hashes_size() <= hashes)))
+}
+
+// A byte as a size.
+fn wide(byte: u8) -> usize
+    ensures { λ r. ⌜ r ≡ byte ⌝ }
+{
+    byte as usize
+}
+
+// Whether the lengths sum to `sum`. What is left of the sum is counted down, so nothing overflows.
+fn sums_to(lengths: &[u8], sum: usize) -> bool
+    ensures { λ r. ⌜ r ≡ eqb (total (now (lengths .entry))) sum ⌝ }
+{
+    let mut left = sum;
+    let mut i = 0;
+    while i < lengths.len() {
+        let next = wide(lengths[i]);
+        if left < next {
+            return false;
+        }
+        left -= next;
+        i += 1;
+    }
+    left == 0
+}
+
+// The first refusal whose case holds.
+pub fn add_check(
+    index: CuratorIndex,
+    floats: usize,
+    numbers: usize,
+    hashes: usize,
+    vector: &[f32],
+    lengths: &[u8],
+    bytes: &[u8],
+) -> Check
+    ensures { λ r. ⌜ r ≡ addChecked index (storeLengths floats numbers hashes) (vector .entry) (lengths .entry) (bytes .entry) ⌝ }
+{
+    if !limits::state_sound(index) {
+        return Check::Refused(Refusal::State(StateRefusal::InvalidState));
+    }
+    if store_short(limits::shape_of(index), floats, numbers, hashes) {
+        return Check::Refused(Refusal::Store(StoreRefusal::ListTooShort));
+    }
+    if index.built {
+        return Check::Refused(Refusal::State(StateRefusal::AlreadyBuilt));
+    }
+    if vector.len() != index.dimension {
+        return Check::Refused(Refusal::Input(InputRefusal::DimensionMismatch));
+    }
+    if !distance::vector::all_finite(vector) {
+        return Check::Refused(Refusal::Input(InputRefusal::NonFiniteInput));
+    }
+    if !sums_to(lengths, bytes.len()) {
+        return Check::Refused(Refusal::Input(InputRefusal::LabelLengths));
+    }
+    if index.counts.vectors == index.capacities.vectors {
+        return Check::Refused(Refusal::Store(StoreRefusal::VectorsFull));
+    }
+    if index.capacities.entries < index.counts.entries + lengths.len() {
+        return Check::Refused(Refusal::Store(StoreRefusal::EntriesFull));
+    }
+    Check::Fine
+}
+
+// Writes what is stored of a vector.
+fn write_vector(floats: &mut [f32], place: usize, vector: &[f32])
+    requires { ⌜ place + length (now vector) ≤ length (now floats) ⌝ }
+    ensures { λ _. ⌜ VectorAt (now (floats .entry)) place (now (vector .entry)) (now (floats .exit)) ⌝ }
+{
+    let end = place + vector.len();
+    let squares = distance::vector::dot(vector, vector);
+    distance::vector::normalize(vector, squares, &mut floats[place..end]);
+}
+
+// Writes one number at some places.
+fn write_all(numbers: &mut [u32], place: usize, count: usize, number: u32)
+    requires { ⌜ place + count ≤ length (now numbers) ⌝ }
+    ensures { λ _. ⌜ now (numbers .exit) ≡ sets (now (numbers .entry)) place (replicate count number) ⌝ }
+{
+    let mut i = 0;
+    while i < count {
+        numbers[place + i] = number;
+        i += 1;
+    }
+}
+
+// The hash of the label from a start to an end.
+fn label_hash(bytes: &[u8], start: usize, end: usize) -> u64
+    requires { ⌜ (start ≤ end) × (end ≤ length (now bytes)) ⌝ }
+    ensures { λ r. ⌜ r ≡ fnv (part start (end - start) (now (bytes .entry))) ⌝ }
+{
+    label::hash_label(&bytes[start..end])
+}
+
+// Writes each label's hash. A label starts where the one before it ended.
+fn write_hashes(hashes: &mut [u64], place: usize, lengths: &[u8], bytes: &[u8])
+    requires { ⌜ (place + length (now lengths) ≤ length (now hashes)) × (total (now lengths) ≡ length (now bytes)) ⌝ }
+    ensures { λ _. ⌜ now (hashes .exit) ≡ sets (now (hashes .entry)) place (hashesOfLabels (now (lengths .entry)) (now (bytes .entry))) ⌝ }
+{
+    let mut start = 0;
+    let mut i = 0;
+    while i < lengths.len() {
+        let end = start + wide(lengths[i]);
+        hashes[place + i] = label_hash(bytes, start, end);
+        start = end;
+        i += 1;
+    }
+}
+
+// Writes the document id of a vector, and the vector as the owner of its entries.
+fn write_numbers(numbers: &mut [u32], vector: usize, doc_id: u32, place: usize, count: usize)
+    requires { ⌜ (vector < 4096) × (vector < length (now numbers)) × (place + count ≤ length (now numbers)) ⌝ }
+    ensures { λ _. ⌜ now (numbers .exit) ≡ sets (set (now (numbers .entry)) vector «doc_id») place (replicate count vector) ⌝ }
+{
+    let owner = vector as u32;
+    numbers[vector] = doc_id;
+    write_all(numbers, place, count, owner);
+}
+
+// Writes what an accepted add writes, after what is held.
+pub fn write_add(
+    index: CuratorIndex,
+    floats: &mut [f32],
+    numbers: &mut [u32],
+    hashes: &mut [u64],
+    doc_id: u32,
+    vector: &[f32],
+    lengths: &[u8],
+    bytes: &[u8],
+)
+    requires { ⌜ Room index (lent floats numbers hashes) (adding «doc_id» vector lengths bytes) ⌝ }
+    ensures { λ _. ⌜ Wrote index (lent (floats .entry) (numbers .entry) (hashes .entry))
+        (adding «doc_id» (vector .entry) (lengths .entry) (bytes .entry))
+        (lent (floats .exit) (numbers .exit) (hashes .exit)) ⌝ }
+{
+    let held = index.counts;
+    let owners = limits::shape_of(index).owners_at() + held.entries;
+    write_vector(floats, held.vectors * index.dimension, vector);
+    write_numbers(numbers, held.vectors, doc_id, owners, lengths.len());
+    write_hashes(hashes, held.entries, lengths, bytes);
+}
+
+// The state after an accepted add.
+pub fn grown(index: CuratorIndex, labels: usize) -> CuratorIndex
+    requires { ⌜ (index .counts .vectors < 4096) × (index .counts .entries + labels ≤ 16384) ⌝ }
+    ensures { λ r. ⌜ r ≡ grown index labels ⌝ }
+{
+    let params = index.params;
+    let capacities = index.capacities;
+    let counts = Counts {
+        vectors: index.counts.vectors + 1,
+        entries: index.counts.entries + labels,
+        nodes: index.counts.nodes,
+    };
+    CuratorIndex {
+        dimension: index.dimension,
+        params,
+        capacities,
+        counts,
+        built: index.built,
+    }
+}

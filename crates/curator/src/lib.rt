@@ -1,0 +1,150 @@
+// The index: settings, state, refusals and the entry points.
+ghost use mathlib.Core.Path.{_≡_};
+ghost use Rattle.curator.specs.Limits.{usual};
+ghost use Rattle.curator.specs.Changes.{created, Adds};
+ghost use Rattle.curator.specs.Lent.{lent, adding};
+
+mod add;
+mod limits;
+pub mod refusal;
+
+use refusal::Refusal;
+use refusal::SettingsRefusal;
+use walk::Counts;
+
+// The settings of an index beside its dimension. `beam_width` is kept and read by no build or search.
+pub struct CuratorParams {
+    pub branching_factor: usize,
+    pub max_leaf_size: usize,
+    pub ef_search: usize,
+    pub beam_width: usize,
+}
+
+impl CuratorParams {
+    pub const BRANCHING_FACTOR: usize = 16;
+
+    pub const MAX_LEAF_SIZE: usize = 128;
+
+    pub const EF_SEARCH: usize = 256;
+
+    pub const BEAM_WIDTH: usize = 4;
+
+    // The usual settings.
+    pub fn default() -> Self
+        ensures { λ r. ⌜ r ≡ usual ⌝ }
+    {
+        Self {
+            branching_factor: Self::BRANCHING_FACTOR,
+            max_leaf_size: Self::MAX_LEAF_SIZE,
+            ef_search: Self::EF_SEARCH,
+            beam_width: Self::BEAM_WIDTH,
+        }
+    }
+}
+
+// How many vectors, label entries and nodes the lent lists have room for.
+pub struct Capacities {
+    pub vectors: usize,
+    pub entries: usize,
+    pub nodes: usize,
+}
+
+// The state of an index. It goes by value; what it holds stands in lists that the caller lends.
+pub struct CuratorIndex {
+    pub dimension: usize,
+    pub params: CuratorParams,
+    pub capacities: Capacities,
+    pub counts: Counts,
+    pub built: bool,
+}
+
+// What the refusals of a call come to.
+pub enum Check {
+    Fine,
+    Refused(Refusal),
+}
+
+// What `new`, `add` and `build` answer: the index from now on, or why not.
+pub enum Changed {
+    Index(CuratorIndex),
+    Refused(Refusal),
+}
+
+// What a search answers: how many hits it put into the answer lists, how many nodes it opened, and whether it ended because no node waited.
+pub enum Found {
+    Hits {
+        count: usize,
+        opened: usize,
+        whole: bool,
+    },
+    Refused(Refusal),
+}
+
+impl CuratorIndex {
+    // An index that holds nothing.
+    pub fn new(dimension: usize, params: CuratorParams, capacities: Capacities) -> Changed
+        ensures { λ r. ⌜ r ≡ created dimension params capacities ⌝ }
+    {
+        if !limits::dimension_allowed(dimension) {
+            return Changed::Refused(Refusal::Settings(SettingsRefusal::InvalidDimension));
+        }
+        if !(limits::params_allowed(params) & limits::capacities_allowed(capacities)) {
+            return Changed::Refused(Refusal::Settings(SettingsRefusal::InvalidConfig));
+        }
+        let counts = Counts {
+            vectors: 0,
+            entries: 0,
+            nodes: 0,
+        };
+        Changed::Index(CuratorIndex {
+            dimension,
+            params,
+            capacities,
+            counts,
+            built: false,
+        })
+    }
+
+    // Adds a vector under a document id, with labels: `lengths` cuts them from `bytes`.
+    pub fn add(
+        self,
+        floats: &mut [f32],
+        numbers: &mut [u32],
+        hashes: &mut [u64],
+        doc_id: u32,
+        vector: &[f32],
+        lengths: &[u8],
+        bytes: &[u8],
+    ) -> Changed
+        ensures { λ r. ⌜ Adds self (lent (floats .entry) (numbers .entry) (hashes .entry))
+            (adding «doc_id» (vector .entry) (lengths .entry) (bytes .entry))
+            r
+            (lent (floats .exit) (numbers .exit) (hashes .exit)) ⌝ }
+    {
+        let check = add::add_check(
+            self,
+            floats.len(),
+            numbers.len(),
+            hashes.len(),
+            vector,
+            lengths,
+            bytes,
+        );
+        match check {
+            Check::Refused(refusal) => Changed::Refused(refusal),
+            Check::Fine => {
+                add::write_add(
+                    self,
+                    floats,
+                    numbers,
+                    hashes,
+                    doc_id,
+                    vector,
+                    lengths,
+                    bytes,
+                );
+                Changed::Index(add::grown(self, lengths.len()))
+            }
+        }
+    }
+}

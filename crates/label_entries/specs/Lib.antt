@@ -1,0 +1,3 @@
+-- What the finishing passes of a build write.
+pub mod Passes
+pub mod Finish

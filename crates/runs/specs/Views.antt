@@ -1,0 +1,363 @@
+-- The store's view and the view of the rows' tree are the same at every node number: a node's six numbers, blocks, filter and centroid are read back
+-- from the layout, and its hits from what is held. So both walks are one, and nothing that a run has built shows damage.
+use Prim.Native.Nat.{ℕ, zero, suc, _+_, _*_, _^_, _≤_, _<_}
+use native.Mathlib.Nat.{mul-comm, add-mul, mul-le-mul-right, suc-mul, zero-add}
+use native.Mathlib.Omega.{arith}
+use mathlib.Core.Bool.{Bool, true, not, _&&_, cond}
+use mathlib.Core.List.{List, [], _∷_, map, List·Memᴰ}
+use mathlib.Core.Path.{_≡_, refl, sym, ap, ap₂, _∙_, subst}
+use borrow.Author.Tests.{le-leb, lt-ltb, eq-eqb, ne-eqb}
+use lib.Dec.{ltb, eqb}
+use lib.Ieee.{Float}
+use lib.ListN.{length, getD}
+use Rattle.lists.specs.Lists.{part, joined, keep, countFrom}
+use Rattle.lists.specs.Counting.{getD-Memᴰ, keep-congr, Memᴰ-keep, getD-countFrom, length-countFrom}
+use Rattle.lists.specs.Parts.{getD-part, part-part}
+use Rattle.distance.specs.Distance.{distance}
+use Rattle.distance.specs.TotalOrder.{keyOf}
+use Rattle.label.specs.Filter.{mayContain}
+use Rattle.store.specs.Store.{Store, vectorAt, orderAt, nodesAt, linksAt, entryOrderAt, filtersAt}
+use Rattle.tree.specs.Tree.{treeOf}
+use Rattle.tree.specs.Nodes.{Node, nodesOf, entriesOf}
+use Rattle.tree.specs.Layout.{startOf, sixFrom}
+use Rattle.tree.specs.NodeLaws.{length-ids, length-entries, id-below, entry-below, length-links}
+use Rattle.tree.specs.Subtrees.{node-entries, node-children}
+use Rattle.tree.specs.LayoutLaws.{blockAt, row-read, start-read, start-end, six-getD, sixOf, length-sixFrom, length-blocks}
+use Rattle.walk.specs.declared.Wanted.{Wanted}
+use Rattle.walk.specs.declared.Wanted.the-variants.{Everything, Label}
+use Rattle.walk.specs.declared.Counts.{Counts}
+use Rattle.walk.specs.Walk.{Shown, children, hits, damage, shown, walk}
+use Rattle.walk.specs.WalkLaws.{same-below}
+use Rattle.walk.specs.Answer.{hitOf}
+use Rattle.walk.specs.StoreView.{allPass, blockHeld, nodeField, ownerOf, hitAt, childrenShown, vectorsShown, entriesShown, leafShown, nodeShown, nodeDenied, mostHits, storeView}
+use Rattle.walk.specs.StoreViewLaws.{store-shown, store-children-below}
+use Rattle.curator.specs.Calls.{splittingOf}
+use Rattle.runs.specs.Model.{Setting, Model, noRow, noNode, rowHashes, rowVectors, rowEntries, nodeCount, modelNodes, settingShape, rowHit, leafHits, nodeGives, nodeDenies, mostRows, treeView}
+use Rattle.runs.specs.State.{Allowed, Within, limits, some-nodes}
+use Rattle.runs.specs.Held.{Held, map-same, owner-below, owners-length, length-vectors}
+use Rattle.runs.specs.Refusals.{all-pass}
+use Rattle.runs.specs.Built.{Laid, NodeFacts}
+
+-- the counts of a built model
+abbrev pub builtCounts : Setting → Model → Counts
+builtCounts s m = record { vectors = length (m .rows); entries = length (rowHashes m); nodes = nodeCount s m }
+
+block-held : (start count held : ℕ) → start + count ≤ held → blockHeld start count held ≡ true
+unfolding blockHeld
+block-held start zero held h = refl
+block-held start (suc count) held h = le-leb (start + suc count) held h
+
+pub getD-map : {A B : Type 0} (f : A → B) (l : List A) (i : ℕ) (d : A) (e : B) → i < length l → getD (map f l) i e ≡ f (getD l i d)
+getD-map f [] i d e h = absurd (omega arith)
+getD-map f (x ∷ xs) zero d e h = refl
+getD-map f (x ∷ xs) (suc i) d e h = getD-map f xs i d e (omega arith)
+
+-- a choice whose test passes
+chosen : {A : Type 0} (b : Bool) (x y : A) → b ≡ true → cond b x y ≡ x
+chosen {A} b x y e = ap (λ (c : Bool). cond c x y) e
+
+-- the tree's view, case by case
+pub gives-none : (m : Model) (query : List Float) (wanted : Wanted) (node : Node) → nodeGives m query wanted node [] ≡ hits (leafHits m query wanted node)
+unfolding nodeGives
+gives-none m query wanted node = refl
+
+pub gives-some : (m : Model) (query : List Float) (wanted : Wanted) (node : Node) (c : ℕ) (cs : List ℕ)
+    → nodeGives m query wanted node (c ∷ cs) ≡ children (c ∷ cs)
+unfolding nodeGives
+gives-some m query wanted node c cs = refl
+
+pub tree-shown : (s : Setting) (m : Model) (query : List Float) (wanted : Wanted) (i : ℕ)
+    → shown (treeView s m query wanted) i
+    ≡ cond (nodeDenies wanted (getD (modelNodes s m) i noNode)) (hits [])
+    (nodeGives m query wanted (getD (modelNodes s m) i noNode) (getD (modelNodes s m) i noNode .children))
+unfolding shown treeView
+tree-shown s m query wanted i = refl
+
+module _ (s : Setting) (m : Model) (store : Store) (a : Allowed s) (w : Within s m) (facts : NodeFacts s m) (held : Held s m store)
+    (laid : Laid s m store) where
+  -- ---- what is held, by number
+
+  vector-at : (i : ℕ) → i < length (m .rows) → vectorAt (s .dimension) (store .floats) i ≡ getD (m .rows) i noRow .vector
+  unfolding rowVectors
+  vector-at i h =
+      let n = length (m .rows) in
+      let long : i < length (countFrom 0 n) = subst (λ (k : ℕ). i < k) (sym (length-countFrom 0 n)) h in
+      ap (vectorAt (s .dimension) (store .floats)) (sym (getD-countFrom 0 n i 0 h ∙ zero-add i))
+      ∙ sym (getD-map (vectorAt (s .dimension) (store .floats)) (countFrom 0 n) i 0 [] long)
+      ∙ ap (λ (l : List (List Float)). getD l i []) (held .vectors)
+      ∙ getD-map (λ r. r .vector) (m .rows) i noRow [] h
+
+  document-at : (i : ℕ) → i < length (m .rows) → getD (store .numbers) i 0 ≡ getD (m .rows) i noRow .document
+  document-at i h =
+      ap (λ (k : ℕ). getD (store .numbers) k 0) (sym (zero-add i)) ∙ sym (getD-part 0 (length (m .rows)) (store .numbers) i 0 h)
+      ∙ ap (λ (l : List ℕ). getD l i 0) (held .documents) ∙ getD-map (λ r. r .document) (m .rows) i noRow 0 h
+
+  owner-at : (e : ℕ) → e < length (rowHashes m) → getD (store .numbers) (s .capacities .vectors + e) 0 ≡ getD (rowEntries m .owners) e 0
+  unfolding rowEntries
+  owner-at e h =
+      sym (getD-part (s .capacities .vectors) (length (rowHashes m)) (store .numbers) e 0 h) ∙ ap (λ (l : List ℕ). getD l e 0) (held .owners)
+
+  hash-at : (e : ℕ) → e < length (rowHashes m) → getD (store .hashes) e 0 ≡ getD (rowEntries m .hashes) e 0
+  unfolding rowEntries
+  hash-at e h =
+      ap (λ (k : ℕ). getD (store .hashes) k 0) (sym (zero-add e)) ∙ sym (getD-part 0 (length (rowHashes m)) (store .hashes) e 0 h)
+      ∙ ap (λ (l : List ℕ). getD l e 0) (held .hashes)
+
+  hit-at : (query : List Float) (i : ℕ) → i < length (m .rows) → hitAt (settingShape s) (builtCounts s m) store query i ≡ rowHit m query i
+  unfolding hitAt rowHit
+  hit-at query i h = ap₂ (λ (v : List Float) (d : ℕ). hitOf (distance query v) d i) (vector-at i h) (document-at i h)
+
+  -- ---- what is laid out, by node number
+
+  abbrev nodeAt : ℕ → Node
+  nodeAt i = getD (modelNodes s m) i noNode
+
+  field-at : (i field : ℕ) → i < length (modelNodes s m) → field < 6
+      → nodeField (settingShape s) (builtCounts s m) store i field
+      ≡ getD (sixOf (blockAt (λ node. node .children) (modelNodes s m) i) (blockAt (λ node. node .ids) (modelNodes s m) i) (blockAt (λ node. node .entries) (modelNodes s m) i) (nodeAt i)) field 0
+  field-at i field h g =
+      let N = modelNodes s m in
+      let at = nodesAt (settingShape s) in
+      let n = length-sixFrom 0 0 0 N in
+      let e : at + i * 6 + field ≡ at + (i * 6 + field) = omega arith in
+      ap (λ (k : ℕ). getD (store .numbers) k 0) e
+      ∙ sym (getD-part at (length (sixFrom 0 0 0 N)) (store .numbers) (i * 6 + field) 0 (omega arith))
+      ∙ ap (λ (l : List ℕ). getD l (i * 6 + field) 0) (laid .six)
+      ∙ six-getD N i noNode field h g
+
+  block-at : (f : Node → List ℕ) (at i : ℕ) → part at (length (joined f (modelNodes s m))) (store .numbers) ≡ joined f (modelNodes s m)
+      → i < length (modelNodes s m)
+      → part (at + startOf (blockAt f (modelNodes s m) i) (f (nodeAt i))) (length (f (nodeAt i))) (store .numbers) ≡ f (nodeAt i)
+  block-at f at i e h =
+      let N = modelNodes s m in
+      let block = f (nodeAt i) in
+      sym (part-part at (length (joined f N)) (startOf (blockAt f N i) block) (length block) (store .numbers) (start-end f N i noNode h))
+      ∙ ap (λ (l : List ℕ). part (startOf (blockAt f N i) block) (length block) l) e
+      ∙ start-read f N i noNode h
+
+  centroid-at : (i : ℕ) → i < length (modelNodes s m) → vectorAt (s .dimension) (store .floats) (s .capacities .vectors + i) ≡ nodeAt i .centroid
+  centroid-at i h =
+      let N = modelNodes s m in
+      let d = s .dimension in
+      let v = s .capacities .vectors in
+      let e = length-blocks (λ node. node .centroid) d N (facts .wide) in
+      let p = suc-mul i d in
+      let q = mul-le-mul-right d h in
+      let n : (v + i) * d ≡ d * v + i * d = add-mul v i d ∙ ap (λ (k : ℕ). k + i * d) (mul-comm v d) in
+      ap (λ (k : ℕ). part k d (store .floats)) n
+      ∙ sym (part-part (d * v) (length (joined (λ node. node .centroid) N)) (i * d) d (store .floats) (omega arith))
+      ∙ ap (λ (l : List Float). part (i * d) d l) (laid .centroids)
+      ∙ row-read (λ node. node .centroid) d N i noNode (facts .wide) h
+
+  filter-at : (i : ℕ) → i < length (modelNodes s m) → part (filtersAt (settingShape s) + i * 4) 4 (store .hashes) ≡ nodeAt i .filter
+  filter-at i h =
+      let N = modelNodes s m in
+      let e = length-blocks (λ node. node .filter) 4 N (facts .four) in
+      sym (part-part (filtersAt (settingShape s)) (length (joined (λ node. node .filter) N)) (i * 4) 4 (store .hashes) (omega arith))
+      ∙ ap (λ (l : List ℕ). part (i * 4) 4 l) (laid .filters)
+      ∙ row-read (λ node. node .filter) 4 N i noNode (facts .four) h
+
+  -- ---- what a node shows
+
+  -- members of a node's lists are numbers of rows, entries, nodes
+  ids-below : (i x : ℕ) → i < length (modelNodes s m) → List·Memᴰ x (nodeAt i .ids) → x < length (m .rows)
+  unfolding modelNodes
+  ids-below i x h k =
+      subst (λ (n : ℕ). x < n) (length-vectors m)
+      (id-below (splittingOf (s .dimension) (s .params)) (rowVectors m) (rowEntries m) (limits s a .branching-low) (nodeAt i) x (getD-Memᴰ (modelNodes s m) i noNode h) k)
+
+  entries-below : (i x : ℕ) → i < length (modelNodes s m) → List·Memᴰ x (nodeAt i .entries) → x < length (rowHashes m)
+  unfolding modelNodes nodesOf
+  entries-below i x h k =
+      let sp = splittingOf (s .dimension) (s .params) in
+      let of : nodeAt i .entries ≡ entriesOf (rowEntries m) (nodeAt i .ids) =
+      node-entries sp (rowVectors m) (rowEntries m) 0 (treeOf sp (rowVectors m)) (nodeAt i) (getD-Memᴰ (modelNodes s m) i noNode h) in
+      subst (λ (n : ℕ). x < n) (owners-length m) (entry-below (rowEntries m) (nodeAt i .ids) x (subst (List·Memᴰ x) of k))
+
+  children-between : (i x : ℕ) → i < nodeCount s m → List·Memᴰ x (nodeAt i .children) → (i < x) × (x < nodeCount s m)
+  unfolding modelNodes nodesOf nodeCount
+  children-between i x h k =
+      let sp = splittingOf (s .dimension) (s .params) in
+      node-children sp (rowVectors m) (rowEntries m) (treeOf sp (rowVectors m)) i noNode x h k
+
+  ids-held : length (joined (λ node. node .ids) (modelNodes s m)) ≡ length (m .rows)
+  unfolding modelNodes
+  ids-held = length-ids (splittingOf (s .dimension) (s .params)) (rowVectors m) (rowEntries m) (limits s a .branching-low) ∙ length-vectors m
+
+  entries-held : length (joined (λ node. node .entries) (modelNodes s m)) ≡ length (rowHashes m)
+  unfolding modelNodes
+  entries-held =
+      length-entries (splittingOf (s .dimension) (s .params)) (rowVectors m) (rowEntries m) (limits s a .branching-low)
+      (λ k b. subst (λ (n : ℕ). getD (rowEntries m .owners) k 0 < n) (sym (length-vectors m)) (owner-below m k b))
+      ∙ owners-length m
+
+  vectors-shown : (query : List Float) (ids : List ℕ) → ((x : ℕ) → List·Memᴰ x ids → x < length (m .rows))
+      → vectorsShown (settingShape s) (builtCounts s m) store query ids ≡ hits (map (rowHit m query) ids)
+  unfolding vectorsShown
+  vectors-shown query ids below =
+      let sh = settingShape s in
+      let c = builtCounts s m in
+      chosen (allPass (λ vector. ltb vector (length (m .rows))) ids) (hits (map (hitAt sh c store query) ids)) damage
+      (all-pass (λ vector. ltb vector (length (m .rows))) ids (λ x k. lt-ltb x (length (m .rows)) (below x k)))
+      ∙ ap hits (map-same (hitAt sh c store query) (rowHit m query) ids (λ x k. hit-at query x (below x k)))
+
+  owned : (x : ℕ) → x < length (rowHashes m) → getD (rowEntries m .owners) x 0 < length (m .rows)
+  owned x h = owner-below m x (subst (λ (n : ℕ). x < n) (sym (owners-length m)) h)
+
+  entries-shown : (query : List Float) (hash : ℕ) (entries : List ℕ) → ((x : ℕ) → List·Memᴰ x entries → x < length (rowHashes m))
+      → entriesShown (settingShape s) (builtCounts s m) store query hash entries
+      ≡ hits (map (λ entry. rowHit m query (getD (rowEntries m .owners) entry 0)) (keep (λ entry. eqb (getD (rowEntries m .hashes) entry 0) hash) entries))
+  unfolding entriesShown
+  entries-shown query hash entries below =
+      let sh = settingShape s in
+      let c = builtCounts s m in
+      let E = length (rowHashes m) in
+      let n = length (m .rows) in
+      let owner : ℕ → ℕ = ownerOf sh c store in
+      let test : ℕ → Bool = λ entry. ltb entry E && ltb (ownerOf sh c store entry) n in
+      let has : ℕ → Bool = λ entry. eqb (getD (store .hashes) entry 0) hash in
+      let has′ : ℕ → Bool = λ entry. eqb (getD (rowEntries m .hashes) entry 0) hash in
+      chosen (allPass test entries) (hits (map (λ entry. hitAt sh c store query (owner entry)) (keep has entries))) damage
+      (all-pass test entries
+      (λ x k. ap₂ _&&_ (lt-ltb x E (below x k)) (lt-ltb (owner x) n (subst (λ (o : ℕ). o < n) (sym (owner-at x (below x k))) (owned x (below x k))))))
+      ∙ ap hits
+      (ap (map (λ entry. hitAt sh c store query (owner entry))) (keep-congr has has′ entries (λ x k. ap (λ (h : ℕ). eqb h hash) (hash-at x (below x k))))
+      ∙ map-same (λ entry. hitAt sh c store query (owner entry)) (λ entry. rowHit m query (getD (rowEntries m .owners) entry 0)) (keep has′ entries)
+      (λ x k. let b = below x (Memᴰ-keep has′ x entries k .1) in
+      ap (hitAt sh c store query) (owner-at x b) ∙ hit-at query (getD (rowEntries m .owners) x 0) (owned x b)))
+
+  leaf-shown : (query : List Float) (wanted : Wanted) (i : ℕ) → i < length (modelNodes s m)
+      → leafShown (settingShape s) (builtCounts s m) store query wanted i ≡ hits (leafHits m query wanted (nodeAt i))
+  unfolding leafShown leafHits sixOf
+  leaf-shown query Everything i h =
+      let N = modelNodes s m in
+      let sh = settingShape s in
+      let c = builtCounts s m in
+      let ids = nodeAt i .ids in
+      let start = field-at i 2 h (omega arith) in
+      let count = field-at i 3 h (omega arith) in
+      let at = startOf (blockAt (λ node. node .ids) N i) ids in
+      ap₂ (λ (f g : ℕ). cond (blockHeld f g (length (m .rows))) (vectorsShown sh c store query (part (orderAt sh + f) g (store .numbers))) damage) start count
+      ∙ chosen (blockHeld at (length ids) (length (m .rows))) (vectorsShown sh c store query (part (orderAt sh + at) (length ids) (store .numbers))) damage
+      (block-held at (length ids) (length (m .rows)) (subst (λ (n : ℕ). at + length ids ≤ n) ids-held (start-end (λ node. node .ids) N i noNode h)))
+      ∙ ap (vectorsShown sh c store query) (block-at (λ node. node .ids) (orderAt sh) i (laid .order) h)
+      ∙ vectors-shown query ids (λ x k. ids-below i x h k)
+  leaf-shown query (Label hash) i h =
+      let N = modelNodes s m in
+      let sh = settingShape s in
+      let c = builtCounts s m in
+      let entries = nodeAt i .entries in
+      let start = field-at i 4 h (omega arith) in
+      let count = field-at i 5 h (omega arith) in
+      let at = startOf (blockAt (λ node. node .entries) N i) entries in
+      ap₂ (λ (f g : ℕ). cond (blockHeld f g (length (rowHashes m))) (entriesShown sh c store query hash (part (entryOrderAt sh + f) g (store .numbers))) damage) start count
+      ∙ chosen (blockHeld at (length entries) (length (rowHashes m))) (entriesShown sh c store query hash (part (entryOrderAt sh + at) (length entries) (store .numbers))) damage
+      (block-held at (length entries) (length (rowHashes m)) (subst (λ (n : ℕ). at + length entries ≤ n) entries-held (start-end (λ node. node .entries) N i noNode h)))
+      ∙ ap (entriesShown sh c store query hash) (block-at (λ node. node .entries) (entryOrderAt sh) i (laid .entries) h)
+      ∙ entries-shown query hash entries (λ x k. entries-below i x h k)
+
+  -- the links of all nodes are at most the nodes
+  children-shown : (i : ℕ) → i < nodeCount s m
+      → childrenShown (settingShape s) (builtCounts s m) store i (nodeAt i .children) ≡ children (nodeAt i .children)
+  unfolding childrenShown
+  children-shown i h =
+      let cs = nodeAt i .children in
+      let n = nodeCount s m in
+      chosen (allPass (λ child. ltb i child && ltb child n) cs) (children cs) damage
+      (all-pass (λ child. ltb i child && ltb child n) cs
+      (λ x k. let b = children-between i x h k in ap₂ _&&_ (lt-ltb i x (b .0)) (lt-ltb x n (b .1))))
+
+  links-held : length (joined (λ node. node .children) (modelNodes s m)) ≤ nodeCount s m
+  unfolding modelNodes nodeCount
+  links-held = let c = length-links (splittingOf (s .dimension) (s .params)) (rowVectors m) (rowEntries m) in omega arith
+
+  -- what a node shows by its start and count of children
+  byFields : List Float → Wanted → ℕ → ℕ → ℕ → Shown
+  byFields query wanted i start count =
+      cond (eqb count 0) (leafShown (settingShape s) (builtCounts s m) store query wanted i)
+      (cond (blockHeld start count (nodeCount s m))
+      (childrenShown (settingShape s) (builtCounts s m) store i (part (linksAt (settingShape s) + start) count (store .numbers))) damage)
+
+  by-fields : (query : List Float) (wanted : Wanted) (i : ℕ)
+      → nodeShown (settingShape s) (builtCounts s m) store query wanted i
+      ≡ byFields query wanted i (nodeField (settingShape s) (builtCounts s m) store i 0) (nodeField (settingShape s) (builtCounts s m) store i 1)
+  unfolding nodeShown byFields
+  by-fields query wanted i = refl
+
+  fields : (query : List Float) (wanted : Wanted) (i : ℕ) → i < length (modelNodes s m)
+      → nodeShown (settingShape s) (builtCounts s m) store query wanted i
+      ≡ byFields query wanted i (startOf (blockAt (λ node. node .children) (modelNodes s m) i) (nodeAt i .children)) (length (nodeAt i .children))
+  unfolding sixOf
+  fields query wanted i h = by-fields query wanted i ∙ ap₂ (byFields query wanted i) (field-at i 0 h (omega arith)) (field-at i 1 h (omega arith))
+
+  gives-inner : (query : List Float) (wanted : Wanted) (i c : ℕ) (cs : List ℕ) → nodeAt i .children ≡ c ∷ cs → i < length (modelNodes s m) → i < nodeCount s m
+      → byFields query wanted i (startOf (blockAt (λ node. node .children) (modelNodes s m) i) (nodeAt i .children)) (length (nodeAt i .children)) ≡ children (nodeAt i .children)
+  unfolding byFields
+  gives-inner query wanted i c cs e h g =
+      let N = modelNodes s m in
+      let sh = settingShape s in
+      let ks = nodeAt i .children in
+      let at = startOf (blockAt (λ node. node .children) N i) ks in
+      let long : length ks ≡ suc (length cs) = ap length e in
+      let inner = cond (blockHeld at (length ks) (nodeCount s m)) (childrenShown sh (builtCounts s m) store i (part (linksAt sh + at) (length ks) (store .numbers))) damage in
+      ap (λ (b : Bool). cond b (leafShown sh (builtCounts s m) store query wanted i) inner) (ne-eqb (length ks) 0 (λ z. omega arith))
+      ∙ chosen (blockHeld at (length ks) (nodeCount s m)) (childrenShown sh (builtCounts s m) store i (part (linksAt sh + at) (length ks) (store .numbers))) damage
+      (block-held at (length ks) (nodeCount s m) (let t = start-end (λ node. node .children) N i noNode h in omega (arith, t, links-held)))
+      ∙ ap (childrenShown sh (builtCounts s m) store i) (block-at (λ node. node .children) (linksAt sh) i (laid .links) h)
+      ∙ children-shown i g
+
+  gives-leaf : (query : List Float) (wanted : Wanted) (i : ℕ) → nodeAt i .children ≡ [] → i < length (modelNodes s m)
+      → byFields query wanted i (startOf (blockAt (λ node. node .children) (modelNodes s m) i) (nodeAt i .children)) (length (nodeAt i .children)) ≡ hits (leafHits m query wanted (nodeAt i))
+  unfolding byFields
+  gives-leaf query wanted i e h =
+      let N = modelNodes s m in
+      let sh = settingShape s in
+      let ks = nodeAt i .children in
+      let at = startOf (blockAt (λ node. node .children) N i) ks in
+      chosen (eqb (length ks) 0) (leafShown sh (builtCounts s m) store query wanted i)
+      (cond (blockHeld at (length ks) (nodeCount s m)) (childrenShown sh (builtCounts s m) store i (part (linksAt sh + at) (length ks) (store .numbers))) damage)
+      (eq-eqb (length ks) 0 (ap length e))
+      ∙ leaf-shown query wanted i h
+
+  node-shown : (query : List Float) (wanted : Wanted) (i : ℕ) → i < length (modelNodes s m) → i < nodeCount s m
+      → nodeShown (settingShape s) (builtCounts s m) store query wanted i ≡ nodeGives m query wanted (nodeAt i) (nodeAt i .children)
+  node-shown query wanted i h g = fields query wanted i h ∙ go (nodeAt i .children) refl
+    where
+      go : (cs : List ℕ) → nodeAt i .children ≡ cs
+          → byFields query wanted i (startOf (blockAt (λ node. node .children) (modelNodes s m) i) (nodeAt i .children)) (length (nodeAt i .children))
+          ≡ nodeGives m query wanted (nodeAt i) (nodeAt i .children)
+      go [] e = gives-leaf query wanted i e h ∙ sym (ap (nodeGives m query wanted (nodeAt i)) e ∙ gives-none m query wanted (nodeAt i))
+      go (c ∷ cs) e = gives-inner query wanted i c cs e h g ∙ ap children e
+          ∙ sym (ap (nodeGives m query wanted (nodeAt i)) e ∙ gives-some m query wanted (nodeAt i) c cs)
+
+  node-denied : (wanted : Wanted) (i : ℕ) → i < length (modelNodes s m)
+      → nodeDenied (settingShape s) (builtCounts s m) store wanted i ≡ nodeDenies wanted (nodeAt i)
+  unfolding nodeDenied nodeDenies
+  node-denied Everything i h = refl
+  node-denied (Label hash) i h = ap (λ (f : List ℕ). not (mayContain f hash)) (filter-at i h)
+
+  most-same : (query : List Float) (wanted : Wanted)
+      → storeView (settingShape s) (builtCounts s m) store query wanted .most ≡ treeView s m query wanted .most
+  unfolding storeView treeView mostHits mostRows
+  most-same query Everything = refl
+  most-same query (Label hash) = refl
+
+  key-same : (query : List Float) (wanted : Wanted) (i : ℕ) → i < length (modelNodes s m)
+      → storeView (settingShape s) (builtCounts s m) store query wanted .key i ≡ treeView s m query wanted .key i
+  unfolding storeView treeView
+  key-same query wanted i h = ap (λ (v : List Float). keyOf (distance query v)) (centroid-at i h)
+
+  -- The walk over the store is the walk over the rows' tree
+  pub same-walks : (query : List Float) (wanted : Wanted) (ef : ℕ) → nodeCount s m ≤ s .capacities .nodes
+      → walk (storeView (settingShape s) (builtCounts s m) store query wanted) ef ≡ walk (treeView s m query wanted) ef
+  same-walks query wanted ef fits =
+      let v = storeView (settingShape s) (builtCounts s m) store query wanted in
+      let n = nodeCount s m in
+      let small : nodeCount s m ≤ 2 ^ 64 = omega (arith, fits, limits s a .nodes-high) in
+      let within : (i : ℕ) → i < nodeCount s m → i < length (modelNodes s m) = λ i h. subst (λ (k : ℕ). i < k) (sym (facts .count)) h in
+      same-below v (treeView s m query wanted) n small (some-nodes s m) (store-children-below (settingShape s) (builtCounts s m) store query wanted)
+      (most-same query wanted) (λ i h. key-same query wanted i (within i h))
+      (λ i h. store-shown (settingShape s) (builtCounts s m) store query wanted i
+      ∙ ap₂ (λ (d : Bool) (sh : Shown). cond d (hits []) sh) (node-denied wanted i (within i h)) (node-shown query wanted i (within i h) h)
+      ∙ sym (tree-shown s m query wanted i))
+      ef

@@ -1,0 +1,123 @@
+-- What a node of a lent store shows, from what was read of it: its filter, its count of children, and its list's block. Assumes nothing.
+use Prim.Native.Nat.{ℕ, zero, suc, _+_, _-_, _*_, _≤_, _<_}
+use native.Mathlib.Nat.{add-zero}
+use native.Mathlib.Omega.{arith}
+use mathlib.Core.Path.{_≡_, refl, sym, ap, ap₂, _∙_, subst}
+use mathlib.Core.Bool.{Bool, true, false, cond}
+use mathlib.Core.List.{List, [], _∷_, map}
+use lib.Dec.{eqb, leb}
+use lib.Ieee.{Float}
+use lib.ListN.{length, getD, take, drop}
+use borrow.Author.Tests.{eq-eqb, ne-eqb, le-leb, lt-leb}
+use Rattle.lists.specs.Lists.{part, keep}
+use Rattle.store.specs.declared.Shape.{Shape}
+use Rattle.store.specs.Store.{orderAt, nodesAt, linksAt, entryOrderAt, filtersAt}
+use Rattle.walk.specs.declared.Wanted.{Wanted}
+use Rattle.walk.specs.declared.Wanted.the-variants.{Everything, Label}
+use Rattle.walk.specs.declared.Counts.{Counts}
+use Rattle.walk.specs.declared.look.Placed.{Placed}
+use Rattle.walk.specs.declared.look.Placed.the-variants.{Outside, Within}
+use Rattle.walk.specs.declared.look.Look.{Look}
+use Rattle.walk.specs.declared.look.Look.the-variants as look
+use Rattle.walk.specs.Walk.{Shown, children, hits, damage, shown}
+use Rattle.walk.specs.StoreView.{allPass, blockHeld, nodeField, ownerOf, hitAt, childrenShown, vectorsShown, entriesShown, leafShown, nodeShown, nodeDenied, storeView}
+use Rattle.walk.specs.StoreViewLaws.{block-empty, block-some, store-shown}
+use Rattle.walk.specs.Search.{lent, filterDenies, Held, Placing, LeafPlacing, listShown, Looks}
+
+denied-filter : (s : Shape) (c : Counts) (floats : List Float) (numbers hashes : List ℕ) (wanted : Wanted) (i : ℕ)
+    → nodeDenied s c (lent floats numbers hashes) wanted i ≡ filterDenies wanted (part (filtersAt s + i * 4) 4 hashes)
+unfolding nodeDenied filterDenies
+denied-filter s c floats numbers hashes Everything i = refl
+denied-filter s c floats numbers hashes (Label hash) i = refl
+
+-- a lent part of a list, by its start and end
+pub lent-is {ℓ} : {A : Type ℓ} (l : List A) (a e s n : ℕ) → a ≡ s → e ≡ s + n → take (e - a) (drop a l) ≡ part s n l
+lent-is l a e s n p q = let d : e - a ≡ n = omega arith in rw (d, p)
+
+-- blocks
+pub block-out : (start count held : ℕ) → (count ≡ 0 → ⊥) → held < start + count → blockHeld start count held ≡ false
+block-out start zero held n h = absurd (n refl)
+block-out start (suc count) held n h = block-some start count held ∙ lt-leb (start + suc count) held h
+
+pub block-in : (start count held : ℕ) → start + count ≤ held → blockHeld start count held ≡ true
+block-in start zero held h = block-empty start held
+block-in start (suc count) held h = block-some start count held ∙ le-leb (start + suc count) held h
+
+-- a leaf's empty list shows no hits
+nothing : (s : Shape) (c : Counts) (floats : List Float) (numbers hashes : List ℕ) (query : List Float) (wanted : Wanted)
+    → listShown s c (lent floats numbers hashes) query wanted [] ≡ hits []
+unfolding vectorsShown entriesShown
+nothing s c floats numbers hashes query Everything = refl
+nothing s c floats numbers hashes query (Label hash) = refl
+
+-- what a block shows
+abbrev placedShown : (List ℕ → Shown) → List ℕ → Placed → Shown
+placedShown f numbers Outside = damage
+placedShown f numbers (Within b) = f (part (b .start) (b .count) numbers)
+
+placed-shown : (numbers : List ℕ) (at next base held : ℕ) (f : List ℕ → Shown) (r : Placed) → next ≡ at + 1 → Placing numbers at base held r
+    → cond (blockHeld (getD numbers at 0) (getD numbers next 0) held) (f (part (base + getD numbers at 0) (getD numbers next 0) numbers)) damage ≡ placedShown f numbers r
+placed-shown numbers at next base held f Outside e h = rw (e, h)
+placed-shown numbers at next base held f (Within b) e h = rw (e, h .0) (ap f (sym (h .1 .is)))
+
+-- what is shown of a leaf and of an inner node
+abbrev pub leafLook : Placed → Look
+leafLook Outside = look.Damaged
+leafLook (Within b) = look.Leaf b
+
+abbrev pub innerLook : Placed → Look
+innerLook Outside = look.Damaged
+innerLook (Within b) = look.Inner b
+
+leaf-shown : (s : Shape) (c : Counts) (floats : List Float) (numbers hashes : List ℕ) (query : List Float) (wanted : Wanted) (i : ℕ) (r : Placed)
+    → LeafPlacing s c numbers wanted (nodesAt s + i * 6) r
+    → leafShown s c (lent floats numbers hashes) query wanted i ≡ placedShown (listShown s c (lent floats numbers hashes) query wanted) numbers r
+unfolding leafShown
+leaf-shown s c floats numbers hashes query Everything i r h =
+    placed-shown numbers (nodesAt s + i * 6 + 2) (nodesAt s + i * 6 + 3) (orderAt s) (c .vectors) (vectorsShown s c (lent floats numbers hashes) query) r (omega arith) h
+leaf-shown s c floats numbers hashes query (Label hash) i r h =
+    placed-shown numbers (nodesAt s + i * 6 + 4) (nodesAt s + i * 6 + 5) (entryOrderAt s) (c .entries) (entriesShown s c (lent floats numbers hashes) query hash) r (omega arith) h
+
+module _ (s : Shape) (c : Counts) (numbers hashes : List ℕ) (wanted : Wanted) (i : ℕ) where
+  passed : (floats query : List Float) → filterDenies wanted (part (filtersAt s + i * 4) 4 hashes) ≡ false
+      → shown (storeView s c (lent floats numbers hashes) query wanted) i ≡ nodeShown s c (lent floats numbers hashes) query wanted i
+  passed floats query e =
+      store-shown s c (lent floats numbers hashes) query wanted i
+      ∙ ap (λ (b : Bool). cond b (hits []) (nodeShown s c (lent floats numbers hashes) query wanted i)) (denied-filter s c floats numbers hashes wanted i ∙ e)
+
+  pub looks-denied : filterDenies wanted (part (filtersAt s + i * 4) 4 hashes) ≡ true → Looks s c numbers hashes wanted i (look.Leaf (record { start = 0; count = 0 }))
+  looks-denied e = (
+    omega arith,
+    λ floats query. store-shown s c (lent floats numbers hashes) query wanted i
+        ∙ ap (λ (b : Bool). cond b (hits []) (nodeShown s c (lent floats numbers hashes) query wanted i)) (denied-filter s c floats numbers hashes wanted i ∙ e)
+        ∙ sym (nothing s c floats numbers hashes query wanted),
+  )
+
+  node-leaf : (floats query : List Float) → getD numbers (nodesAt s + i * 6 + 1) 0 ≡ 0
+      → nodeShown s c (lent floats numbers hashes) query wanted i ≡ leafShown s c (lent floats numbers hashes) query wanted i
+  unfolding nodeShown
+  node-leaf floats query z = rw (eq-eqb (getD numbers (nodesAt s + i * 6 + 1) 0) 0 z)
+
+  node-inner : (floats query : List Float) (r : Placed) → (getD numbers (nodesAt s + i * 6 + 1) 0 ≡ 0 → ⊥) → Placing numbers (nodesAt s + i * 6) (linksAt s) (c .nodes) r
+      → nodeShown s c (lent floats numbers hashes) query wanted i ≡ placedShown (childrenShown s c (lent floats numbers hashes) i) numbers r
+  unfolding nodeShown
+  node-inner floats query r n h =
+      rw (ne-eqb (getD numbers (nodesAt s + i * 6 + 1) 0) 0 n, add-zero (nodesAt s + i * 6))
+      (placed-shown numbers (nodesAt s + i * 6) (nodesAt s + i * 6 + 1) (linksAt s) (c .nodes) (childrenShown s c (lent floats numbers hashes) i) r refl h)
+
+  pub looks-leaf : filterDenies wanted (part (filtersAt s + i * 4) 4 hashes) ≡ false → getD numbers (nodesAt s + i * 6 + 1) 0 ≡ 0 → (r : Placed)
+      → LeafPlacing s c numbers wanted (nodesAt s + i * 6) r → Looks s c numbers hashes wanted i (leafLook r)
+  looks-leaf e z Outside h = λ floats query. passed floats query e ∙ node-leaf floats query z ∙ leaf-shown s c floats numbers hashes query wanted i Outside h
+  looks-leaf e z (Within b) h = (
+    leaf-room wanted h,
+    λ floats query. passed floats query e ∙ node-leaf floats query z ∙ leaf-shown s c floats numbers hashes query wanted i (Within b) h,
+  )
+    where
+      leaf-room : (w : Wanted) → LeafPlacing s c numbers w (nodesAt s + i * 6) (Within b) → b .start + b .count ≤ length numbers
+      leaf-room Everything h = h .1 .room
+      leaf-room (Label hash) h = h .1 .room
+
+  pub looks-inner : filterDenies wanted (part (filtersAt s + i * 4) 4 hashes) ≡ false → (getD numbers (nodesAt s + i * 6 + 1) 0 ≡ 0 → ⊥) → (r : Placed)
+      → Placing numbers (nodesAt s + i * 6) (linksAt s) (c .nodes) r → Looks s c numbers hashes wanted i (innerLook r)
+  looks-inner e z Outside h = λ floats query. passed floats query e ∙ node-inner floats query Outside z h
+  looks-inner e z (Within b) h = (h .1 .room, λ floats query. passed floats query e ∙ node-inner floats query (Within b) z h)

@@ -1,0 +1,79 @@
+-- `look::denies` meets its contract: everything is denied nowhere, a hash where the filter lacks one of its bits. Assumes nothing.
+use Rattle.walk.proofs.Looks.{lent-is}
+use Rattle.label.specs.Filter.{mayContain}
+use Prim.Native.Nat.{_-_}
+use mathlib.Core.Bool.{not}
+use native.Mathlib.Omega.{arith}
+use Prim.Native.Nat.{_+_, _*_}
+use mathlib.Core.Path.{_≡_, refl, sym, ap, _∙_}
+use Rattle.lists.specs.Lists.{part}
+use Rattle.store.specs.Store.{filtersAt}
+use Rattle.walk.specs.Search.{filterDenies}
+use borrow.Author.Needs.{needs}
+use Rattle.walk.proofs.look.denies.Statement.{statement}
+use Rattle.walk.proofs.look.denies.Tie as tie
+
+enum-told : tie.Need-enum-told
+enum-told c = search needs
+
+enum-known-wanted : tie.Need-enum-known-wanted
+enum-known-wanted c = search needs
+
+filters-at-requires : tie.Need-filters-at-requires
+filters-at-requires c κs = search needs
+
+mul-start : tie.Need-mul-start
+mul-start c = search needs
+
+add-start : tie.Need-add-start
+add-start c = search needs
+
+add-end : tie.Need-add-end
+add-end c = search needs
+
+mul-may-contain : tie.Need-mul-may-contain
+mul-may-contain c = search needs
+
+sub-may-contain : tie.Need-sub-may-contain
+sub-may-contain c = search needs
+
+part-may-contain-start : tie.Need-part-may-contain-start
+part-may-contain-start c = search needs
+
+part-may-contain-end : tie.Need-part-may-contain-end
+part-may-contain-end c = search needs
+
+may-contain-requires : tie.Need-may-contain-requires
+may-contain-requires c κs = search needs
+
+returns : tie.Need-returns
+unfolding filterDenies
+returns c =
+    sym (ap (λ w. filterDenies w (part (filtersAt (c .before .before .before .args .shape) + c .before .before .before .args .i * 4) 4 (c .before .before .before .args .hashes .now))) (c .enum-told .given .1))
+
+returns-2 : tie.Need-returns-2
+unfolding filterDenies
+returns-2 c =
+    let start = c .before .before .before .before .before .before .before in
+    let from = filtersAt (start .args .shape) + start .args .i * 4 in
+    let begins : c .before .before .filters-at .result + start .args .i * 4 ≡ from = ap (λ n. n + start .args .i * 4) (c .before .before .filters-at .ensures) in
+    ap not (c .may-contain .ensures ∙ ap (λ f. mayContain f (c .before .before .before .before .wanted .given .0 .0)) (lent-is (start .args .hashes .now) _ _ from 4 begins (ap (λ n. n + 4) begins)))
+    ∙ sym (ap (λ w. filterDenies w (part from 4 (start .args .hashes .now))) (c .before .before .before .before .wanted .given .1))
+
+pub denies-spec : {M : Type 1} → statement M
+denies-spec =
+    tie.close
+    (tie.spec
+    enum-told
+    enum-known-wanted
+    filters-at-requires
+    mul-start
+    add-start
+    add-end
+    mul-may-contain
+    sub-may-contain
+    part-may-contain-start
+    part-may-contain-end
+    may-contain-requires
+    returns
+    returns-2)

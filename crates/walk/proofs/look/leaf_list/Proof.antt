@@ -1,0 +1,59 @@
+-- `look::leaf_list` meets its contract. Assumes nothing.
+use Rattle.walk.specs.Search.{Placing, LeafPlacing}
+use Prim.Native.Nat.{_+_}
+use mathlib.Core.Path.{_≡_, sym, subst}
+use native.Mathlib.Omega.{arith}
+use borrow.Author.Needs.{needs}
+use Rattle.walk.proofs.look.leaf_list.Statement.{statement}
+use Rattle.walk.proofs.look.leaf_list.Tie as tie
+
+enum-told : tie.Need-enum-told
+enum-told c = search needs
+
+add-block-at : tie.Need-add-block-at
+add-block-at c = search needs
+
+order-at-requires : tie.Need-order-at-requires
+order-at-requires c κs = search needs
+
+block-at-requires : tie.Need-block-at-requires
+block-at-requires c κs = search needs
+
+enum-told-2 : tie.Need-enum-told-2
+enum-told-2 c = search needs
+
+add-block-at-2 : tie.Need-add-block-at-2
+add-block-at-2 c = search needs
+
+entry-order-at-requires : tie.Need-entry-order-at-requires
+entry-order-at-requires c κs = search needs
+
+block-at-requires-2 : tie.Need-block-at-requires-2
+block-at-requires-2 c κs = search needs
+
+returns : tie.Need-returns
+returns c =
+    let a = c .before .before .before .before .before .args in
+    subst (λ w. LeafPlacing (a .shape) (a .counts) (a .numbers .now) w (a .at) (c .block-at .result)) (sym (c .before .before .enum-told .given .1))
+    (subst (λ base. Placing (a .numbers .now) (a .at + 2) base (a .counts .vectors) (c .block-at .result)) (c .before .order-at .ensures) (c .block-at .ensures))
+
+returns-2 : tie.Need-returns-2
+returns-2 c =
+    let a = c .before .before .before .before .before .args in
+    subst (λ w. LeafPlacing (a .shape) (a .counts) (a .numbers .now) w (a .at) (c .block-at2 .result)) (sym (c .before .before .enum-told2 .given .1))
+    (subst (λ base. Placing (a .numbers .now) (a .at + 4) base (a .counts .entries) (c .block-at2 .result)) (c .before .entry-order-at .ensures) (c .block-at2 .ensures))
+
+pub leaf-list-spec : {M : Type 1} → statement M
+leaf-list-spec =
+    tie.close
+    (tie.spec
+    enum-told
+    add-block-at
+    order-at-requires
+    block-at-requires
+    enum-told-2
+    add-block-at-2
+    entry-order-at-requires
+    block-at-requires-2
+    returns
+    returns-2)

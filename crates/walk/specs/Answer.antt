@@ -1,0 +1,59 @@
+-- Document 01, 'Search': 'Hits are sorted, adjacent equal document ids lose the later, the first k stay.'
+use Prim.Native.Nat.{ℕ, zero, suc, _+_, _*_, _/_, _%_, _^_}
+use mathlib.Core.Bool.{Bool, cond}
+use mathlib.Core.List.{List, [], _∷_, map}
+use lib.Dec.{eqb}
+use lib.Ieee.{Float}
+use lib.ListN.{length, take}
+use Rattle.order.specs.Sorted.{sort}
+use Rattle.distance.specs.TotalOrder.{keyOf, ofKey}
+use Rattle.walk.specs.Walk.{View, State, Progress, damaged, going, walk, none, whole}
+
+-- A hit is one number, so that `<` orders by distance in total order, then document id, then vector number: each of the three is below 2 ^ 32.
+abbrev pub hitOf : Float → ℕ → ℕ → ℕ
+hitOf distance document vector = keyOf distance * 2 ^ 64 + (document * 2 ^ 32 + vector)
+
+abbrev pub documentOf : ℕ → ℕ
+documentOf hit = hit / 2 ^ 32 % 2 ^ 32
+
+unfoldable pub distanceOf : ℕ → Float
+unfolding ofKey
+distanceOf hit = ofKey (hit / 2 ^ 64)
+
+-- the hits after one with a document id: those directly after it with the same id go
+unfoldable pub dropAfter : ℕ → List ℕ → List ℕ
+dropAfter document [] = []
+dropAfter document (hit ∷ rest) =
+    let same = dropAfter document rest in
+    let kept = hit ∷ dropAfter (documentOf hit) rest in
+    cond (eqb (documentOf hit) document) same kept
+
+-- 'adjacent equal document ids lose the later'
+unfoldable pub dropRepeats : List ℕ → List ℕ
+unfolding dropAfter
+dropRepeats [] = []
+dropRepeats (hit ∷ rest) = hit ∷ dropAfter (documentOf hit) rest
+
+-- every hit of a walk in order, repeats dropped
+unfoldable pub ranked : Progress → List ℕ
+unfolding sort dropRepeats
+ranked p = dropRepeats (sort (p .found))
+
+-- 'The answer carries the hit count, the nodes opened, and whole or cut'; its hits are document ids and distances.
+pub record Answer : Type 0 where
+  pub ids : List ℕ
+  pub distances : List Float
+  pub total : ℕ
+  pub opened : ℕ
+  pub complete : Bool
+
+unfoldable pub answer : ℕ → Progress → Answer
+unfolding ranked distanceOf none
+answer k p =
+    record {
+      ids = map documentOf (take k (ranked p));
+      distances = map distanceOf (take k (ranked p));
+      total = length (ranked p);
+      opened = length (p .opened);
+      complete = whole p;
+    }

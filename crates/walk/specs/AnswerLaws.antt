@@ -1,0 +1,121 @@
+-- Laws of the answer: with different documents nothing is dropped; a larger budget never makes an answer worse. Assumes nothing.
+use Prim.Native.Nat.{ℕ, zero, suc, _+_, _*_, _/_, _%_, _^_, _≤_, _<_}
+use native.Mathlib.Omega.{arith}
+use mathlib.Core.Path.{_≡_, refl, sym, ap, _∙_, subst}
+use mathlib.Core.Logic.{_⊎_, inl, inr}
+use mathlib.Core.Bool.{Bool, true, false, cond, false≢true}
+use mathlib.Core.List.{List, [], _∷_, _++_, map, map-append}
+use lib.Dec.{eqb}
+use lib.Ieee.{Float}
+use lib.ListN.{length, getD, take, length-map}
+use borrow.Author.Tests.{eqb-true, eqb-false, eq-eqb, ne-eqb}
+use Rattle.lists.specs.Lists.{isIn}
+use Rattle.lists.specs.Counting.{which, isIn-here, isIn-later}
+use Rattle.lists.specs.Partition.{List·Permᴰ, Permᴰ·map, count, count-append, perm-count}
+use Rattle.order.specs.Sorted.{sort, NoLater}
+use Rattle.order.specs.SortedLaws.{sort-perm, length-sort, no-later-sort, no-later-take, no-later-at}
+use Rattle.distance.specs.TotalOrder.{keyOf, ofKey}
+use Rattle.walk.specs.Walk.{Progress}
+use Rattle.walk.specs.WalkLaws.{Different, different-head, different-tail}
+use Rattle.walk.specs.Answer.{hitOf, documentOf, distanceOf, dropAfter, dropRepeats, ranked}
+
+-- ---- what a hit holds
+
+pub document-of : (distance : Float) (document vector : ℕ) → document < 2 ^ 32 → vector < 2 ^ 32 → documentOf (hitOf distance document vector) ≡ document
+document-of distance document vector d v = omega arith
+
+pub key-of : (distance : Float) (document vector : ℕ) → document < 2 ^ 32 → vector < 2 ^ 32 → hitOf distance document vector / 2 ^ 64 ≡ keyOf distance
+key-of distance document vector d v = omega arith
+
+pub distance-of : (distance : Float) (document vector : ℕ) → document < 2 ^ 32 → vector < 2 ^ 32 → ofKey (keyOf distance) ≡ distance
+    → distanceOf (hitOf distance document vector) ≡ distance
+unfolding distanceOf
+distance-of distance document vector d v e = ap ofKey (key-of distance document vector d v) ∙ e
+
+-- ---- repeats
+
+pub drop-nil : (document : ℕ) → dropAfter document [] ≡ []
+unfolding dropAfter
+drop-nil document = refl
+
+pub drop-same : (document hit : ℕ) (rest : List ℕ) → documentOf hit ≡ document → dropAfter document (hit ∷ rest) ≡ dropAfter document rest
+unfolding dropAfter
+drop-same document hit rest e =
+    ap (λ (b : Bool). cond b (dropAfter document rest) (hit ∷ dropAfter (documentOf hit) rest)) (eq-eqb (documentOf hit) document e)
+
+pub drop-other : (document hit : ℕ) (rest : List ℕ) → (documentOf hit ≡ document → ⊥) → dropAfter document (hit ∷ rest) ≡ hit ∷ dropAfter (documentOf hit) rest
+unfolding dropAfter
+drop-other document hit rest n =
+    ap (λ (b : Bool). cond b (dropAfter document rest) (hit ∷ dropAfter (documentOf hit) rest)) (ne-eqb (documentOf hit) document n)
+
+pub repeats-nil : dropRepeats [] ≡ []
+unfolding dropRepeats
+repeats-nil = refl
+
+pub repeats-cons : (hit : ℕ) (rest : List ℕ) → dropRepeats (hit ∷ rest) ≡ hit ∷ dropAfter (documentOf hit) rest
+unfolding dropRepeats
+repeats-cons hit rest = refl
+
+pub ranked-is : (p : Progress) → ranked p ≡ dropRepeats (sort (p .found))
+unfolding ranked
+ranked-is p = refl
+
+-- With different documents nothing is dropped
+drop-none : (document : ℕ) (l : List ℕ) → Different (document ∷ map documentOf l) → dropAfter document l ≡ l
+drop-none document [] d = drop-nil document
+drop-none document (hit ∷ rest) d =
+    drop-other document hit rest differ
+    ∙ ap {B = List ℕ} (λ t. hit ∷ t) (drop-none (documentOf hit) rest (different-tail document (documentOf hit ∷ map documentOf rest) d))
+  where
+    differ : documentOf hit ≡ document → ⊥
+    differ e =
+        false≢true (sym (different-head document (documentOf hit ∷ map documentOf rest) d)
+        ∙ ap (λ (x : ℕ). isIn document (x ∷ map documentOf rest)) e ∙ isIn-here document (map documentOf rest))
+
+pub repeats-none : (l : List ℕ) → Different (map documentOf l) → dropRepeats l ≡ l
+repeats-none [] d = repeats-nil
+repeats-none (hit ∷ rest) d = repeats-cons hit rest ∙ ap {B = List ℕ} (λ t. hit ∷ t) (drop-none (documentOf hit) rest d)
+
+pub different-perm : (f : ℕ → ℕ) (xs ys : List ℕ) → List·Permᴰ xs ys → Different (map f xs) → Different (map f ys)
+different-perm f xs ys p d x = omega (arith, d x, perm-count x (map f xs) (map f ys) (Permᴰ·map f p))
+
+pub different-part : (f : ℕ → ℕ) (more xs : List ℕ) → Different (map f (more ++ xs)) → Different (map f xs)
+different-part f more xs d x =
+    omega (arith, d x, ap (count x) (map-append f more xs), count-append x (map f more) (map f xs))
+
+pub ranked-all : (p : Progress) → Different (map documentOf (p .found)) → ranked p ≡ sort (p .found)
+ranked-all p d = ranked-is p ∙ repeats-none (sort (p .found)) (different-perm documentOf (p .found) (sort (p .found)) (sort-perm (p .found)) d)
+
+-- no more are ranked than were found
+drop-fewer : (document : ℕ) (l : List ℕ) → length (dropAfter document l) ≤ length l
+drop-fewer document [] = omega (arith, ap length (drop-nil document))
+drop-fewer document (hit ∷ rest) = go (which (eqb (documentOf hit) document)) (drop-fewer document rest) (drop-fewer (documentOf hit) rest)
+  where
+    go : (eqb (documentOf hit) document ≡ true) ⊎ (eqb (documentOf hit) document ≡ false) → length (dropAfter document rest) ≤ length rest
+        → length (dropAfter (documentOf hit) rest) ≤ length rest → length (dropAfter document (hit ∷ rest)) ≤ suc (length rest)
+    go (inl e) a b = omega (arith, a, ap length (drop-same document hit rest (eqb-true (documentOf hit) document e)))
+    go (inr e) a b = omega (arith, b, ap length (drop-other document hit rest (eqb-false (documentOf hit) document e)))
+
+repeats-fewer : (l : List ℕ) → length (dropRepeats l) ≤ length l
+repeats-fewer [] = omega (arith, ap length repeats-nil)
+repeats-fewer (hit ∷ rest) = omega (arith, ap length (repeats-cons hit rest), drop-fewer (documentOf hit) rest)
+
+pub length-ranked : (p : Progress) → length (ranked p) ≤ length (p .found)
+length-ranked p = omega (arith, ap length (ranked-is p), repeats-fewer (sort (p .found)), length-sort (p .found))
+
+-- ---- larger budgets
+
+-- With more found, and no document twice, every place among the first k that was filled is filled by a hit that is not later
+pub never-worse : (p q : Progress) (more : List ℕ) (k : ℕ) → q .found ≡ more ++ p .found → Different (map documentOf (q .found))
+    → NoLater (take k (ranked p)) (take k (ranked q))
+never-worse p q more k e d =
+    let fewer : Different (map documentOf (p .found)) = different-part documentOf more (p .found) (subst (λ (l : List ℕ). Different (map documentOf l)) e d) in
+    let later : NoLater (sort (p .found)) (sort (q .found)) = subst (λ (l : List ℕ). NoLater (sort (p .found)) (sort l)) (sym e) (no-later-sort more (p .found)) in
+    no-later-take k (ranked p) (ranked q) (rw (ranked-all p fewer, ranked-all q d) later)
+
+-- so its distance is not later in total order: its key is not above
+pub never-later : (p q : Progress) (more : List ℕ) (k : ℕ) → q .found ≡ more ++ p .found → Different (map documentOf (q .found))
+    → (i : ℕ) → i < length (take k (ranked p)) → getD (take k (ranked q)) i 0 / 2 ^ 64 ≤ getD (take k (ranked p)) i 0 / 2 ^ 64
+never-later p q more k e d i h =
+    let less : getD (take k (ranked q)) i 0 ≤ getD (take k (ranked p)) i 0 = no-later-at (take k (ranked p)) (take k (ranked q)) i (never-worse p q more k e d) h in
+    omega arith

@@ -1,0 +1,147 @@
+-- What a lent store shows, case by case: its children are below the node count, whatever numbers stand in it. Assumes nothing.
+use Prim.Native.Nat.{ℕ, zero, suc, _+_, _*_, _^_, _≤_, _<_}
+use native.Mathlib.Omega.{arith}
+use mathlib.Core.Path.{_≡_, refl, sym, ap, ap₂, _∙_, subst}
+use mathlib.Core.Logic.{_⊎_, inl, inr}
+use mathlib.Core.Bool.{Bool, true, false, not, _&&_, cond, false≢true}
+use mathlib.Core.List.{List, [], _∷_, map, List·Memᴰ, List·Memᴰ·head, List·Memᴰ·tail, List·Memᴰ·not-nil, List·Memᴰ·cases-cons}
+use lib.Dec.{leb, ltb, eqb}
+use lib.Ieee.{Float}
+use lib.ListN.{getD}
+use borrow.Author.Tests.{leb-true, ltb-true}
+use Rattle.lists.specs.Lists.{part, keep}
+use Rattle.store.specs.declared.Shape.{Shape}
+use Rattle.store.specs.Store.{Store, orderAt, linksAt, entryOrderAt}
+use Rattle.order.specs.SortedLaws.{either}
+use Rattle.walk.specs.declared.Wanted.{Wanted}
+use Rattle.walk.specs.declared.Wanted.the-variants.{Everything, Label}
+use Rattle.walk.specs.declared.Counts.{Counts}
+use Rattle.walk.specs.Walk.{View, Shown, children, hits, damage, shown}
+use Rattle.walk.specs.WalkLaws.{ChildrenBelow}
+use Rattle.walk.specs.StoreView.{allPass, blockHeld, nodeField, ownerOf, hitAt, childrenShown, vectorsShown, entriesShown, leafShown, nodeShown, nodeDenied, storeView}
+
+pub and-left : (a b : Bool) → (a && b) ≡ true → a ≡ true
+and-left true b e = refl
+and-left false b e = e
+
+pub and-right : (a b : Bool) → (a && b) ≡ true → b ≡ true
+and-right true b e = e
+and-right false b e = absurd (false≢true e)
+
+-- ---- tests of every number
+
+pub allPass-nil : (t : ℕ → Bool) → allPass t [] ≡ true
+unfolding allPass
+allPass-nil t = refl
+
+pub allPass-cons : (t : ℕ → Bool) (x : ℕ) (xs : List ℕ) → allPass t (x ∷ xs) ≡ (t x && allPass t xs)
+unfolding allPass
+allPass-cons t x xs = refl
+
+pub allPass-Memᴰ : (t : ℕ → Bool) (l : List ℕ) → allPass t l ≡ true → (x : ℕ) → List·Memᴰ x l → t x ≡ true
+allPass-Memᴰ t [] e x m = absurd (List·Memᴰ·not-nil m)
+allPass-Memᴰ t (y ∷ ys) e x m =
+    let both : (t y && allPass t ys) ≡ true = sym (allPass-cons t y ys) ∙ e in
+    either (List·Memᴰ·cases-cons m) (λ s. ap t s ∙ and-left (t y) (allPass t ys) both)
+    (λ k. allPass-Memᴰ t ys (and-right (t y) (allPass t ys) both) x k)
+
+pub allPass-congr : (t u : ℕ → Bool) (l : List ℕ) → ((x : ℕ) → t x ≡ u x) → allPass t l ≡ allPass u l
+allPass-congr t u [] h = allPass-nil t ∙ sym (allPass-nil u)
+allPass-congr t u (x ∷ xs) h = allPass-cons t x xs ∙ ap₂ _&&_ (h x) (allPass-congr t u xs h) ∙ sym (allPass-cons u x xs)
+
+-- ---- blocks
+
+pub block-empty : (start held : ℕ) → blockHeld start 0 held ≡ true
+unfolding blockHeld
+block-empty start held = refl
+
+pub block-some : (start count held : ℕ) → blockHeld start (suc count) held ≡ leb (start + suc count) held
+unfolding blockHeld
+block-some start count held = refl
+
+-- a block that is held is empty or ends within what is held
+pub block-within : (start count held : ℕ) → blockHeld start count held ≡ true → (count ≡ 0) ⊎ (start + count ≤ held)
+block-within start zero held e = inl refl
+block-within start (suc count) held e = inr (leb-true (start + suc count) held (sym (block-some start count held) ∙ e))
+
+-- ---- the children that a store shows
+
+-- a choice is one of the two
+pub cond-cases {ℓ} : {A : Type ℓ} (b : Bool) (x y : A) → ((b ≡ true) × (cond b x y ≡ x)) ⊎ ((b ≡ false) × (cond b x y ≡ y))
+cond-cases true x y = inl (refl, refl)
+cond-cases false x y = inr (refl, refl)
+
+-- neither hits nor damage are children
+abbrev Childless : Shown → Type 0
+Childless sh = (numbers : List ℕ) → sh ≡ children numbers → ⊥
+
+childless-hits : (l : List ℕ) → Childless (hits l)
+childless-hits l numbers e = let z : _≡_ {A = ℕ} 0 1 = cc in omega arith
+
+childless-damage : Childless damage
+childless-damage numbers e = let z : _≡_ {A = ℕ} 0 1 = cc in omega arith
+
+childless-cond : (b : Bool) (x y : Shown) → Childless x → Childless y → Childless (cond b x y)
+childless-cond true x y f g = f
+childless-cond false x y f g = g
+
+module _ (s : Shape) (c : Counts) (store : Store) where
+  childless-vectors : (query : List Float) (l : List ℕ) → Childless (vectorsShown s c store query l)
+  unfolding vectorsShown
+  childless-vectors query l =
+      childless-cond (allPass (λ vector. ltb vector (c .vectors)) l) (hits (map (hitAt s c store query) l)) damage (childless-hits (map (hitAt s c store query) l)) childless-damage
+
+  childless-entries : (query : List Float) (hash : ℕ) (l : List ℕ) → Childless (entriesShown s c store query hash l)
+  unfolding entriesShown
+  childless-entries query hash l =
+      let found : List ℕ = map (λ entry. hitAt s c store query (ownerOf s c store entry)) (keep (λ entry. eqb (getD (store .hashes) entry 0) hash) l) in
+      childless-cond (allPass (λ entry. ltb entry (c .entries) && ltb (ownerOf s c store entry) (c .vectors)) l) (hits found) damage (childless-hits found) childless-damage
+
+  childless-leaf : (query : List Float) (wanted : Wanted) (i : ℕ) → Childless (leafShown s c store query wanted i)
+  unfolding leafShown
+  childless-leaf query Everything i =
+      let l : List ℕ = part (orderAt s + nodeField s c store i 2) (nodeField s c store i 3) (store .numbers) in
+      childless-cond (blockHeld (nodeField s c store i 2) (nodeField s c store i 3) (c .vectors)) (vectorsShown s c store query l) damage (childless-vectors query l) childless-damage
+  childless-leaf query (Label hash) i =
+      let l : List ℕ = part (entryOrderAt s + nodeField s c store i 4) (nodeField s c store i 5) (store .numbers) in
+      childless-cond (blockHeld (nodeField s c store i 4) (nodeField s c store i 5) (c .entries)) (entriesShown s c store query hash l) damage (childless-entries query hash l) childless-damage
+
+  -- what is shown as children was tested
+  childrenShown-below : (parent : ℕ) (numbers shownAs : List ℕ) → childrenShown s c store parent numbers ≡ children shownAs
+      → (x : ℕ) → List·Memᴰ x shownAs → (parent < x) × (x < c .nodes)
+  unfolding childrenShown
+  childrenShown-below parent numbers shownAs e x m =
+      either (cond-cases (allPass (λ child. ltb parent child && ltb child (c .nodes)) numbers) (children numbers) damage)
+      (λ p. let same : children numbers ≡ children shownAs = sym (p .1) ∙ e in
+      let l : numbers ≡ shownAs = cc in
+      let both : (ltb parent x && ltb x (c .nodes)) ≡ true = allPass-Memᴰ (λ child. ltb parent child && ltb child (c .nodes)) numbers (p .0) x (subst (List·Memᴰ x) (sym l) m) in
+      (ltb-true parent x (and-left (ltb parent x) (ltb x (c .nodes)) both), ltb-true x (c .nodes) (and-right (ltb parent x) (ltb x (c .nodes)) both)))
+      (λ p. absurd (childless-damage shownAs (sym (p .1) ∙ e)))
+
+  nodeShown-below : (query : List Float) (wanted : Wanted) (i : ℕ) (numbers : List ℕ) → nodeShown s c store query wanted i ≡ children numbers
+      → (x : ℕ) → List·Memᴰ x numbers → (i < x) × (x < c .nodes)
+  unfolding nodeShown
+  nodeShown-below query wanted i numbers e x m =
+      let inner : Shown = childrenShown s c store i (part (linksAt s + nodeField s c store i 0) (nodeField s c store i 1) (store .numbers)) in
+      let held : Bool = blockHeld (nodeField s c store i 0) (nodeField s c store i 1) (c .nodes) in
+      either (cond-cases (eqb (nodeField s c store i 1) 0) (leafShown s c store query wanted i) (cond held inner damage))
+      (λ p. absurd (childless-leaf query wanted i numbers (sym (p .1) ∙ e)))
+      (λ p. either (cond-cases held inner damage)
+      (λ q. childrenShown-below i (part (linksAt s + nodeField s c store i 0) (nodeField s c store i 1) (store .numbers)) numbers (sym (q .1) ∙ sym (p .1) ∙ e) x m)
+      (λ q. absurd (childless-damage numbers (sym (q .1) ∙ sym (p .1) ∙ e))))
+
+  pub store-shown : (query : List Float) (wanted : Wanted) (i : ℕ)
+      → shown (storeView s c store query wanted) i ≡ cond (nodeDenied s c store wanted i) (hits []) (nodeShown s c store query wanted i)
+  unfolding shown storeView
+  store-shown query wanted i = refl
+
+  -- The children that a store shows are above their parent and below the node count
+  pub store-children : (query : List Float) (wanted : Wanted) (i : ℕ) (numbers : List ℕ) (x : ℕ) → shown (storeView s c store query wanted) i ≡ children numbers
+      → List·Memᴰ x numbers → (i < x) × (x < c .nodes)
+  store-children query wanted i numbers x e m =
+      either (cond-cases (nodeDenied s c store wanted i) (hits []) (nodeShown s c store query wanted i))
+      (λ p. absurd (childless-hits [] numbers (sym (p .1) ∙ sym (store-shown query wanted i) ∙ e)))
+      (λ p. nodeShown-below query wanted i numbers (sym (p .1) ∙ sym (store-shown query wanted i) ∙ e) x m)
+
+  pub store-children-below : (query : List Float) (wanted : Wanted) → ChildrenBelow (storeView s c store query wanted) (c .nodes)
+  store-children-below query wanted i numbers x e m = store-children query wanted i numbers x e m .1

@@ -1,0 +1,89 @@
+-- Document 01's trial echoes: the walks of the search for `a` from (1, 0) with k 4, over the definitions, at ef 5, 0, 2 and 4.
+use Prim.Native.Nat.{ℕ}
+use mathlib.Core.Bool.{Bool, true, false}
+use mathlib.Core.Path.{_≡_, refl}
+use mathlib.Core.List.{List, [], _∷_, _++_, map}
+use lib.Ieee.{Float, binary32, ofBits, toBits}
+use Rattle.store.specs.declared.Shape.{Shape}
+use Rattle.store.specs.Store.{Store}
+use Rattle.label.specs.Filter.{emptyFilter, insertAll}
+use Rattle.walk.specs.declared.Wanted.the-variants.{Label}
+use Rattle.walk.specs.declared.Counts.{Counts}
+use Rattle.walk.specs.Walk.{State, damaged, going, walk}
+use Rattle.walk.specs.Answer.{Answer, answer}
+use Rattle.walk.specs.StoreView.{storeView}
+
+-- D 2 and B 2 of the trial; V 4, E 4 and M 8 leave room behind what is held
+unfoldable pub trialShape : Shape
+trialShape = record { dimension = 2; branching = 2; vectors = 4; entries = 4; nodes = 8 }
+
+unfoldable pub trialCounts : Counts
+trialCounts = record { vectors = 3; entries = 3; nodes = 5 }
+
+-- the hashes of the labels `a` and `b`
+unfoldable pub hashA : ℕ
+hashA = 0xaf63dc4c8601ec8c
+
+unfoldable pub hashB : ℕ
+hashB = 0xaf63df4c8601f1a5
+
+-- (1, 0), (0, 1) and (3F19999A, 3F4CCCCD), the last being (3, 4) over 5, and room for one; the centroids of the five nodes, each the mean of the
+-- vectors below it, and room for three; the two centres
+unfoldable pub trialFloats : List Float
+unfolding ofBits
+trialFloats =
+    map (ofBits binary32)
+    (0x3F800000 ∷ 0 ∷ 0 ∷ 0x3F800000 ∷ 0x3F19999A ∷ 0x3F4CCCCD ∷ 0 ∷ 0
+    ∷ 0x3F088889 ∷ 0x3F199999 ∷ 0x3F800000 ∷ 0 ∷ 0x3E99999A ∷ 0x3F666666 ∷ 0 ∷ 0x3F800000 ∷ 0x3F19999A ∷ 0x3F4CCCCD ∷ 0 ∷ 0 ∷ 0 ∷ 0 ∷ 0 ∷ 0
+    ∷ 0 ∷ 0 ∷ 0 ∷ 0 ∷ [])
+
+-- document ids, entry owners, leaf order of vectors, the six of each node, child links, leaf order of entries
+unfoldable pub trialNumbers : List ℕ
+trialNumbers =
+    (7 ∷ 8 ∷ 9 ∷ 0 ∷ []) ++ (0 ∷ 1 ∷ 2 ∷ 0 ∷ []) ++ (0 ∷ 1 ∷ 2 ∷ 0 ∷ [])
+    ++ (0 ∷ 2 ∷ 0 ∷ 0 ∷ 0 ∷ 0 ∷ []) ++ (0 ∷ 0 ∷ 0 ∷ 1 ∷ 0 ∷ 1 ∷ []) ++ (2 ∷ 2 ∷ 0 ∷ 0 ∷ 0 ∷ 0 ∷ []) ++ (0 ∷ 0 ∷ 1 ∷ 1 ∷ 1 ∷ 1 ∷ [])
+    ++ (0 ∷ 0 ∷ 2 ∷ 1 ∷ 2 ∷ 1 ∷ []) ++ (0 ∷ 0 ∷ 0 ∷ 0 ∷ 0 ∷ 0 ∷ []) ++ (0 ∷ 0 ∷ 0 ∷ 0 ∷ 0 ∷ 0 ∷ []) ++ (0 ∷ 0 ∷ 0 ∷ 0 ∷ 0 ∷ 0 ∷ [])
+    ++ (1 ∷ 2 ∷ 3 ∷ 4 ∷ 0 ∷ 0 ∷ 0 ∷ 0 ∷ []) ++ (0 ∷ 1 ∷ 2 ∷ 0 ∷ [])
+
+-- entry hashes; filters, each of the hashes at and below its node
+unfoldable pub trialHashes : List ℕ
+unfolding hashA hashB insertAll
+trialHashes =
+    (hashA ∷ hashB ∷ hashA ∷ 0 ∷ [])
+    ++ insertAll emptyFilter (hashA ∷ hashB ∷ hashA ∷ []) ++ insertAll emptyFilter (hashA ∷ []) ++ insertAll emptyFilter (hashB ∷ hashA ∷ [])
+    ++ insertAll emptyFilter (hashB ∷ []) ++ insertAll emptyFilter (hashA ∷ []) ++ emptyFilter ++ emptyFilter ++ emptyFilter
+
+unfoldable pub trialStore : Store
+unfolding trialFloats trialNumbers trialHashes
+trialStore = record { floats = trialFloats; numbers = trialNumbers; hashes = trialHashes }
+
+-- what is printed of an answer: ids, distance bits, whole or cut, opened
+pub record Printed : Type 0 where
+  pub ids : List ℕ
+  pub bits : List ℕ
+  pub whole : Bool
+  pub opened : ℕ
+
+pub data Outcome : Type 0 where
+  broken : Outcome
+  printed : Printed → Outcome
+
+unfoldable pub outcome : State → Outcome
+unfolding answer
+outcome damaged = broken
+outcome (going p) =
+    let a = answer 4 p in
+    printed (record { ids = a .ids; bits = map (toBits binary32) (a .distances); whole = a .complete; opened = a .opened })
+
+unfoldable pub trialWalk : ℕ → Outcome
+unfolding outcome walk storeView trialShape trialCounts trialStore hashA
+trialWalk ef =
+    outcome (walk (storeView trialShape trialCounts trialStore (ofBits binary32 0x3F800000 ∷ ofBits binary32 0 ∷ []) (Label hashA)) ef)
+
+-- '7 00000000 / 9 3ecccccc / whole 5'; 'ef 0: cut 0 alone. ef 2: 7, cut 2. ef 4: 7 and 9, cut 4.'
+pub trials : (trialWalk 5 ≡ printed (record { ids = 7 ∷ 9 ∷ []; bits = 0 ∷ 0x3ECCCCCC ∷ []; whole = true; opened = 5 }))
+    × (trialWalk 0 ≡ printed (record { ids = []; bits = []; whole = false; opened = 0 }))
+    × (trialWalk 2 ≡ printed (record { ids = 7 ∷ []; bits = 0 ∷ []; whole = false; opened = 2 }))
+    × (trialWalk 4 ≡ printed (record { ids = 7 ∷ 9 ∷ []; bits = 0 ∷ 0x3ECCCCCC ∷ []; whole = false; opened = 4 }))
+unfolding trialWalk
+trials = (refl, refl, refl, refl)

@@ -1,0 +1,118 @@
+// What an opened node shows: the part of the numbers in which its list stands.
+use crate::Counts;
+use crate::Wanted;
+use label::bloom::may_contain;
+use store::Shape;
+ghost use mathlib.Core.Path.{_≡_};
+ghost use Prim.Native.Nat.{_+_, _*_, _^_, _<_, _≤_};
+ghost use lib.ListN.{length};
+ghost use Rattle.lists.specs.Lists.{part};
+ghost use Rattle.store.specs.Store.{filtersAt};
+ghost use Rattle.walk.specs.Search.{HashesLent, NumbersLent, filterDenies, BlockAsked, Placing, LeafPlacing, Looks};
+
+// A list's places in the numbers.
+pub struct Block {
+    pub start: usize,
+    pub count: usize,
+}
+
+// A node's block, or that it has a place outside what is held.
+pub enum Placed {
+    Outside,
+    Within(Block),
+}
+
+// What an opened node shows: a leaf its list, an inner node its children. A denied node shows an empty list.
+pub enum Look {
+    Damaged,
+    Leaf(Block),
+    Inner(Block),
+}
+
+pub fn wide(x: u32) -> usize
+    ensures { λ r. ⌜ (r ≡ x) × (r < 2 ^ 32) ⌝ }
+{
+    x as usize
+}
+
+// Whether the filter of node i denies what is wanted.
+fn denies(shape: Shape, hashes: &[u64], wanted: Wanted, i: usize) -> bool
+    requires { ⌜ HashesLent shape (now hashes) ⌝ }
+    requires { ⌜ i < shape .nodes ⌝ }
+    ensures { λ r. ⌜ r ≡ filterDenies wanted (part (filtersAt shape + i * 4) 4 (now (hashes .entry))) ⌝ }
+{
+    match wanted {
+        Wanted::Everything => false,
+        Wanted::Label(hash) => {
+            let start = shape.filters_at() + i * 4;
+            let end = start + 4;
+            !may_contain(&hashes[start..end], hash)
+        }
+    }
+}
+
+// The block whose start and count stand at a place: it counts from `base` on, where `held` numbers are held.
+fn block_at(numbers: &[u32], at: usize, base: usize, held: usize) -> Placed
+    requires { ⌜ BlockAsked (now numbers) at base held ⌝ }
+    ensures { λ r. ⌜ Placing (now (numbers .entry)) at base held r ⌝ }
+{
+    let start = wide(numbers[at]);
+    let count = wide(numbers[at + 1]);
+    if count == 0 {
+        return Placed::Within(Block {
+            start: base,
+            count: 0,
+        });
+    }
+    if held < start + count {
+        return Placed::Outside;
+    }
+    Placed::Within(Block {
+        start: base + start,
+        count,
+    })
+}
+
+// The list that a search reads in the leaf whose six numbers start at a place: its entries, unfiltered its vectors.
+fn leaf_list(shape: Shape, counts: Counts, numbers: &[u32], wanted: Wanted, at: usize) -> Placed
+    requires { ⌜ NumbersLent shape counts (now numbers) ⌝ }
+    requires { ⌜ at + 6 ≤ length (now numbers) ⌝ }
+    ensures { λ r. ⌜ LeafPlacing shape counts (now (numbers .entry)) wanted at r ⌝ }
+{
+    match wanted {
+        Wanted::Everything => block_at(numbers, at + 2, shape.order_at(), counts.vectors),
+        Wanted::Label(_) => block_at(numbers, at + 4, shape.entry_order_at(), counts.entries),
+    }
+}
+
+// What node i shows.
+pub fn look_at(
+    shape: Shape,
+    counts: Counts,
+    numbers: &[u32],
+    hashes: &[u64],
+    wanted: Wanted,
+    i: usize,
+) -> Look
+    requires { ⌜ NumbersLent shape counts (now numbers) ⌝ }
+    requires { ⌜ HashesLent shape (now hashes) ⌝ }
+    requires { ⌜ i < counts .nodes ⌝ }
+    ensures { λ r. ⌜ Looks shape counts (now (numbers .entry)) (now (hashes .entry)) wanted i r ⌝ }
+{
+    if denies(shape, hashes, wanted, i) {
+        return Look::Leaf(Block { start: 0, count: 0 });
+    }
+    let at = shape.nodes_at() + i * 6;
+    if numbers[at + 1] == 0 {
+        let list = leaf_list(shape, counts, numbers, wanted, at);
+        return match list {
+            Placed::Outside => Look::Damaged,
+            Placed::Within(block) => Look::Leaf(block),
+        };
+    }
+    let children = block_at(numbers, at, shape.links_at(), counts.nodes);
+    match children {
+        Placed::Outside => Look::Damaged,
+        Placed::Within(block) => Look::Inner(block),
+    }
+}
