@@ -5,7 +5,7 @@ ghost use Rattle.curator.specs.Changes.{created, Adds};
 ghost use Rattle.curator.specs.Lent.{lent, adding};
 
 mod add;
-mod limits;
+pub mod limits;
 pub mod refusal;
 
 use refusal::Refusal;

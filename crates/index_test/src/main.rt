@@ -1,0 +1,262 @@
+// Every refusal of `new` and `add` at its boundary, and what the lists hold after each add. The lists are longer than their sizes and marked
+// beforehand, so that a surplus place that is written shows. A line has the number that is returned, 0 where the call is accepted; after an
+// add follow the counts of vectors and entries and the three lists.
+ghost use Prim.Native.Nat.{_≤_};
+use curator::Capacities;
+use curator::Changed;
+use curator::CuratorIndex;
+use curator::CuratorParams;
+use walk::Counts;
+
+// The bits of an f32; a NaN has one pattern.
+fn bits(x: f32) -> u32 {
+    if x != x {
+        return 0x7FC0_0000;
+    }
+    f32::to_bits(x)
+}
+
+fn print_number(n: u64) {
+    io::print_decimal(1, n);
+    io::write_all(1, b" ");
+}
+
+fn print_floats(list: &[f32]) {
+    let mut i = 0;
+    while i < list.len() {
+        io::print_hex(1, bits(list[i]) as u64, 8);
+        io::write_all(1, b" ");
+        i += 1;
+    }
+    io::write_all(1, b"\n");
+}
+
+fn wide(x: u32) -> u64 {
+    x as u64
+}
+
+fn print_numbers(list: &[u32]) {
+    let mut i = 0;
+    while i < list.len() {
+        print_number(wide(list[i]));
+        i += 1;
+    }
+    io::write_all(1, b"\n");
+}
+
+fn print_hashes(list: &[u64]) {
+    let mut i = 0;
+    while i < list.len() {
+        io::print_hex(1, list[i], 16);
+        io::write_all(1, b" ");
+        i += 1;
+    }
+    io::write_all(1, b"\n");
+}
+
+fn print_lists(floats: &[f32; 10], numbers: &[u32; 17], hashes: &[u64; 8]) {
+    print_floats(floats);
+    print_numbers(numbers);
+    print_hashes(hashes);
+}
+
+// The number of an answer, and the counts of vectors and entries where there are any.
+fn print_answer(answer: Changed) {
+    match answer {
+        Changed::Refused(r) => print_number(wide(r.number())),
+        Changed::Index(index) => {
+            print_number(0);
+            print_number(index.counts.vectors as u64);
+            print_number(index.counts.entries as u64);
+        }
+    }
+    io::write_all(1, b"\n");
+}
+
+fn params(
+    branching_factor: usize,
+    max_leaf_size: usize,
+    ef_search: usize,
+    beam_width: usize,
+) -> CuratorParams {
+    CuratorParams {
+        branching_factor,
+        max_leaf_size,
+        ef_search,
+        beam_width,
+    }
+}
+
+fn capacities(vectors: usize, entries: usize, nodes: usize) -> Capacities {
+    Capacities {
+        vectors,
+        entries,
+        nodes,
+    }
+}
+
+fn new_dimension(dimension: usize) {
+    print_answer(CuratorIndex::new(dimension, CuratorParams::default(), capacities(1, 0, 1)));
+}
+
+fn new_params(p: CuratorParams) {
+    print_answer(CuratorIndex::new(2, p, capacities(1, 0, 1)));
+}
+
+fn new_capacities(c: Capacities) {
+    print_answer(CuratorIndex::new(2, CuratorParams::default(), c));
+}
+
+fn dimensions() {
+    new_dimension(0);
+    new_dimension(1);
+    new_dimension(128);
+    new_dimension(129);
+}
+
+fn settings() {
+    new_params(params(0, 128, 256, 4));
+    new_params(params(1, 128, 256, 4));
+    new_params(params(64, 128, 256, 4));
+    new_params(params(65, 128, 256, 4));
+    new_params(params(16, 0, 0, 0));
+    new_params(params(16, 4096, 256, 4));
+    new_params(params(16, 4097, 256, 4));
+    new_params(params(16, 128, 65537, 4));
+    new_params(params(16, 128, 65538, 4));
+    new_params(params(16, 128, 256, 65535));
+    new_params(params(16, 128, 256, 65536));
+}
+
+fn sizes() {
+    new_capacities(capacities(0, 0, 1));
+    new_capacities(capacities(4096, 0, 1));
+    new_capacities(capacities(4097, 0, 1));
+    new_capacities(capacities(1, 16384, 1));
+    new_capacities(capacities(1, 16385, 1));
+    new_capacities(capacities(1, 0, 0));
+    new_capacities(capacities(1, 0, 65537));
+    new_capacities(capacities(1, 0, 65538));
+    print_answer(CuratorIndex::new(0, params(0, 128, 256, 4), capacities(0, 0, 0)));
+}
+
+// A state with D 2, B 1, V 2, E 2 and M 1: 8 floats, 15 numbers, 6 hashes.
+fn state(vectors: usize, entries: usize, nodes: usize, built: bool) -> CuratorIndex {
+    CuratorIndex {
+        dimension: 2,
+        params: params(1, 128, 256, 4),
+        capacities: capacities(2, 2, 1),
+        counts: Counts {
+            vectors,
+            entries,
+            nodes,
+        },
+        built,
+    }
+}
+
+// An add to lists of the lengths given, of document 77.
+fn try_add(
+    index: CuratorIndex,
+    f: usize,
+    n: usize,
+    h: usize,
+    vector: &[f32],
+    lengths: &[u8],
+    bytes: &[u8],
+)
+    requires { ⌜ (f ≤ 10) × (n ≤ 17) × (h ≤ 8) ⌝ }
+{
+    let mut floats = [9.0f32; 10];
+    let mut numbers = [9u32; 17];
+    let mut hashes = [9u64; 8];
+    print_answer(index.add(
+        &mut floats[..f],
+        &mut numbers[..n],
+        &mut hashes[..h],
+        77,
+        vector,
+        lengths,
+        bytes,
+    ));
+    print_lists(&floats, &numbers, &hashes);
+}
+
+fn states(vector: &[f32]) {
+    try_add(state(3, 0, 0, false), 10, 17, 8, vector, b"", b"");
+    try_add(state(0, 3, 0, false), 10, 17, 8, vector, b"", b"");
+    try_add(state(1, 0, 2, true), 10, 17, 8, vector, b"", b"");
+    try_add(state(0, 0, 1, true), 10, 17, 8, vector, b"", b"");
+    try_add(state(1, 0, 0, true), 10, 17, 8, vector, b"", b"");
+    try_add(state(1, 0, 1, false), 10, 17, 8, vector, b"", b"");
+    try_add(state(3, 0, 0, false), 0, 0, 0, vector, b"", b"");
+}
+
+fn lists(vector: &[f32]) {
+    try_add(state(0, 0, 0, false), 7, 15, 6, vector, b"", b"");
+    try_add(state(0, 0, 0, false), 8, 14, 6, vector, b"", b"");
+    try_add(state(0, 0, 0, false), 8, 15, 5, vector, b"", b"");
+    try_add(state(0, 0, 0, false), 8, 15, 6, vector, b"", b"");
+    try_add(state(1, 0, 1, true), 8, 15, 5, vector, b"", b"");
+    try_add(state(1, 0, 1, true), 8, 15, 6, &[3.0f32], b"", b"");
+}
+
+fn vectors() {
+    let least = -1.4e-45f32;
+    let greatest = 3.4028235e38f32;
+    let infinity = greatest * 2.0;
+    let nan = infinity - infinity;
+    try_add(state(0, 0, 0, false), 10, 17, 8, &[3.0f32], b"", b"");
+    try_add(state(0, 0, 0, false), 10, 17, 8, &[nan, nan, nan], b"", b"");
+    try_add(state(0, 0, 0, false), 10, 17, 8, &[greatest, 0.0], b"", b"");
+    try_add(state(0, 0, 0, false), 10, 17, 8, &[0.0, least], b"", b"");
+    try_add(state(0, 0, 0, false), 10, 17, 8, &[infinity, 0.0], b"", b"");
+    try_add(
+        state(0, 0, 0, false),
+        10,
+        17,
+        8,
+        &[0.0, -infinity],
+        b"",
+        b"",
+    );
+    try_add(state(0, 0, 0, false), 10, 17, 8, &[0.0, nan], b"\x01", b"");
+}
+
+fn labels(vector: &[f32]) {
+    try_add(state(0, 0, 0, false), 10, 17, 8, vector, b"\x01", b"");
+    try_add(state(0, 0, 0, false), 10, 17, 8, vector, b"\x01", b"a");
+    try_add(state(0, 0, 0, false), 10, 17, 8, vector, b"\x01", b"ab");
+    try_add(state(0, 0, 0, false), 10, 17, 8, vector, b"\x01\x00", b"a");
+    try_add(state(2, 0, 0, false), 10, 17, 8, vector, b"", b"a");
+}
+
+fn room(vector: &[f32]) {
+    try_add(state(1, 0, 0, false), 10, 17, 8, vector, b"", b"");
+    try_add(state(2, 0, 0, false), 10, 17, 8, vector, b"", b"");
+    try_add(state(2, 2, 0, false), 10, 17, 8, vector, b"\x01", b"a");
+    try_add(state(1, 2, 0, false), 10, 17, 8, vector, b"", b"");
+    try_add(state(1, 1, 0, false), 10, 17, 8, vector, b"\x02", b"ab");
+    try_add(state(1, 1, 0, false), 10, 17, 8, vector, b"\x01\x01", b"ab");
+    try_add(
+        state(0, 0, 0, false),
+        10,
+        17,
+        8,
+        vector,
+        b"\x00\x00\x00",
+        b"",
+    );
+}
+
+fn main() {
+    dimensions();
+    settings();
+    sizes();
+    let vector = [3.0f32, 4.0];
+    states(&vector);
+    lists(&vector);
+    vectors();
+    labels(&vector);
+    room(&vector);
+}
