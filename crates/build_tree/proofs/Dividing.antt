@@ -1,7 +1,7 @@
 -- A group that is split: the marks of the third round sort its ids into the clusters, which take their place in the numbers.
 use Prim.Native.Nat.{ℕ, _+_, _-_, _*_, _≤_, _<_, min}
-use mathlib.Core.Path.{_≡_, refl, sym, ap, ap₂, subst, _∙_}
-use mathlib.Core.List.{List, [], _∷_, _++_}
+use mathlib.Core.Path.{_≡_, sym, ap, ap₂, subst, _∙_}
+use mathlib.Core.List.{List, [], _∷_}
 use native.Mathlib.Nat.{mul-comm, mul-le-mul-right}
 use native.Mathlib.Omega.{arith}
 use lib.Ieee.{Float}
@@ -12,8 +12,8 @@ use Rattle.lists.specs.Parts.{length-part, part-sets-same}
 use Rattle.lists.specs.Counting.{length-keep-le}
 use Rattle.lists.specs.Partition.{perm-length}
 use Rattle.store.specs.declared.Shape.{Shape}
-use Rattle.store.specs.Store.{Limits, centresAt, floatsSize, workSize}
-use Rattle.cluster.specs.Clusters.{clusters, clusterCount, lastCentres}
+use Rattle.store.specs.Store.{Limits, centresAt}
+use Rattle.cluster.specs.Clusters.{clusters, lastCentres}
 use Rattle.cluster.specs.Lent.{vectorsIn, assignment, Room, AlikeBut, Clustered}
 use Rattle.cluster.specs.Alike.{alike-trans, alike-sets, alike-widen}
 use Rattle.cluster.specs.Groups.{perm-clusters, length-clusters}

@@ -1,18 +1,18 @@
 -- One node is made of a group: the header is cleared, so that the group's ids stand in the numbers; then a leaf keeps them, and an inner node has its
 -- clusters in their place.
-use Prim.Native.Nat.{ℕ, suc, _+_, _-_, _*_, _/_, _%_, _≤_, _<_, max}
+use Prim.Native.Nat.{ℕ, _+_, _-_, _*_, _/_, _%_, _≤_, _<_}
 use mathlib.Core.Path.{_≡_, refl, sym, ap, ap₂, subst, _∙_}
 use mathlib.Core.Bool.{Bool, true, false}
 use mathlib.Core.List.{List, [], _∷_, _++_, append-nil}
-use native.Mathlib.Nat.{mul-add, not-suc-le-zero}
+use native.Mathlib.Nat.{not-suc-le-zero}
 use native.Mathlib.Omega.{arith}
 use lib.Ieee.{Float}
-use lib.ListN.{length, getD, set, take, drop, length-append, length-set}
-use lib.Seq.{sets, length-sets}
+use lib.ListN.{length, getD, set, take, drop, length-set}
+use lib.Seq.{sets}
 use Rattle.lists.specs.Lists.{part, keep, joined}
 use Rattle.lists.specs.Parts.{take-sets, part-sets-same, sets-sets-same}
 use Rattle.store.specs.declared.Shape.{Shape}
-use Rattle.store.specs.Store.{Limits, centroidsAt, centresAt, floatsSize, orderAt, nodesAt, numbersSize, workSize}
+use Rattle.store.specs.Store.{centroidsAt, centresAt, orderAt, nodesAt, workSize}
 use Rattle.cluster.specs.Clusters.{clusters, meanOf}
 use Rattle.cluster.specs.Lent.{vectorsIn, Room, AlikeBut}
 use Rattle.cluster.specs.Vectors.{vectorsIn-front}
@@ -20,7 +20,7 @@ use Rattle.cluster.specs.Alike.{alike-refl, alike-widen}
 use Rattle.tree.specs.Tree.{Splitting}
 use Rattle.tree.specs.Layout.{startOf}
 use Rattle.tree.specs.Steps.{Group, isLeaf, childGroups, childGroups-leaf}
-use Rattle.build_tree.specs.Waiting.{nonEmptyList, headed, encoded, groupAt, leafBy, own, stands, six}
+use Rattle.build_tree.specs.Waiting.{nonEmptyList, headed, encoded, groupAt, leafBy, stands, six}
 use Rattle.build_tree.specs.WaitingLaws.{group-size, group-levels, head-cleared, leaf-by-size, inner-levels, children-encoded, children-count}
 use Rattle.build_tree.specs.MadeLaws.{own-leaf, own-inner}
 use Rattle.build_tree.specs.Standing.{vectors-end, centroid-end, centres-end}

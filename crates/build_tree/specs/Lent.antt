@@ -1,5 +1,5 @@
 -- What the functions of this crate ask of the lists that they are lent, and what they leave in them.
-use Prim.Native.Nat.{ℕ, _+_, _*_, _≤_, _<_, max}
+use Prim.Native.Nat.{ℕ, _+_, _*_, _≤_, _<_}
 use mathlib.Core.Path.{_≡_}
 use mathlib.Core.List.{List, [], _∷_}
 use lib.Ieee.{Float}
@@ -15,7 +15,7 @@ use Rattle.tree.specs.Nodes.{Entries, nodesOf}
 use Rattle.tree.specs.Layout.{floatsOf}
 use Rattle.tree.specs.Made.{madeFrom}
 use Rattle.tree.specs.Steps.{Group}
-use Rattle.build_tree.specs.Waiting.{nonEmptyList, headed, groupAt, own, stands, six}
+use Rattle.build_tree.specs.Waiting.{nonEmptyList, headed, own, stands, six}
 use Rattle.build_tree.specs.declared.Made.{Made}
 use Rattle.build_tree.specs.declared.Made.the-variants as Made′
 

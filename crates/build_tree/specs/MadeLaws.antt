@@ -1,10 +1,10 @@
 -- Laws of what is made of groups: six numbers, leaves and centroids, one group more, and all of them; and the children's groups may wait.
-use Prim.Native.Nat.{ℕ, zero, suc, _+_, _-_, _*_, _≤_, _<_}
+use Prim.Native.Nat.{ℕ, zero, suc, _+_, _*_, _≤_, _<_}
 use mathlib.Core.Path.{_≡_, refl, sym, ap, ap₂, subst, _∙_}
 use mathlib.Core.Logic.{_⊎_, inl, inr}
-use mathlib.Core.Bool.{Bool, true, false, cond, false≢true}
+use mathlib.Core.Bool.{Bool, true, false, cond}
 use mathlib.Core.List.{List, [], _∷_, _++_, map, append-assoc, append-nil, List·Memᴰ, List·Memᴰ·head, List·Memᴰ·tail, List·Memᴰ·not-nil, List·Memᴰ·cases-cons}
-use native.Mathlib.Nat.{add-zero, add-assoc, mul-comm, mul-add, mul-le-mul-right, suc-mul, not-suc-le-zero}
+use native.Mathlib.Nat.{add-zero}
 use native.Mathlib.Omega.{arith}
 use lib.Ieee.{Float}
 use lib.ListN.{length, getD, length-append}
@@ -65,14 +65,6 @@ module _ (s : Splitting) (vectors : List (List Float)) where
       let e = length-encoded (childGroups s vectors g) in
       let c = own-children b g in
       omega arith
-
-  pub own-few : (g : Group) → length (own s g) ≤ length (g .ids)
-  unfolding own
-  own-few g = go (isLeaf s (g .levels) (g .ids))
-    where
-      go : (b : Bool) → length (cond b (g .ids) []) ≤ length (g .ids)
-      go true = omega arith
-      go false = omega arith
 
   -- the children's groups may wait
   member-below : (n : ℕ) (ids group : List ℕ) → 1 ≤ s .branching → ((i : ℕ) → i < length ids → getD ids i 0 < n) → List·Memᴰ group (groups s vectors ids)

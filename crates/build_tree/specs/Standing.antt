@@ -1,20 +1,19 @@
 -- A tree that is being made stands in the lists: some nodes are made and some groups wait. It begins with the root's group; a node is made of the
 -- first group that waits, and its children's groups take that group's place; it ends where none waits.
-use Prim.Native.Nat.{ℕ, zero, suc, _+_, _-_, _*_, _≤_, _<_, max}
+use Prim.Native.Nat.{ℕ, _+_, _-_, _*_, _≤_, _<_}
 use mathlib.Core.Path.{_≡_, refl, sym, ap, ap₂, subst, _∙_}
 use mathlib.Core.Logic.{_⊎_, inl, inr}
 use mathlib.Core.List.{List, [], _∷_, _++_, append-assoc, append-nil, List·Memᴰ, List·Memᴰ·head, List·Memᴰ·tail, List·Memᴰ·not-nil, List·Memᴰ·cases-cons, List·Memᴰ·append-cases}
 use native.Mathlib.Nat.{add-zero, zero-add, mul-comm, mul-add, mul-le-mul-right, not-suc-le-zero}
-use native.Mathlib.Numerals.{add-one}
 use native.Mathlib.Omega.{arith}
 use lib.Ieee.{Float}
-use lib.ListN.{length, getD, take, drop, length-append, length-drop, take-append-drop}
+use lib.ListN.{length, take, drop, length-append, length-drop, take-append-drop}
 use lib.Seq.{sets, length-sets, length-take-le}
 use Rattle.lists.specs.Lists.{part, joined, countFrom}
 use Rattle.lists.specs.Counting.{joined-append, length-countFrom, getD-countFrom}
 use Rattle.lists.specs.Parts.{length-part, sets-append, sets-comm, take-sets, drop-sets, take-sets-in, part-sets-before}
 use Rattle.store.specs.declared.Shape.{Shape}
-use Rattle.store.specs.Store.{Limits, centroidsAt, centresAt, floatsSize, orderAt, nodesAt, numbersSize, workSize}
+use Rattle.store.specs.Store.{centroidsAt, centresAt, orderAt, nodesAt, workSize}
 use Rattle.cluster.specs.Clusters.{meanOf}
 use Rattle.cluster.specs.Laws.{length-meanOf}
 use Rattle.cluster.specs.Lent.{vectorsIn, AlikeBut}
@@ -29,7 +28,6 @@ use Rattle.build_tree.specs.Waiting.{headed, encoded, groupAt, own, stan
 use Rattle.build_tree.specs.WaitingLaws.{length-headed, encoded-cons, encoded-append, length-encoded, group-read, sets-middle, part-middle-sets}
 use Rattle.build_tree.specs.MadeLaws.{own-children, length-stands, children-sound, leaves-snoc, centroids-snoc, length-centroids, length-sixes, sixes-snoc, order-step, six-all, leaves-all, centroids-all}
 use Rattle.build_tree.specs.Lent.{splittingOf, Lent, Sound, Waits, Stepped, Replaced, BothReplaced, Whole, Overfull, Built}
-use Rattle.build_tree.specs.declared.Made.{Made}
 use Rattle.build_tree.specs.declared.Made.the-variants as Made′
 
 -- ---- places

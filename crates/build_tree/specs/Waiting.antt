@@ -5,8 +5,8 @@ use mathlib.Core.Bool.{Bool, true, cond}
 use mathlib.Core.List.{List, [], _∷_, _++_, map}
 use lib.Dec.{leb, ltb}
 use lib.Ieee.{Float}
-use lib.ListN.{length, getD, take, drop}
-use Rattle.lists.specs.Lists.{part, keep, joined, countFrom}
+use lib.ListN.{length, getD}
+use Rattle.lists.specs.Lists.{part, joined, countFrom}
 use Rattle.cluster.specs.Clusters.{meanOf}
 use Rattle.cluster.specs.Lent.{withMark}
 use Rattle.tree.specs.Tree.{Splitting}

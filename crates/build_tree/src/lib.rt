@@ -19,8 +19,8 @@ pub enum Made {
     TooMany,
 }
 
-// All ids wait as one group, the root's, from `at` on. 16 levels below the root may be split: the root has depth 0, and a node with depth above 15 is
-// a leaf.
+// All ids wait as one group, the root's, from `at` on. 16 levels may be split, the depths 0 to 15: the root has depth 0, and a node with depth above
+// 15 is a leaf.
 pub fn begin(numbers: &mut [u32], at: usize, n: usize)
     requires { ⌜ at + n ≤ length (now numbers) ⌝ }
     requires { ⌜ 1 ≤ n ⌝ }

@@ -1,7 +1,7 @@
 // An inner node: the ids of its group are split into clusters, and the non-empty ones wait in its place.
-ghost use Prim.Native.Nat.{ℕ, _+_, _*_, _≤_, _<_, min};
+ghost use Prim.Native.Nat.{_+_, _*_, _≤_, _<_, min};
 ghost use mathlib.Core.Path.{_≡_};
-ghost use lib.ListN.{length, getD};
+ghost use lib.ListN.{length};
 ghost use Rattle.store.specs.Store.{Limits, centresAt};
 ghost use Rattle.cluster.specs.Lent.{Room};
 ghost use Rattle.build_tree.specs.Lent.{Lent, Splits, Clustering, Divided};

@@ -1,26 +1,25 @@
 -- The filters, from the last node to the first, over numbers that have the nodes laid out.
 use Prim.Native.Nat.{ℕ, zero, suc, _+_, _-_, _*_, _≤_, _<_}
-use mathlib.Core.Path.{_≡_, refl, sym, ap, ap₂, _∙_, subst}
-use mathlib.Core.List.{List, [], _∷_, _++_, map, List·Memᴰ}
+use mathlib.Core.Path.{_≡_, sym, ap, ap₂, _∙_, subst}
+use mathlib.Core.List.{List, map, List·Memᴰ}
 use native.Mathlib.Nat.{zero-add}
 use native.Mathlib.Omega.{arith}
 use lib.Ieee.{Float}
-use lib.ListN.{length, getD, take, drop, length-drop}
+use lib.ListN.{length, getD, drop, length-drop}
 use lib.Seq.{sets, drop-cons, drop-length, getD-drop}
 use Rattle.lists.specs.Lists.{part, joined}
 use Rattle.lists.specs.Counting.{getD-Memᴰ, every-Memᴰ, joined-cons, joined-nil}
-use Rattle.lists.specs.Parts.{length-part, getD-part, part-part, getD-sets-before, part-sets-same, sets-append, sets-comm}
+use Rattle.lists.specs.Parts.{getD-part, part-part, getD-sets-before, part-sets-same, sets-append, sets-comm}
 use Rattle.store.specs.declared.Shape.{Shape}
-use Rattle.store.specs.Store.{ownersAt, orderAt, nodesAt, linksAt, entryOrderAt, filtersAt, numbersSize, hashesSize}
+use Rattle.store.specs.Store.{nodesAt, linksAt, entryOrderAt, filtersAt, numbersSize, hashesSize}
 use Rattle.label.specs.Filter.{emptyFilter, insertAll}
 use Rattle.tree.specs.Tree.{Splitting, treeOf, size}
-use Rattle.tree.specs.Nodes.{Entries, Node, nodesOf, entriesOf}
+use Rattle.tree.specs.Nodes.{Entries, Node, nodesOf}
 use Rattle.tree.specs.Layout.{startOf, numbersOf, hashesOf}
 use Rattle.tree.specs.TreeLaws.{fair-treeOf}
 use Rattle.tree.specs.NodeLaws.{length-nodesOf, entry-below, unionAll}
 use Rattle.tree.specs.Subtrees.{node-entries, node-filter-length, node-children, filter-at}
 use Rattle.tree.specs.LayoutLaws.{blockAt, NodesFit, sixOf, length-numbersOf, field-read, children-read, entries-read, start-end, length-blocks, row-read}
-use Rattle.label_entries.specs.declared.Places.{Places}
 use Rattle.label_entries.specs.Passes.{placesOf, cell, entryBlock, childBlock, filterMade, filtersMade, RowFits}
 use Rattle.label_entries.proofs.Filtering.{map-same, made-next, made-none}
 use Rattle.label_entries.proofs.Rows.{noNode}

@@ -1,16 +1,15 @@
 -- A filter of four words in the list of hashes: what a turn of the loops over entries and over children writes, and the filter of a node.
-use Prim.Native.Nat.{ℕ, zero, suc, _+_, _-_, _*_, _≤_, _<_}
-use mathlib.Core.Path.{_≡_, refl, sym, ap, ap₂, _∙_, subst}
+use Prim.Native.Nat.{ℕ, suc, _+_, _-_, _*_, _≤_, _<_}
+use mathlib.Core.Path.{_≡_, refl, sym, ap, ap₂, _∙_}
 use mathlib.Core.List.{List, [], _∷_, _++_, map, map-append}
-use native.Mathlib.Nat.{not-suc-le-zero, le-of-suc-le-suc}
 use native.Mathlib.Numerals.{add-one}
 use native.Mathlib.Omega.{arith}
-use lib.ListN.{length, getD, take, drop, set}
+use lib.ListN.{length, getD, take, drop}
 use lib.Seq.{sets, length-sets, take-suc}
 use Rattle.lists.specs.Lists.{part}
-use Rattle.lists.specs.Parts.{length-part, getD-part, part-cons, getD-sets-before, part-sets-same, part-sets-after, sets-sets-same, sets-self, lent-part}
+use Rattle.lists.specs.Parts.{length-part, part-cons, getD-sets-before, part-sets-same, part-sets-after, sets-sets-same, sets-self, lent-part}
 use Rattle.label.specs.Filter.{emptyFilter, insertHash, insertAll, union}
-use Rattle.label.specs.FilterLaws.{insert-four, insertAll-append, insertAll-four, union-four}
+use Rattle.label.specs.FilterLaws.{insertAll-append, insertAll-four, union-four}
 use Rattle.tree.specs.NodeLaws.{unionAll}
 use Rattle.label_entries.specs.declared.Places.{Places}
 use Rattle.label_entries.specs.Passes.{filterMade, filtersMade, entryBlock, childBlock}
@@ -83,12 +82,12 @@ inserted-next l₀ l ys at entries k x hash h g is e b q w =
     let n = inserted-four l₀ at entries k h in
     let m : List ℕ → List ℕ = map (λ x. getD l₀ x 0) in
     let read : hash ≡ getD l₀ (getD entries k 0) 0 =
-        q ∙ ap (λ (r : List ℕ). getD r x 0) is ∙ getD-sets-before l₀ at f x 0 b ∙ ap (λ (j : ℕ). getD l₀ j 0) e in
+    q ∙ ap (λ (r : List ℕ). getD r x 0) is ∙ getD-sets-before l₀ at f x 0 b ∙ ap (λ (j : ℕ). getD l₀ j 0) e in
     let one : inserted l₀ at entries (k + 1) ≡ insertHash f (getD l₀ (getD entries k 0) 0) =
-        ap (λ (j : ℕ). insertAll (part at 4 l₀) (m (take j entries))) (add-one k)
-        ∙ ap (λ (r : List ℕ). insertAll (part at 4 l₀) (m r)) (take-suc entries k 0 g)
-        ∙ ap (insertAll (part at 4 l₀)) (map-append (λ x. getD l₀ x 0) (take k entries) (getD entries k 0 ∷ []))
-        ∙ insertAll-append (part at 4 l₀) (m (take k entries)) (getD l₀ (getD entries k 0) 0 ∷ []) in
+    ap (λ (j : ℕ). insertAll (part at 4 l₀) (m (take j entries))) (add-one k)
+    ∙ ap (λ (r : List ℕ). insertAll (part at 4 l₀) (m r)) (take-suc entries k 0 g)
+    ∙ ap (insertAll (part at 4 l₀)) (map-append (λ x. getD l₀ x 0) (take k entries) (getD entries k 0 ∷ []))
+    ∙ insertAll-append (part at 4 l₀) (m (take k entries)) (getD l₀ (getD entries k 0) 0 ∷ []) in
     back l₀ l f ys at h n is (inserted l₀ at entries (k + 1)) (inserted-four l₀ at entries (k + 1) h)
     (w ∙ ap₂ insertHash (words-there l₀ l f ys at h n is) read ∙ sym one)
 
@@ -134,8 +133,8 @@ pub united-next : (l₀ l ys other : List ℕ) (filters at : ℕ) (children : Li
 united-next l₀ l ys other filters at children k x h g n n′ is e b q w =
     let f = united l₀ filters at children k in
     let read : other ≡ part (filters + 4 * getD children k 0) 4 l₀ =
-        q ∙ ap (part (filters + 4 * x) 4) is ∙ part-sets-after (filters + 4 * x) 4 l₀ at f (omega arith)
-        ∙ ap (λ (j : ℕ). part (filters + 4 * j) 4 l₀) e in
+    q ∙ ap (part (filters + 4 * x) 4) is ∙ part-sets-after (filters + 4 * x) 4 l₀ at f (omega arith)
+    ∙ ap (λ (j : ℕ). part (filters + 4 * j) 4 l₀) e in
     back l₀ l f ys at h n is (united l₀ filters at children (k + 1)) n′
     (w ∙ ap₂ union (words-there l₀ l f ys at h n is) read ∙ sym (united-step l₀ filters at children k g))
 
@@ -155,15 +154,6 @@ union-kids f g (x ∷ kids) n h =
     union-kids (union f (g x)) g kids (union-four f (g x) n (h 0 (let k : 0 < length (x ∷ kids) = omega arith in k)))
     (λ k b. h (suc k) (let c : suc k < length (x ∷ kids) = omega arith in c))
 
--- an element of a lent part
-pub block-element : (from w : ℕ) (l : List ℕ) (k : ℕ) → from + w ≤ length l → k < length (take (from + w - from) (drop from l))
-    → (k < w) × (getD (take (from + w - from) (drop from l)) k 0 ≡ getD l (from + k) 0)
-block-element from w l k h b =
-    let is = lent-is from w l in
-    let n = ap (λ (r : List ℕ). length r) is ∙ length-part from w l h in
-    let b′ : k < w = omega arith in
-    (b′, ap (λ (r : List ℕ). getD r k 0) is ∙ getD-part from w l k 0 b′)
-
 pub filter-made : (p : Places) (l h₀ h₂ h₃ ys ents kids : List ℕ) (at i : ℕ) → at ≡ p .filters + 4 * i → at + 4 ≤ length h₀ → ys ≡ emptyFilter
     → (h₁ : List ℕ) → h₁ ≡ take at h₀ ++ (ys ++ drop (at + 4 - at) (drop at h₀))
     → h₂ ≡ sets h₁ at (insertAll (part at 4 h₁) (map (λ x. getD h₁ x 0) ents))
@@ -181,11 +171,11 @@ filter-made p l h₀ h₂ h₃ ys ents kids at i place fits clear h₁ is₁ is�
     let ins = insertAll emptyFilter (map hash ents) in
     let four : length ins ≡ 4 = insertAll-four emptyFilter (map hash ents) refl in
     let e₂ : h₂ ≡ sets h₀ at ins =
-        is₂
-        ∙ ap (λ (r : List ℕ). sets r at (insertAll (part at 4 r) (map (λ x. getD r x 0) ents))) e₁
-        ∙ ap₂ (λ (f m : List ℕ). sets (sets h₀ at emptyFilter) at (insertAll f m)) (filter-read h₀ emptyFilter at fits refl)
-        (map-same (λ x. getD (sets h₀ at emptyFilter) x 0) hash ents (λ k b. getD-sets-before h₀ at emptyFilter (getD ents k 0) 0 (below k b)))
-        ∙ filter-over h₀ emptyFilter ins at refl four in
+    is₂
+    ∙ ap (λ (r : List ℕ). sets r at (insertAll (part at 4 r) (map (λ x. getD r x 0) ents))) e₁
+    ∙ ap₂ (λ (f m : List ℕ). sets (sets h₀ at emptyFilter) at (insertAll f m)) (filter-read h₀ emptyFilter at fits refl)
+    (map-same (λ x. getD (sets h₀ at emptyFilter) x 0) hash ents (λ k b. getD-sets-before h₀ at emptyFilter (getD ents k 0) 0 (below k b)))
+    ∙ filter-over h₀ emptyFilter ins at refl four in
     let all = unionAll ins (map child kids) in
     let four′ : length all ≡ 4 = union-kids ins child kids four (λ k b. length-four h₀ (p .filters + 4 * getD kids k 0) (within k b)) in
     is₃

@@ -1,31 +1,30 @@
 -- The passes one after the other make of the lists of an index whose nodes are made those of the layout.
-use Prim.Native.Nat.{ℕ, zero, suc, _+_, _-_, _*_, _≤_, _<_, _^_}
+use Prim.Native.Nat.{ℕ, zero, suc, _+_, _-_, _*_, _≤_, _<_}
 use mathlib.Core.Path.{_≡_, refl, sym, ap, ap₂, _∙_, subst}
-use mathlib.Core.List.{List, [], _∷_, _++_, map}
+use mathlib.Core.List.{List, [], _∷_, map}
 use native.Mathlib.Nat.{zero-add}
 use native.Mathlib.Omega.{arith}
-use lib.ListN.{length, getD, set, take, drop, length-append, length-drop}
-use lib.Seq.{sets, length-sets, take-length, drop-cons, drop-length, drop-drop, getD-drop, drop-set-lt}
+use lib.ListN.{length, getD, set, drop}
+use lib.Seq.{sets, length-sets, take-length, drop-drop, drop-set-lt}
 use Rattle.lists.specs.Lists.{part, joined, countFrom}
-use Rattle.lists.specs.Counting.{sumOf, sumOf-map, length-joined, getD-Memᴰ}
+use Rattle.lists.specs.Counting.{sumOf, sumOf-map, length-joined}
 use Rattle.lists.specs.Partition.{count, List·Permᴰ}
-use Rattle.lists.specs.Parts.{length-part, getD-part, part-part, getD-sets-before, getD-sets-after, part-sets-same, part-sets-in, set-sets-before, sets-self, sets-part, sets-append, sets-comm}
+use Rattle.lists.specs.Parts.{length-part, getD-part, getD-sets-before, set-sets-before, sets-self, sets-part}
 use Rattle.store.specs.declared.Shape.{Shape}
-use Rattle.store.specs.Store.{ownersAt, orderAt, nodesAt, linksAt, entryOrderAt, filtersAt, numbersSize, hashesSize, workSize}
-use Rattle.tree.specs.Tree.{treeOf, size}
-use Rattle.tree.specs.Nodes.{Entries, Node, nodesOf}
-use Rattle.tree.specs.Layout.{sixFrom, startOf, numbersOf, hashesOf}
-use Rattle.tree.specs.TreeLaws.{Once, once-perm, once-countFrom, fair-treeOf}
-use Rattle.tree.specs.NodeLaws.{length-ids, length-nodesOf, length-entries, perm-entries, unionAll}
+use Rattle.store.specs.Store.{ownersAt, orderAt, nodesAt, linksAt, entryOrderAt, workSize}
+use Rattle.tree.specs.Nodes.{Entries, Node}
+use Rattle.tree.specs.Layout.{sixFrom, numbersOf}
+use Rattle.tree.specs.TreeLaws.{once-perm, once-countFrom}
+use Rattle.tree.specs.NodeLaws.{length-ids, length-nodesOf, perm-entries}
 use Rattle.tree.specs.Links.{Linked, linkUp, linkUp-nodesOf, length-linked}
-use Rattle.tree.specs.LayoutLaws.{blockAt, block-read, block-end, NodesFit, nodesOf-fit, sixOf, length-numbersOf, field-read, children-read, entries-read}
+use Rattle.tree.specs.LayoutLaws.{blockAt, block-read, block-end, NodesFit, nodesOf-fit}
 use Rattle.tree.specs.Made.{madeFrom}
 use Rattle.label_entries.specs.Passes.{written, cellAt, cell, cells, column, sumTo, blockStart, Counts, marked, leavesMarked, classStart, classPlace}
 use Rattle.label_entries.specs.Finish.{held, Room, AllMade, nodesMade, Used}
 use Rattle.label_entries.proofs.Written.{Distinct, length-written, getD-written-other, getD-written-same}
 use Rattle.label_entries.proofs.Marking.{length-marked}
 use Rattle.label_entries.proofs.Classes.{classTo, length-class-all, sumTo-congr, sumTo-block, sorted-is}
-use Rattle.label_entries.proofs.Rows.{noNode, cells-are, id-count, id-sum, table-is}
+use Rattle.label_entries.proofs.Rows.{noNode, cells-are, id-count, table-is}
 use Rattle.label_entries.proofs.Owners.{marked-at, order-distinct, order-below, In, leaf-of, classes-are}
 
 -- places written before a run
@@ -57,9 +56,11 @@ drop-marked places counts (suc n) l m h =
 -- a list that is as before past a place
 pub used-front : (before after : List ℕ) (m : ℕ) → m ≤ length before → length after ≡ length before → drop m after ≡ drop m before → Used m before after
 used-front before after m h n e =
-    let z = zero-add m in
-    (part 0 m after, length-part 0 m after (omega arith),
-    sym (sets-part before after 0 m (omega arith) (omega arith) refl (ap (λ (k : ℕ). drop k before) z ∙ sym e ∙ ap (λ (k : ℕ). drop k after) (sym z))))
+    let z = zero-add m in (
+      part 0 m after,
+      length-part 0 m after (omega arith),
+      sym (sets-part before after 0 m (omega arith) (omega arith) refl (ap (λ (k : ℕ). drop k before) z ∙ sym e ∙ ap (λ (k : ℕ). drop k after) (sym z))),
+    )
 
 pub drop-later : (l m : List ℕ) (a b : ℕ) → a ≤ b → drop a l ≡ drop a m → drop b l ≡ drop b m
 drop-later l m a b h e =
@@ -120,8 +121,8 @@ module _ (s : Shape) (n e rows : ℕ) (numbers hashes work₀ : List ℕ) (room 
   counts-ok =
       let cs = cells (nodesAt s + 1) rows numbers in
       let a : sumOf (λ c. c) cs ≡ length (linkUp 0 cs .links) =
-          ap (sumOf (λ c. c)) counts-is ∙ sumOf-map (λ c. c) (λ node. length (node .children)) nodes
-          ∙ sym (ap (λ (r : List ℕ). length r) links-is ∙ length-joined (λ node. node .children) nodes) in
+      ap (sumOf (λ c. c)) counts-is ∙ sumOf-map (λ c. c) (λ node. length (node .children)) nodes
+      ∙ sym (ap (λ (r : List ℕ). length r) links-is ∙ length-joined (λ node. node .children) nodes) in
       let b = length-linked 0 cs in
       let c : length (linkUp 0 cs .stack) ≡ 1 = ap (λ (r : Linked). length (r .stack)) linked-is in
       record { all-linked = sym a; one-root = omega arith }
@@ -214,11 +215,11 @@ module _ (s : Shape) (n e rows : ℕ) (numbers hashes work₀ : List ℕ) (room 
         let q = sumTo idCounts (i .leaf) + i .place in
         let q< : sumTo idCounts (i .leaf) + i .place < n = omega arith in
         let is : places (sumTo idCounts (i .leaf) + i .place) ≡ id =
-            places-are q q<
-            ∙ ap (λ (k : ℕ). getD order (k + i .place) 0) b
-            ∙ sym (getD-part (blockAt (λ node. node .ids) nodes (i .leaf)) (length ids) order (i .place) 0 place-lt)
-            ∙ ap (λ (l : List ℕ). getD l (i .place) 0) (block-read (λ node. node .ids) nodes (i .leaf) noNode (i .leaf-lt))
-            ∙ i .is in
+        places-are q q<
+        ∙ ap (λ (k : ℕ). getD order (k + i .place) 0) b
+        ∙ sym (getD-part (blockAt (λ node. node .ids) nodes (i .leaf)) (length ids) order (i .place) 0 place-lt)
+        ∙ ap (λ (l : List ℕ). getD l (i .place) 0) (block-read (λ node. node .ids) nodes (i .leaf) noNode (i .leaf-lt))
+        ∙ i .is in
         ap (λ (k : ℕ). getD marks k 0) (sym is)
         ∙ marked-at places idCounts rows work
         (subst (λ (k : ℕ). Distinct places k) (v ∙ sym all)
@@ -282,17 +283,17 @@ module _ (s : Shape) (n e rows : ℕ) (numbers hashes work₀ : List ℕ) (room 
         let cnt : ℕ → ℕ = λ i. count i leaves in
         let table = column (nodesAt s + 5) rows cnt (column (nodesAt s + 4) rows (classStart leaves) linked) in
         let size-table : length table ≡ length numbers =
-            length-written (cellAt (nodesAt s + 5)) cnt rows (column (nodesAt s + 4) rows (classStart leaves) linked)
-            ∙ length-written (cellAt (nodesAt s + 4)) (classStart leaves) rows linked
-            ∙ length-sets starts (linksAt s) links
-            ∙ length-written (cellAt (nodesAt s)) (blockStart (nodesAt s) numbers) rows numbers in
+        length-written (cellAt (nodesAt s + 5)) cnt rows (column (nodesAt s + 4) rows (classStart leaves) linked)
+        ∙ length-written (cellAt (nodesAt s + 4)) (classStart leaves) rows linked
+        ∙ length-sets starts (linksAt s) links
+        ∙ length-written (cellAt (nodesAt s)) (blockStart (nodesAt s) numbers) rows numbers in
         let perm = perm-entries (made .splitting) (made .vectors) entries (made .branching) owned in
         let all = subst (λ (k : ℕ). List·Permᴰ (joined f nodes) (countFrom 0 k)) (owners-count ∙ sym l-count) perm in
         let once = once-perm (joined f nodes) (countFrom 0 (length leaves)) all (once-countFrom 0 (length leaves)) in
         let six-is : column (nodesAt s + 5) rows cnt (column (nodesAt s + 4) rows (classStart leaves) starts) ≡ sets numbers (nodesAt s) (sixFrom 0 0 0 nodes) =
-            ap (λ (k : ℕ). column (nodesAt s + 5) k cnt (column (nodesAt s + 4) k (classStart leaves) (column (nodesAt s) k (blockStart (nodesAt s) numbers) numbers))) (sym n-count)
-            ∙ table-is (nodesAt s) numbers nodes noNode six (omega arith) leaves
-            (λ j b. sym (ap (λ (r : List ℕ). length r) (classes j b) ∙ length-class-all leaves j)) in
+        ap (λ (k : ℕ). column (nodesAt s + 5) k cnt (column (nodesAt s + 4) k (classStart leaves) (column (nodesAt s) k (blockStart (nodesAt s) numbers) numbers))) (sym n-count)
+        ∙ table-is (nodesAt s) numbers nodes noNode six (omega arith) leaves
+        (λ j b. sym (ap (λ (r : List ℕ). length r) (classes j b) ∙ length-class-all leaves j)) in
         sorted-is f nodes noNode leaves classes (λ k b. let x = leaves-below k b in omega arith) all once (entryOrderAt s) table (omega arith)
         ∙ ap (λ (r : List ℕ). sets r (entryOrderAt s) (joined f nodes))
         (ap (column (nodesAt s + 5) rows cnt)

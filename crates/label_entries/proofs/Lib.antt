@@ -1,3 +1,4 @@
+-- Laws behind the passes: columns and runs of stores, the counting sort, child links, leaves, filters; then the passes together.
 pub mod Written
 pub mod Sorting
 pub mod Linking

@@ -1,9 +1,7 @@
 -- The stack of `linkUp` in the work list, and the child links from the last node to the first.
-use Prim.Native.Nat.{ℕ, zero, suc, _+_, _-_, _*_, _≤_, _<_, min}
+use Prim.Native.Nat.{ℕ, zero, suc, _+_, _-_, _≤_, _<_}
 use mathlib.Core.Path.{_≡_, refl, sym, ap, ap₂, _∙_, subst}
 use mathlib.Core.List.{List, [], _∷_, _++_, map}
-use native.Mathlib.Nat.{suc-sub-suc}
-use native.Mathlib.Numerals.{add-one}
 use native.Mathlib.Omega.{arith}
 use lib.ListN.{length, getD, set, take, drop, length-take, length-drop, length-append, length-map, length-set}
 use lib.Seq.{sets, drop-length, drop-cons, take-take, drop-drop, drop-set-lt, getD-set-same, length-take-le}
@@ -180,11 +178,11 @@ module _ (cs numbers₀ work₀ : List ℕ) (links : ℕ) (counts : Counts cs) (
       let three : n - top - c ≡ n - (top + c) = omega arith in
       let four : links + (end - c) + length (take c stack) ≡ links + end = omega arith in
       let size : length (linkUp i (drop i cs) .stack) ≡ suc (length stack - c) =
-          ap (λ (r : Linked). length (r .stack)) linked-here ∙ ap suc (length-drop c stack) in
+      ap (λ (r : Linked). length (r .stack)) linked-here ∙ ap suc (length-drop c stack) in
       let lt : place < length work = omega arith in
       let rest : part (top + c) (n - (top + c)) work ≡ drop c stack =
-          sym (ap (drop c) (sym (before .stack-is)) ∙ drop-take c (n - top) (drop top work)
-          ∙ ap₂ (λ (k : ℕ) (r : List ℕ). take k r) three (drop-drop c top work)) in
+      sym (ap (drop c) (sym (before .stack-is)) ∙ drop-take c (n - top) (drop top work)
+      ∙ ap₂ (λ (k : ℕ) (r : List ℕ). take k r) three (drop-drop c top work)) in
       record {
         below = omega arith;
         ends = omega arith;
@@ -219,3 +217,34 @@ linking-done cs numbers₀ work₀ links numbers work top end i counts z done =
     done .numbers-is
     ∙ ap₂ (λ (k j : ℕ). sets numbers₀ (links + j) (linkUp k (drop k cs) .links)) z e
     ∙ ap (λ (k : ℕ). sets numbers₀ k (linkUp 0 cs .links)) (let f : links + 0 ≡ links = omega arith in f)
+
+-- what a turn of the loop knows of node i, whose child count w is
+pub record Turn (cs numbers₀ work₀ : List ℕ) (nodes links : ℕ) (numbers work : List ℕ) (top end i w : ℕ) : Type 0 where
+  pub small : i < length cs
+  pub before : Linking cs numbers₀ work₀ links numbers work top end (suc i)
+  pub count-is : w ≡ getD cs i 0
+  pub in-end : w ≤ end
+  pub in-top : top + w ≤ nodes
+  pub some : 1 ≤ top
+  pub end-lt : end < nodes
+  pub long : length work ≡ length work₀
+
+pub turn-of : (cs numbers₀ work₀ : List ℕ) (nodes links : ℕ) (numbers work : List ℕ) (top end i j w : ℕ) → Counts cs → length cs ≡ nodes → nodes ≤ length work₀ → j ≡ suc i
+    → i < nodes → Linking cs numbers₀ work₀ links numbers work top end j → w ≡ getD cs i 0 → Turn cs numbers₀ work₀ nodes links numbers work top end i w
+turn-of cs numbers₀ work₀ nodes links numbers work top end i j w counts n fits q h linking e =
+    let small : i < length cs = omega arith in
+    let fits′ : length cs ≤ length work₀ = omega arith in
+    let before : Linking cs numbers₀ work₀ links numbers work top end (suc i) = subst (λ (k : ℕ). Linking cs numbers₀ work₀ links numbers work top end k) q linking in
+    let a = count-end cs numbers₀ work₀ links counts numbers work top end i small fits′ before in
+    let b = count-top cs numbers₀ work₀ links counts numbers work top end i small fits′ before in
+    let d = before .ends in
+    record {
+      small = small;
+      before = before;
+      count-is = e;
+      in-end = omega arith;
+      in-top = omega arith;
+      some = top-some cs numbers₀ work₀ links counts numbers work top end i small fits′ before;
+      end-lt = omega arith;
+      long = before .work-long;
+    }

@@ -1,6 +1,6 @@
 -- The leaf of each vector: one block of ids after the other is marked.
-use Prim.Native.Nat.{ℕ, zero, suc, _+_, _-_, _*_, _≤_, _<_}
-use mathlib.Core.Path.{_≡_, refl, sym, ap, ap₂, _∙_, subst}
+use Prim.Native.Nat.{ℕ, zero, suc, _+_, _-_, _≤_, _<_}
+use mathlib.Core.Path.{_≡_, refl, sym, ap, ap₂, _∙_}
 use mathlib.Core.List.{List}
 use native.Mathlib.Numerals.{add-one}
 use native.Mathlib.Omega.{arith}
@@ -13,6 +13,15 @@ use Rattle.label_entries.proofs.Written.{written-congr, length-written}
 -- a lent part by its start and its length
 pub lent-is : (from w : ℕ) (l : List ℕ) → take (from + w - from) (drop from l) ≡ part from w l
 lent-is from w l = let e : from + w - from ≡ w = omega arith in ap (λ (n : ℕ). take n (drop from l)) e
+
+-- an element of a lent part
+pub block-element : (from w : ℕ) (l : List ℕ) (k : ℕ) → from + w ≤ length l → k < length (take (from + w - from) (drop from l))
+    → (k < w) × (getD (take (from + w - from) (drop from l)) k 0 ≡ getD l (from + k) 0)
+block-element from w l k h b =
+    let is = lent-is from w l in
+    let n = ap (λ (r : List ℕ). length r) is ∙ length-part from w l h in
+    let b′ : k < w = omega arith in
+    (b′, ap (λ (r : List ℕ). getD r k 0) is ∙ getD-part from w l k 0 b′)
 
 pub marked-none : (places counts : ℕ → ℕ) (l : List ℕ) → l ≡ marked places counts 0 l
 unfolding marked

@@ -1,27 +1,25 @@
 -- The leaf of each vector, and so of each entry: the entries of a node are those whose leaf it is.
-use Prim.Native.Nat.{ℕ, zero, suc, _+_, _-_, _*_, _≤_, _<_}
-use mathlib.Core.Path.{_≡_, refl, sym, ap, ap₂, _∙_, subst}
+use Prim.Native.Nat.{ℕ, zero, suc, _+_, _-_, _≤_, _<_}
+use mathlib.Core.Path.{_≡_, sym, ap, _∙_, subst}
 use mathlib.Core.Logic.{_⊎_, inl, inr}
-use mathlib.Core.Bool.{Bool, true, false}
+use mathlib.Core.Bool.{true, false}
 use mathlib.Core.List.{List, List·Memᴰ}
 use native.Mathlib.Nat.{not-suc-le-zero}
 use native.Mathlib.Omega.{arith}
 use lib.Dec.{eqb}
 use lib.Ieee.{Float}
 use lib.ListN.{length, getD}
-use borrow.Author.Tests.{eqb-true, eqb-false, eq-eqb, ne-eqb}
-use Rattle.lists.specs.Lists.{part, keep, joined, countFrom, isIn}
-use Rattle.lists.specs.Counting.{which, getD-Memᴰ, Memᴰ-getD, Memᴰ-isIn, isIn-Memᴰ, isIn-countFrom, Memᴰ-countFrom, Memᴰ-joined, keep-congr, length-joined, sumOf}
-use Rattle.lists.specs.Partition.{Permᴰ·symm, perm-Memᴰ, perm-length, count-one-place}
-use Rattle.lists.specs.Parts.{getD-part}
+use borrow.Author.Tests.{eqb-true, eqb-false}
+use Rattle.lists.specs.Lists.{keep, joined, countFrom, isIn}
+use Rattle.lists.specs.Counting.{which, getD-Memᴰ, Memᴰ-getD, Memᴰ-isIn, isIn-Memᴰ, isIn-countFrom, Memᴰ-countFrom, Memᴰ-joined, keep-congr}
+use Rattle.lists.specs.Partition.{Permᴰ·symm, perm-Memᴰ, count-one-place}
 use Rattle.tree.specs.Tree.{Splitting, treeOf}
 use Rattle.tree.specs.Nodes.{Entries, Node, nodesOf, entriesOf}
 use Rattle.tree.specs.TreeLaws.{Once, once-perm, once-countFrom}
 use Rattle.tree.specs.NodeLaws.{perm-ids, length-ids, id-one-leaf}
 use Rattle.tree.specs.Subtrees.{node-entries}
-use Rattle.tree.specs.LayoutLaws.{blockAt, block-read, block-end}
 use Rattle.label_entries.specs.Passes.{written, sumTo, marked}
-use Rattle.label_entries.proofs.Written.{Distinct, last-or-below, getD-written-other, getD-written-same, sumTo-le, sumTo-next}
+use Rattle.label_entries.proofs.Written.{Distinct, last-or-below, getD-written-other, getD-written-same, sumTo-next}
 use Rattle.label_entries.proofs.Marking.{length-marked}
 use Rattle.label_entries.proofs.Classes.{classTo}
 
@@ -88,7 +86,7 @@ module _ (s : Splitting) (vectors : List (List Float)) (e : Entries) (b : 1 ≤ 
   leaf-of id h =
       let nodes = nodesOf s vectors e in
       let m = Memᴰ-joined (λ node. node .ids) id nodes
-          (perm-Memᴰ (Permᴰ·symm (perm-ids s vectors e b)) (isIn-Memᴰ id (countFrom 0 (length vectors)) (isIn-countFrom id 0 (length vectors) (omega arith) (omega arith)))) in
+      (perm-Memᴰ (Permᴰ·symm (perm-ids s vectors e b)) (isIn-Memᴰ id (countFrom 0 (length vectors)) (isIn-countFrom id 0 (length vectors) (omega arith) (omega arith)))) in
       let n = Memᴰ-getD d (m .1) in
       let k = Memᴰ-getD 0 (m .2) in
       let ids-are : getD nodes (n .0) d .ids ≡ m .0 .ids = ap (λ (node : Node). node .ids) (n .2) in

@@ -1,16 +1,16 @@
 -- The table of six numbers per node: what stands in it once all nodes are made, and that the columns written make it that of the layout.
 use Prim.Native.Nat.{ℕ, zero, suc, _+_, _-_, _*_, _/_, _%_, _≤_, _<_}
-use mathlib.Core.Path.{_≡_, refl, sym, ap, ap₂, _∙_, subst}
+use mathlib.Core.Path.{_≡_, refl, sym, ap, ap₂, _∙_}
 use mathlib.Core.Logic.{_⊎_, inl, inr}
 use mathlib.Core.Bool.{true, false}
 use mathlib.Core.List.{List, [], _∷_, _++_, map}
 use native.Mathlib.Nat.{zero-add, add-zero, add-assoc, not-suc-le-zero, le-of-suc-le-suc}
 use native.Mathlib.Omega.{arith}
 use lib.Dec.{ltb, lit<}
-use lib.ListN.{length, getD, take, drop, length-map, List·getD-map}
+use lib.ListN.{length, getD, take, length-map, List·getD-map}
 use lib.Seq.{sets, length-sets, ext-getD, take-append-seam}
 use borrow.Author.Tests.{ltb-true, ltb-false}
-use Rattle.lists.specs.Lists.{part, joined, countFrom}
+use Rattle.lists.specs.Lists.{part}
 use Rattle.lists.specs.Counting.{which, sumOf}
 use Rattle.lists.specs.Partition.{count}
 use Rattle.lists.specs.Parts.{getD-part, part-append-right, getD-sets-before, getD-sets-after, getD-sets-in}
@@ -18,8 +18,8 @@ use Rattle.tree.specs.Nodes.{Node}
 use Rattle.tree.specs.Layout.{startOf, sixFrom}
 use Rattle.tree.specs.LayoutLaws.{blockAt, sixOf, six-getD, length-sixFrom}
 use Rattle.tree.specs.Made.{madeFrom}
-use Rattle.label_entries.specs.Passes.{written, cellAt, cell, cells, column, sumTo, startAt, blockStart, classStart}
-use Rattle.label_entries.proofs.Written.{Distinct, distinct-cells, length-written, getD-written-other, getD-written-same}
+use Rattle.label_entries.specs.Passes.{cellAt, cell, cells, column, sumTo, startAt, blockStart, classStart}
+use Rattle.label_entries.proofs.Written.{distinct-cells, length-written, getD-written-other, getD-written-same}
 use Rattle.label_entries.proofs.Linking.{length-cells, getD-cells}
 use Rattle.label_entries.proofs.Classes.{sumTo-congr, sumTo-block, startAt-is}
 

@@ -1,24 +1,22 @@
 -- The four steps of the entry function, each with what it asks of the lists as they are then, and what they leave together. `p` has the starts of the
 -- parts as the program holds them.
-use Prim.Native.Nat.{ℕ, zero, suc, _+_, _-_, _*_, _≤_, _<_, _^_}
+use Prim.Native.Nat.{ℕ, _+_, _-_, _*_, _≤_, _<_, _^_}
 use mathlib.Core.Path.{_≡_, refl, sym, ap, ap₂, _∙_, subst}
 use mathlib.Core.List.{List}
 use native.Mathlib.Omega.{arith}
-use lib.ListN.{length, getD, take, drop}
+use lib.ListN.{length, getD, drop}
 use lib.Seq.{sets, length-sets}
-use Rattle.lists.specs.Lists.{part, joined}
+use Rattle.lists.specs.Lists.{part}
 use Rattle.lists.specs.Partition.{count}
 use Rattle.store.specs.declared.Shape.{Shape}
-use Rattle.store.specs.Store.{Limits, ownersAt, orderAt, nodesAt, linksAt, entryOrderAt, filtersAt, numbersSize, hashesSize, workSize}
-use Rattle.tree.specs.Nodes.{Node}
+use Rattle.store.specs.Store.{nodesAt, linksAt, workSize}
 use Rattle.tree.specs.Layout.{numbersOf, hashesOf}
-use Rattle.tree.specs.LayoutLaws.{length-numbersOf}
 use Rattle.tree.specs.Links.{linkUp}
 use Rattle.label_entries.specs.declared.Places.{Places}
 use Rattle.label_entries.specs.Passes.{written, cellAt, cell, cells, column, sumTo, blockStart, Counts, leavesMarked, classStart, classPlace, placesOf, filtersMade, RowFits}
-use Rattle.label_entries.specs.Finish.{held, Room, AllMade, nodesMade, Used, Finished}
+use Rattle.label_entries.specs.Finish.{held, Room, AllMade, nodesMade, Used}
 use Rattle.label_entries.proofs.Written.{length-written}
-use Rattle.label_entries.proofs.Finishing.{fit, owners-count, counts-ok, linked, ids-sum, places-below, owner-below, after, leaves, length-after, length-leaves, leaves-below, numbers-final, work-final, used-front, drop-later}
+use Rattle.label_entries.proofs.Finishing.{fit, owners-count, counts-ok, linked, ids-sum, places-below, owner-below, after, leaves, length-leaves, leaves-below, numbers-final, work-final, used-front, drop-later}
 use Rattle.label_entries.proofs.FilterRows.{rows-fit, filters-final}
 
 -- what the nodes' links are written over, and what each later step asks
@@ -40,7 +38,85 @@ sortedAt rows leaves l p =
     written (λ k. p .order + classPlace leaves k) (λ k. k) (length leaves)
     (column (p .table + 5) rows (λ i. count i leaves) (column (p .table + 4) rows (classStart leaves) l))
 
-module _ (s : Shape) (n e rows : ℕ) (numbers hashes work : List ℕ) (room : Room s n e rows numbers hashes work) (p : Places) (is : p ≡ placesOf s) where
+-- what the entry function is given, and the starts of the parts as it computes them
+pub record Given : Type 0 where
+  pub shape : Shape
+  pub count : ℕ
+  pub entries : ℕ
+  pub rows : ℕ
+  pub numbers : List ℕ
+  pub hashes : List ℕ
+  pub work : List ℕ
+  pub room : Room shape count entries rows numbers hashes work
+  pub places : Places
+  pub places-are : places ≡ placesOf shape
+
+-- the parts are within the lists
+pub record PlacesFit (p : Places) (e rows size size′ work : ℕ) : Type 0 where
+  pub table-small : p .table < 2 ^ 32
+  pub table-links : p .table + 6 * rows ≤ p .links
+  pub links-end : p .links + rows ≤ size
+  pub rows-work : rows ≤ work
+  pub rows-small : rows < 2 ^ 32
+  pub table-order : p .table + 6 * rows ≤ p .order
+  pub order-end : p .order + e ≤ size
+  pub entries-small : e < 2 ^ 32
+  pub filters-end : p .filters + 4 * rows ≤ size′
+
+module _ (g : Given) where
+  abbrev s : Shape
+  s = g .shape
+
+  abbrev n : ℕ
+  n = g .count
+
+  abbrev e : ℕ
+  e = g .entries
+
+  abbrev rows : ℕ
+  rows = g .rows
+
+  abbrev numbers : List ℕ
+  numbers = g .numbers
+
+  abbrev hashes : List ℕ
+  hashes = g .hashes
+
+  abbrev work : List ℕ
+  work = g .work
+
+  abbrev room : Room s n e rows numbers hashes work
+  room = g .room
+
+  abbrev p : Places
+  p = g .places
+
+  abbrev is : p ≡ placesOf s
+  is = g .places-are
+
+  pub places-fit : PlacesFit p e rows (length numbers) (length hashes) (length work)
+  places-fit =
+      let limits = room .limits in
+      let a = room .numbers-long in
+      let b = room .hashes-long in
+      let c = room .work-long in
+      let d = room .nodes-fit in
+      let f = room .entries-fit in
+      let base : PlacesFit (placesOf s) e rows (length numbers) (length hashes) (length work) =
+      record {
+        table-small = omega (arith, limits .vectors-high, limits .entries-high);
+        table-links = omega arith;
+        links-end = omega arith;
+        rows-work = omega arith;
+        rows-small = omega (arith, limits .nodes-high);
+        table-order = omega arith;
+        order-end = omega arith;
+        entries-small = omega (arith, limits .entries-high);
+        filters-end = omega arith;
+      }
+      in
+      subst (λ (q : Places). PlacesFit q e rows (length numbers) (length hashes) (length work)) (sym is) base
+
   module _ (made : AllMade s n e rows numbers hashes) where
     -- the child counts
     pub counts-at : Counts (cells (p .table + 1) rows numbers)
@@ -70,7 +146,7 @@ module _ (s : Shape) (n e rows : ℕ) (numbers hashes work : List ℕ) (room : R
           let g = ids-sum s n e rows numbers hashes work room made in
           let h = long in
           let base : LeavesAsk (s .vectors) e rows (length work₁) (placesOf s) l =
-              (omega arith, (omega arith, (omega arith, (omega arith, (places-below s n e rows numbers hashes work room made, (omega arith, owner-below s n e rows numbers hashes work room made))))))
+          (omega arith, (omega arith, (omega arith, (omega arith, (places-below s n e rows numbers hashes work room made, (omega arith, owner-below s n e rows numbers hashes work room made))))))
           in
           subst (λ (r : List ℕ). LeavesAsk (s .vectors) e rows (length work₁) p r) (sym numbers-linked)
           (subst (λ (q : Places). LeavesAsk (s .vectors) e rows (length work₁) q l) (sym is) base)
@@ -106,8 +182,8 @@ module _ (s : Shape) (n e rows : ℕ) (numbers hashes work : List ℕ) (room : R
               let f = room .entries-fit in
               let g : i < length nodes = omega arith in
               let base : RowFits (placesOf s) (numbersOf s nodes numbers) (length nodes) i =
-                  rows-fit s (made .splitting) (made .vectors) (held s e numbers hashes) (made .branching) numbers hashes (fit s n e rows numbers hashes work room made)
-                  (room .numbers-long) (room .hashes-long) (omega arith) e f o refl i g in
+              rows-fit s (made .splitting) (made .vectors) (held s e numbers hashes) (made .branching) numbers hashes (fit s n e rows numbers hashes work room made)
+              (room .numbers-long) (room .hashes-long) (omega arith) e f o refl i g in
               subst (λ (q : Places). RowFits q numbers₂ rows i) (sym is)
               (subst (λ (l : List ℕ). RowFits (placesOf s) l rows i) (sym numbers-laid) (subst (λ (m : ℕ). RowFits (placesOf s) (numbersOf s nodes numbers) m i) c base))
 

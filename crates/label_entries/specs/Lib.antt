@@ -1,3 +1,4 @@
--- What the finishing passes of a build write.
+-- The finishing passes of a build: their contract, and what each pass writes.
 pub mod Passes
 pub mod Finish
+pub mod Trials

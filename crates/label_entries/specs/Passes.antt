@@ -3,7 +3,7 @@
 use Prim.Native.Nat.{ℕ, zero, suc, _+_, _*_, _≤_, _<_}
 use mathlib.Core.List.{List, map}
 use mathlib.Core.Path.{_≡_}
-use lib.ListN.{length, getD, set, take, drop}
+use lib.ListN.{length, getD, set, take}
 use lib.Seq.{sets}
 use Rattle.lists.specs.Lists.{part, countFrom}
 use Rattle.lists.specs.Counting.{sumOf}
@@ -12,7 +12,7 @@ use Rattle.store.specs.declared.Shape.{Shape}
 use Rattle.store.specs.Store.{ownersAt, orderAt, nodesAt, linksAt, entryOrderAt, filtersAt}
 use Rattle.label.specs.Filter.{emptyFilter, insertAll}
 use Rattle.tree.specs.NodeLaws.{unionAll}
-use Rattle.tree.specs.Links.{Linked, linkUp}
+use Rattle.tree.specs.Links.{linkUp}
 use Rattle.label_entries.specs.declared.Places.{Places}
 
 -- a list with a number of places written, one after the other: at place p i the number f i

@@ -8,9 +8,8 @@ ghost use Rattle.lists.specs.Lists.{part};
 ghost use Rattle.label.specs.Filter.{insertAll};
 ghost use Rattle.tree.specs.NodeLaws.{unionAll};
 ghost use Rattle.label_entries.specs.Passes.{filterMade, filtersMade, RowFits};
-
-use crate::wide;
 use crate::Places;
+use crate::wide;
 use label::bloom;
 
 // The four words of a filter.

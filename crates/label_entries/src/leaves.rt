@@ -3,7 +3,6 @@ ghost use mathlib.Core.Path.{_≡_};
 ghost use Prim.Native.Nat.{ℕ, _+_, _*_, _<_, _≤_, _^_};
 ghost use lib.ListN.{length, getD};
 ghost use Rattle.label_entries.specs.Passes.{cell, written, marked, sumTo, leavesMarked};
-
 use crate::wide;
 
 // Writes `node` at each of the places that `ids` names.
@@ -54,7 +53,16 @@ fn find_leaves(work: &mut [u32], at: usize, numbers: &[u32], owners: usize, entr
 
 // Writes the leaf of each entry from `at` on, by way of the leaf of each vector: the leaf order of vectors starts at `order`, the nodes' counts of
 // vectors stand in the column at `counts`, and the owners start at `owners`.
-pub fn entry_leaves(work: &mut [u32], at: usize, numbers: &[u32], counts: usize, nodes: usize, order: usize, owners: usize, entries: usize)
+pub fn entry_leaves(
+    work: &mut [u32],
+    at: usize,
+    numbers: &[u32],
+    counts: usize,
+    nodes: usize,
+    order: usize,
+    owners: usize,
+    entries: usize,
+)
     requires { do ⌜ at + entries ≤ (← ⟦work.len()⟧) ⌝ }
     requires { do ⌜ counts + 6 * nodes ≤ (← ⟦numbers.len()⟧) + 5 ⌝ }
     requires { ⌜ nodes < 2 ^ 32 ⌝ }

@@ -5,7 +5,6 @@ ghost use lib.ListN.{length, drop};
 ghost use lib.Seq.{sets};
 ghost use Rattle.tree.specs.Links.{linkUp};
 ghost use Rattle.label_entries.specs.Passes.{cells, column, blockStart, Counts};
-
 use crate::blocks::set_starts;
 use crate::wide;
 
@@ -16,7 +15,7 @@ fn copy_to(numbers: &mut [u32], at: usize, source: &[u32])
 {
     let mut k = 0;
     while k < source.len() {
-        numbers[at + k] = source[k];
+        numbers[at + k] = source[0];
         k += 1;
     }
 }

@@ -1,18 +1,30 @@
 -- The four steps, each on the lists as the one before left them (`Whole`).
 -- Assumes nothing.
-use Prim.Native.Nat.{ℕ, suc, _+_, _-_, _*_, _≤_, _<_, _^_}
-use mathlib.Core.Path.{_≡_, refl, sym, ap, ap₂, _∙_, subst}
-use mathlib.Core.List.{List}
+use Prim.Native.Nat.{_+_, _-_}
+use mathlib.Core.Path.{_∙_}
 use native.Mathlib.Omega.{arith}
-use lib.ListN.{length, getD, drop}
-use lib.Seq.{sets}
-use lib.ListN.{take}
-use Rattle.label_entries.specs.declared.Places.{Places}
+use lib.ListN.{drop, take}
 use Rattle.label_entries.proofs.Marking.{lent-is}
-use Rattle.label_entries.proofs.Whole.{counts-at, leaves-ask, leaves-count, leaves-lt, rows-ask, numbers-laid, hashes-laid, work-kept}
+use Rattle.label_entries.proofs.Whole.{Given, places-fit, counts-at, leaves-ask, leaves-count, leaves-lt, rows-ask, numbers-laid, hashes-laid, work-kept}
 use borrow.Author.Needs.{needs}
 use Rattle.label_entries.proofs.insert_label_entries.Statement.{statement}
 use Rattle.label_entries.proofs.insert_label_entries.Tie as tie
+
+-- what the function is given
+abbrev given : tie.After-places-of → Given
+given c =
+    record {
+      shape = c .before .before .before .before .args .shape;
+      count = c .before .before .before .before .args .vectors;
+      entries = c .before .before .before .before .args .entries;
+      rows = c .before .before .before .before .args .nodes;
+      numbers = c .before .before .before .before .args .numbers .now;
+      hashes = c .before .before .before .before .args .hashes .now;
+      work = c .before .before .before .before .args .work .now;
+      room = c .before .before .before .before .pre .0;
+      places = c .places-of .result;
+      places-are = c .places-of .ensures;
+    }
 
 places-of-requires : tie.Need-places-of-requires
 places-of-requires c κs = search needs
@@ -21,70 +33,21 @@ add-end : tie.Need-add-end
 add-end c = search needs
 
 link-nodes-requires : tie.Need-link-nodes-requires
-link-nodes-requires c κs = 
-    let s = c .before .before .before .before .before .before in
-    let args = s .args in
-    let room = s .pre .0 in
-    let made = s .pre .1 in
-    let shape = args .shape in
-    let numbers = args .numbers .now in
-    let hashes = args .hashes .now in
-    let work = args .work .now in
-    let p = c .before .before .places-of .result in
-    let is = c .before .before .places-of .ensures in
-    let table-is = ap (λ (q : Places). q .table) is in
-    let links-is = ap (λ (q : Places). q .links) is in
-    let a = room .numbers-long in
-    let b = room .nodes-fit in
-    let h = room .work-long in
-    let c = room .limits .nodes-high in
-    (omega arith, (omega arith, (omega arith, (omega arith, counts-at shape (args .vectors) (args .entries) (args .nodes) numbers hashes work room p is made))))
+link-nodes-requires c κs =
+    let g = given (c .before .before) in
+    let made = c .before .before .before .before .before .before .pre .1 in
+    let fit = places-fit g in
+    (fit .table-links, (fit .links-end, (fit .rows-work, (fit .rows-small, counts-at g made))))
 
 add-entry-leaves : tie.Need-add-entry-leaves
-add-entry-leaves c = 
-    let s = c .before .before .before .before .before .before .before .before .before .before .before .before .before .before in
-    let args = s .args in
-    let room = s .pre .0 in
-    let made = s .pre .1 in
-    let shape = args .shape in
-    let numbers = args .numbers .now in
-    let hashes = args .hashes .now in
-    let work = args .work .now in
-    let p = c .before .before .before .before .before .before .before .before .before .before .places-of .result in
-    let is = c .before .before .before .before .before .before .before .before .before .before .places-of .ensures in
-    let table-is = ap (λ (q : Places). q .table) is in
-    let links-is = ap (λ (q : Places). q .links) is in
-    let a = room .numbers-long in
-    let b = room .nodes-fit in
-    let h = room .work-long in
-    let c = room .limits .nodes-high in
-    let e = room .limits .vectors-high in
-    let f = room .limits .entries-high in
-    omega (arith, table-is, c, e, f)
+add-entry-leaves c = let f = places-fit (given (c .before .before .before .before .before .before .before .before .before .before)) in omega (arith, f .table-small)
 
 entry-leaves-requires : tie.Need-entry-leaves-requires
-entry-leaves-requires c κs = 
-    let s = c .before .before .before .before .before .before .before .before .before .before .before .before .before .before in
-    let args = s .args in
-    let room = s .pre .0 in
-    let made = s .pre .1 in
-    let shape = args .shape in
-    let numbers = args .numbers .now in
-    let hashes = args .hashes .now in
-    let work = args .work .now in
-    let p = c .before .before .before .before .before .before .before .before .before .before .places-of .result in
-    let is = c .before .before .before .before .before .before .before .before .before .before .places-of .ensures in
-    let table-is = ap (λ (q : Places). q .table) is in
-    let links-is = ap (λ (q : Places). q .links) is in
-    let a = room .numbers-long in
-    let b = room .nodes-fit in
-    let h = room .work-long in
+entry-leaves-requires c κs =
+    let g = given (c .before .before .before .before .before .before .before .before .before .before) in
+    let made = c .before .before .before .before .before .before .before .before .before .before .before .before .before .before .pre .1 in
     let link = c .before .before .before .before .before .before .before .link-nodes in
-    let numbers₁ = link .last .0 in
-    let work₁ = link .last .1 .1 .1 .1 .0 in
-    let size₁ = link .kept .1 .1 .1 .1 .0 in
-    let long₁ = link .kept .0 in
-    leaves-ask shape (args .vectors) (args .entries) (args .nodes) numbers hashes work room p is made numbers₁ work₁ (link .ensures .0) size₁
+    leaves-ask g made (link .last .0) (link .last .1 .1 .1 .1 .0) (link .ensures .0) (link .kept .1 .1 .1 .1 .0)
 
 mul-sort-entries : tie.Need-mul-sort-entries
 mul-sort-entries c = search needs
@@ -99,72 +62,28 @@ part-sort-entries-end : tie.Need-part-sort-entries-end
 part-sort-entries-end c = search needs
 
 sort-entries-requires : tie.Need-sort-entries-requires
-sort-entries-requires c κs = 
-    let s = c .before .before .before .before .before .before .before .before .before .before .before .before .before .before .before .before .before .before .before .before in
-    let args = s .args in
-    let room = s .pre .0 in
-    let made = s .pre .1 in
-    let shape = args .shape in
-    let numbers = args .numbers .now in
-    let hashes = args .hashes .now in
-    let work = args .work .now in
-    let p = c .before .before .before .before .before .before .before .before .before .before .before .before .before .before .before .before .places-of .result in
-    let is = c .before .before .before .before .before .before .before .before .before .before .before .before .before .before .before .before .places-of .ensures in
-    let table-is = ap (λ (q : Places). q .table) is in
-    let links-is = ap (λ (q : Places). q .links) is in
-    let a = room .numbers-long in
-    let b = room .nodes-fit in
-    let h = room .work-long in
+sort-entries-requires c κs =
+    let g = given (c .before .before .before .before .before .before .before .before .before .before .before .before .before .before .before .before) in
+    let made = c .before .before .before .before .before .before .before .before .before .before .before .before .before .before .before .before .before .before .before .before .pre .1 in
     let link = c .before .before .before .before .before .before .before .before .before .before .before .before .before .link-nodes in
-    let numbers₁ = link .last .0 in
-    let work₁ = link .last .1 .1 .1 .1 .0 in
-    let size₁ = link .kept .1 .1 .1 .1 .0 in
-    let long₁ = link .kept .0 in
     let marked = c .before .before .before .before .before .entry-leaves in
-    let work₂ = marked .last .0 in
-    let at = shape .vectors in
-    let leaves₂ = take (at + args .entries - at) (drop at work₂) in
-    let part₂ = lent-is at (args .entries) work₂ in
-    let order-is = ap (λ (q : Places). q .order) is in
-    let n = leaves-count shape (args .vectors) (args .entries) (args .nodes) numbers hashes work room p is made numbers₁ work₁ (link .ensures .0) size₁ work₂ leaves₂ (marked .ensures) part₂ in
-    let e = room .entries-fit in
-    let f = room .limits .entries-high in
-    (omega (arith, table-is, order-is, b), (omega (arith, order-is, n, e, a, long₁), (omega (arith, n, e, f),
-    leaves-lt shape (args .vectors) (args .entries) (args .nodes) numbers hashes work room p is made numbers₁ work₁ (link .ensures .0) size₁ work₂ leaves₂ (marked .ensures) part₂)))
+    let part₂ = lent-is (g .shape .vectors) (g .entries) (marked .last .0) in
+    let leaves = take (g .shape .vectors + g .entries - g .shape .vectors) (drop (g .shape .vectors) (marked .last .0)) in
+    let fit = places-fit g in
+    let n = leaves-count g made (link .last .0) (link .last .1 .1 .1 .1 .0) (link .ensures .0) (link .kept .1 .1 .1 .1 .0) (marked .last .0) leaves (marked .ensures) part₂ in
+    (fit .table-order, (omega (arith, fit .order-end, n, link .kept .0), (omega (arith, fit .entries-small, n), leaves-lt g made (link .last .0) (link .last .1 .1 .1 .1 .0) (link .ensures .0) (link .kept .1 .1 .1 .1 .0) (marked .last .0) leaves (marked .ensures) part₂)))
 
 make-filters-requires : tie.Need-make-filters-requires
-make-filters-requires c κs = 
-    let s = c .before .before .before .before .before .before .before .before .before .before .before .before .before .before .before .before .before .before .before .before .before .before .before .before .before in
-    let args = s .args in
-    let room = s .pre .0 in
-    let made = s .pre .1 in
-    let shape = args .shape in
-    let numbers = args .numbers .now in
-    let hashes = args .hashes .now in
-    let work = args .work .now in
-    let p = c .before .before .before .before .before .before .before .before .before .before .before .before .before .before .before .before .before .before .before .before .before .places-of .result in
-    let is = c .before .before .before .before .before .before .before .before .before .before .before .before .before .before .before .before .before .before .before .before .before .places-of .ensures in
-    let table-is = ap (λ (q : Places). q .table) is in
-    let links-is = ap (λ (q : Places). q .links) is in
-    let a = room .numbers-long in
-    let b = room .nodes-fit in
-    let h = room .work-long in
+make-filters-requires c κs =
+    let g = given (c .before .before .before .before .before .before .before .before .before .before .before .before .before .before .before .before .before .before .before .before .before) in
+    let made = c .before .before .before .before .before .before .before .before .before .before .before .before .before .before .before .before .before .before .before .before .before .before .before .before .before .pre .1 in
     let link = c .before .before .before .before .before .before .before .before .before .before .before .before .before .before .before .before .before .before .link-nodes in
-    let numbers₁ = link .last .0 in
-    let work₁ = link .last .1 .1 .1 .1 .0 in
-    let size₁ = link .kept .1 .1 .1 .1 .0 in
-    let long₁ = link .kept .0 in
     let marked = c .before .before .before .before .before .before .before .before .before .before .entry-leaves in
-    let work₂ = marked .last .0 in
-    let at = shape .vectors in
-    let leaves₂ = take (at + args .entries - at) (drop at work₂) in
-    let part₂ = lent-is at (args .entries) work₂ in
+    let part₂ = lent-is (g .shape .vectors) (g .entries) (marked .last .0) in
+    let leaves = take (g .shape .vectors + g .entries - g .shape .vectors) (drop (g .shape .vectors) (marked .last .0)) in
     let sort = c .before .before .before .before .sort-entries in
-    let filters-is = ap (λ (q : Places). q .filters) is in
-    let long₂ = sort .kept .0 in
-    let e = room .hashes-long in
-    (omega (arith, filters-is, b, e), (omega (arith, table-is, a, b, long₁, long₂),
-    rows-ask shape (args .vectors) (args .entries) (args .nodes) numbers hashes work room p is made numbers₁ work₁ (link .ensures .0) size₁ work₂ leaves₂ (marked .ensures) part₂ (sort .last .0) (sort .ensures)))
+    let fit = places-fit g in
+    (fit .filters-end, (omega (arith, fit .table-links, fit .links-end, link .kept .0, sort .kept .0), rows-ask g made (link .last .0) (link .last .1 .1 .1 .1 .0) (link .ensures .0) (link .kept .1 .1 .1 .1 .0) (marked .last .0) leaves (marked .ensures) part₂ (sort .last .0) (sort .ensures)))
 
 same-length : tie.Need-same-length
 same-length c = search needs
@@ -176,39 +95,19 @@ same-length-3 : tie.Need-same-length-3
 same-length-3 c = search needs
 
 returns : tie.Need-returns
-returns c = 
-    let s = c .before .before .before .before .before .before .before .before .before .before .before .before .before .before .before .before .before .before .before .before .before .before .before .before .before .before .before .before in
-    let args = s .args in
-    let room = s .pre .0 in
-    let made = s .pre .1 in
-    let shape = args .shape in
-    let numbers = args .numbers .now in
-    let hashes = args .hashes .now in
-    let work = args .work .now in
-    let p = c .before .before .before .before .before .before .before .before .before .before .before .before .before .before .before .before .before .before .before .before .before .before .before .before .places-of .result in
-    let is = c .before .before .before .before .before .before .before .before .before .before .before .before .before .before .before .before .before .before .before .before .before .before .before .before .places-of .ensures in
-    let table-is = ap (λ (q : Places). q .table) is in
-    let links-is = ap (λ (q : Places). q .links) is in
-    let a = room .numbers-long in
-    let b = room .nodes-fit in
-    let h = room .work-long in
+returns c =
+    let g = given (c .before .before .before .before .before .before .before .before .before .before .before .before .before .before .before .before .before .before .before .before .before .before .before .before) in
+    let made = c .before .before .before .before .before .before .before .before .before .before .before .before .before .before .before .before .before .before .before .before .before .before .before .before .before .before .before .before .pre .1 in
     let link = c .before .before .before .before .before .before .before .before .before .before .before .before .before .before .before .before .before .before .before .before .before .link-nodes in
-    let numbers₁ = link .last .0 in
-    let work₁ = link .last .1 .1 .1 .1 .0 in
-    let size₁ = link .kept .1 .1 .1 .1 .0 in
-    let long₁ = link .kept .0 in
     let marked = c .before .before .before .before .before .before .before .before .before .before .before .before .before .entry-leaves in
-    let work₂ = marked .last .0 in
-    let at = shape .vectors in
-    let leaves₂ = take (at + args .entries - at) (drop at work₂) in
-    let part₂ = lent-is at (args .entries) work₂ in
+    let part₂ = lent-is (g .shape .vectors) (g .entries) (marked .last .0) in
+    let leaves = take (g .shape .vectors + g .entries - g .shape .vectors) (drop (g .shape .vectors) (marked .last .0)) in
     let sort = c .before .before .before .before .before .before .before .sort-entries in
     let filters = c .before .before .make-filters in
     record {
-      numbers-are = λ m. numbers-laid shape (args .vectors) (args .entries) (args .nodes) numbers hashes work room p is m numbers₁ work₁ (link .ensures .0) size₁ work₂ leaves₂ (marked .ensures) part₂ (sort .last .0) (sort .ensures);
-      hashes-are =
-          λ m. hashes-laid shape (args .vectors) (args .entries) (args .nodes) numbers hashes work room p is m numbers₁ work₁ (link .ensures .0) size₁ work₂ leaves₂ (marked .ensures) part₂ (sort .last .0) (sort .ensures) (filters .last .0) (filters .ensures);
-      work-used = work-kept shape (args .vectors) (args .entries) (args .nodes) numbers hashes work room p is made numbers₁ work₁ (link .ensures .0) size₁ work₂ leaves₂ (marked .ensures) part₂ (marked .kept .0 ∙ size₁) (link .ensures .1);
+      numbers-are = λ m. numbers-laid g m (link .last .0) (link .last .1 .1 .1 .1 .0) (link .ensures .0) (link .kept .1 .1 .1 .1 .0) (marked .last .0) leaves (marked .ensures) part₂ (sort .last .0) (sort .ensures);
+      hashes-are = λ m. hashes-laid g m (link .last .0) (link .last .1 .1 .1 .1 .0) (link .ensures .0) (link .kept .1 .1 .1 .1 .0) (marked .last .0) leaves (marked .ensures) part₂ (sort .last .0) (sort .ensures) (filters .last .0) (filters .ensures);
+      work-used = work-kept g made (link .last .0) (link .last .1 .1 .1 .1 .0) (link .ensures .0) (link .kept .1 .1 .1 .1 .0) (marked .last .0) leaves (marked .ensures) part₂ (marked .kept .0 ∙ link .kept .1 .1 .1 .1 .0) (link .ensures .1);
     }
 
 pub insert-label-entries-spec : {M : Type 1} → statement M

@@ -1,11 +1,6 @@
 -- Field by field.
 -- Assumes nothing.
-use Prim.Native.Nat.{ℕ, suc, _+_, _-_, _*_, _≤_, _<_, _^_}
-use mathlib.Core.Path.{_≡_, refl, sym, ap, ap₂, _∙_, subst}
-use mathlib.Core.List.{List}
-use native.Mathlib.Omega.{arith}
-use lib.ListN.{length, getD, drop}
-use lib.Seq.{sets}
+use Prim.Native.Nat.{_-_}
 use borrow.Author.Needs.{needs}
 use Rattle.label_entries.proofs.places_of.Statement.{statement}
 use Rattle.label_entries.proofs.places_of.Tie as tie
@@ -29,7 +24,7 @@ filters-at-requires : tie.Need-filters-at-requires
 filters-at-requires c κs = search needs
 
 returns : tie.Need-returns
-returns c = 
+returns c =
     λ t.
     record {
       owners = c .before .before .before .before .before .owners-at .ensures t;

@@ -1,18 +1,61 @@
 -- The filter is cleared, the hashes of the node's entries inserted, and the filters of its children, which stand after it, added.
 -- Assumes nothing.
-use Prim.Native.Nat.{ℕ, _+_, _-_, _*_, _≤_, _<_}
-use mathlib.Core.Path.{_≡_, refl, sym, ap, ap₂, _∙_}
+use Prim.Native.Nat.{ℕ, _+_, _-_, _*_, _<_}
+use mathlib.Core.Path.{_≡_, refl, ap, ap₂, _∙_}
 use mathlib.Core.List.{List, _++_}
 use native.Mathlib.Omega.{arith}
-use lib.ListN.{length, getD, take, drop}
-use lib.Seq.{sets, length-sets}
+use lib.ListN.{length, getD, drop, take}
+use lib.Seq.{length-sets}
 use Rattle.lists.specs.Lists.{part}
-use Rattle.label.specs.Filter.{emptyFilter}
-use Rattle.label_entries.proofs.Marking.{lent-is}
-use Rattle.label_entries.proofs.Filtering.{lent-four, block-element, filter-made}
+use Rattle.label_entries.proofs.Marking.{lent-is, block-element}
+use Rattle.label_entries.proofs.Filtering.{lent-four, filter-made}
 use borrow.Author.Needs.{needs}
 use Rattle.label_entries.proofs.filters.make_filter.Statement.{statement}
 use Rattle.label_entries.proofs.filters.make_filter.Tie as tie
+
+-- the hashes of the node's entries stand before the filters
+abbrev entries : tie.After-wide2 → List ℕ
+entries c =
+    let first = c .before .before .before .before .before .before .before .before .before .before .before .args .places .order + c .before .before .before .wide .result in
+    take (first + c .wide2 .result - first) (drop first (c .before .before .before .before .before .before .before .before .before .before .before .args .numbers .now))
+
+entry : (c : tie.After-wide2) (k : ℕ) → k < length (entries c) → getD (entries c) k 0 < c .before .before .before .before .before .before .before .before .before .before .before .args .places .filters + 4 * c .before .before .before .before .before .before .before .before .before .before .before .args .node
+entry c k b =
+    let s = c .before .before .before .before .before .before .before .before .before .before .before in
+    let row = s .pre .1 .1 .1 in
+    let l = s .args .numbers .now in
+    let first = s .args .places .order + c .before .before .before .wide .result in
+    let e₁ = c .before .before .before .wide .ensures in
+    let e₂ = c .wide2 .ensures in
+    let end = row .entries-end in
+    let x = block-element first (c .wide2 .result) l k (omega arith) b in
+    let place : first + k ≡ s .args .places .order + getD l (s .args .places .table + 4 + 6 * s .args .node) 0 + k = omega arith in
+    let v = x .1 ∙ ap (λ (j : ℕ). getD l j 0) place in
+    let u = row .entry-below k (omega (arith, x .0)) in
+    omega arith
+
+-- the node's children are later nodes
+abbrev children : tie.After-wide4 → List ℕ
+children c =
+    let from = c .before .before .before .before .before .before .before .before .before .before .before .before .before .before .before .before .before .before .before .before .before .args .places .links + c .before .before .before .wide3 .result in
+    take (from + c .wide4 .result - from) (drop from (c .before .before .before .before .before .before .before .before .before .before .before .before .before .before .before .before .before .before .before .before .before .args .numbers .now))
+
+child : (c : tie.After-wide4) (k : ℕ) → k < length (children c)
+    → (c .before .before .before .before .before .before .before .before .before .before .before .before .before .before .before .before .before .before .before .before .before .args .node < getD (children c) k 0) × (getD (children c) k 0 < c .before .before .before .before .before .before .before .before .before .before .before .before .before .before .before .before .before .before .before .before .before .args .nodes)
+child c k b =
+    let s = c .before .before .before .before .before .before .before .before .before .before .before .before .before .before .before .before .before .before .before .before .before in
+    let row = s .pre .1 .1 .1 in
+    let l = s .args .numbers .now in
+    let from = s .args .places .links + c .before .before .before .wide3 .result in
+    let e₃ = c .before .before .before .wide3 .ensures in
+    let e₄ = c .wide4 .ensures in
+    let end = row .children-end in
+    let x = block-element from (c .wide4 .result) l k (omega arith) b in
+    let place : from + k ≡ s .args .places .links + getD l (s .args .places .table + 6 * s .args .node) 0 + k = omega arith in
+    let z = x .1 ∙ ap (λ (j : ℕ). getD l j 0) place in
+    let below = row .child-below k (omega (arith, x .0)) in
+    let above = row .child-above k (omega (arith, x .0)) in
+    (omega arith, omega arith)
 
 mul-at : tie.Need-mul-at
 mul-at c = search needs
@@ -95,31 +138,13 @@ part-insert-hashes-end c = search needs
 insert-hashes-requires : tie.Need-insert-hashes-requires
 insert-hashes-requires c κs =
     let s = c .before .before .before .before .before .before .before .before .before .before .before .before .before in
-    let args = s .args in
-    let places = args .places in
-    let l = args .numbers .now in
-    let h₀ = args .hashes .now in
-    let row = s .pre .1 .1 .1 in
-    let i = args .node in
-    let small = s .pre .1 .1 .0 in
-    let fits = s .pre .0 in
-    let at = places .filters + 4 * i in
+    let h₀ = s .args .hashes .now in
     let clear = c .before .before .before .before .before .before .before .before .before .clear in
+    let at = s .args .places .filters + 4 * s .args .node in
+    let fits = s .pre .0 in
+    let small = s .pre .1 .1 .0 in
     let n₁ = ap (λ (r : List ℕ). length r) (lent-four h₀ at (clear .last .0) (omega arith) (ap (λ (r : List ℕ). length r) (clear .ensures))) ∙ length-sets h₀ at (clear .last .0) in
-    let e₁ = c .before .before .before .before .before .wide .ensures in
-    let e₂ = c .before .before .wide2 .ensures in
-    let first = places .order + c .before .before .before .before .before .wide .result in
-    let w = c .before .before .wide2 .result in
-    let in₁ = row .entries-end in
-    let entry : (k : ℕ) → k < length (take (first + w - first) (drop first l)) → getD (take (first + w - first) (drop first l)) k 0 < at =
-        λ k b.
-        let x = block-element first w l k (omega arith) b in
-        let place : first + k ≡ places .order + getD l (places .table + 4 + 6 * i) 0 + k = omega arith in
-        let v = x .1 ∙ ap (λ (j : ℕ). getD l j 0) place in
-        let u = row .entry-below k (omega (arith, x .0)) in
-        omega arith
-    in
-    (omega arith, entry)
+    (omega arith, entry (c .before .before))
 
 mul-wide-5 : tie.Need-mul-wide-5
 mul-wide-5 c = search needs
@@ -175,47 +200,15 @@ part-unite-children-end c = search needs
 unite-children-requires : tie.Need-unite-children-requires
 unite-children-requires c κs =
     let s = c .before .before .before .before .before .before .before .before .before .before .before .before .before .before .before .before .before .before .before .before .before .before .before in
-    let args = s .args in
-    let places = args .places in
-    let l = args .numbers .now in
-    let h₀ = args .hashes .now in
-    let row = s .pre .1 .1 .1 in
-    let i = args .node in
-    let small = s .pre .1 .1 .0 in
     let fits = s .pre .0 in
-    let at = places .filters + 4 * i in
+    let small = s .pre .1 .1 .0 in
+    let n₂ = c .before .before .before .before .before .before .before .before .before .insert-hashes .kept .0 in
+    let h₀ = s .args .hashes .now in
     let clear = c .before .before .before .before .before .before .before .before .before .before .before .before .before .before .before .before .before .before .before .clear in
+    let at = s .args .places .filters + 4 * s .args .node in
     let n₁ = ap (λ (r : List ℕ). length r) (lent-four h₀ at (clear .last .0) (omega arith) (ap (λ (r : List ℕ). length r) (clear .ensures))) ∙ length-sets h₀ at (clear .last .0) in
-    let e₁ = c .before .before .before .before .before .before .before .before .before .before .before .before .before .before .before .wide .ensures in
-    let e₂ = c .before .before .before .before .before .before .before .before .before .before .before .before .wide2 .ensures in
-    let first = places .order + c .before .before .before .before .before .before .before .before .before .before .before .before .before .before .before .wide .result in
-    let w = c .before .before .before .before .before .before .before .before .before .before .before .before .wide2 .result in
-    let in₁ = row .entries-end in
-    let entry : (k : ℕ) → k < length (take (first + w - first) (drop first l)) → getD (take (first + w - first) (drop first l)) k 0 < at =
-        λ k b.
-        let x = block-element first w l k (omega arith) b in
-        let place : first + k ≡ places .order + getD l (places .table + 4 + 6 * i) 0 + k = omega arith in
-        let v = x .1 ∙ ap (λ (j : ℕ). getD l j 0) place in
-        let u = row .entry-below k (omega (arith, x .0)) in
-        omega arith
-    in
-    let insert = c .before .before .before .before .before .before .before .before .before .insert-hashes in
-    let n₂ = insert .kept .0 in
-    let e₃ = c .before .before .before .before .before .wide3 .ensures in
-    let e₄ = c .before .before .wide4 .ensures in
-    let from = places .links + c .before .before .before .before .before .wide3 .result in
-    let v = c .before .before .wide4 .result in
-    let in₂ = row .children-end in
-    let child : (k : ℕ) → k < length (take (from + v - from) (drop from l)) → (i < getD (take (from + v - from) (drop from l)) k 0) × (getD (take (from + v - from) (drop from l)) k 0 < args .nodes) =
-        λ k b.
-        let x = block-element from v l k (omega arith) b in
-        let place : from + k ≡ places .links + getD l (places .table + 6 * i) 0 + k = omega arith in
-        let z = x .1 ∙ ap (λ (j : ℕ). getD l j 0) place in
-        let below = row .child-below k (omega (arith, x .0)) in
-        let above = row .child-above k (omega (arith, x .0)) in
-        (omega arith, omega arith)
-    in
-    (omega arith, ((λ k b. omega (arith, child k b .0)), (λ k b. omega (arith, child k b .1))))
+    let later = child (c .before .before) in
+    (omega arith, ((λ k b. omega (arith, later k b .0)), (λ k b. omega (arith, later k b .1))))
 
 same-length : tie.Need-same-length
 same-length c = search needs
@@ -223,52 +216,26 @@ same-length c = search needs
 returns : tie.Need-returns
 returns c =
     let s = c .before .before .before .before .before .before .before .before .before .before .before .before .before .before .before .before .before .before .before .before .before .before .before .before .before .before in
-    let args = s .args in
-    let places = args .places in
-    let l = args .numbers .now in
-    let h₀ = args .hashes .now in
-    let row = s .pre .1 .1 .1 in
-    let i = args .node in
-    let small = s .pre .1 .1 .0 in
-    let fits = s .pre .0 in
+    let places = s .args .places in
+    let l = s .args .numbers .now in
+    let h₀ = s .args .hashes .now in
+    let i = s .args .node in
     let at = places .filters + 4 * i in
+    let fits = s .pre .0 in
+    let small = s .pre .1 .1 .0 in
     let clear = c .before .before .before .before .before .before .before .before .before .before .before .before .before .before .before .before .before .before .before .before .before .before .clear in
-    let n₁ = ap (λ (r : List ℕ). length r) (lent-four h₀ at (clear .last .0) (omega arith) (ap (λ (r : List ℕ). length r) (clear .ensures))) ∙ length-sets h₀ at (clear .last .0) in
-    let e₁ = c .before .before .before .before .before .before .before .before .before .before .before .before .before .before .before .before .before .before .wide .ensures in
-    let e₂ = c .before .before .before .before .before .before .before .before .before .before .before .before .before .before .before .wide2 .ensures in
+    let insert = c .before .before .before .before .before .before .before .before .before .before .before .before .insert-hashes in
+    let unite = c .before .before .unite-children in
     let first = places .order + c .before .before .before .before .before .before .before .before .before .before .before .before .before .before .before .before .before .before .wide .result in
     let w = c .before .before .before .before .before .before .before .before .before .before .before .before .before .before .before .wide2 .result in
-    let in₁ = row .entries-end in
-    let entry : (k : ℕ) → k < length (take (first + w - first) (drop first l)) → getD (take (first + w - first) (drop first l)) k 0 < at =
-        λ k b.
-        let x = block-element first w l k (omega arith) b in
-        let place : first + k ≡ places .order + getD l (places .table + 4 + 6 * i) 0 + k = omega arith in
-        let v = x .1 ∙ ap (λ (j : ℕ). getD l j 0) place in
-        let u = row .entry-below k (omega (arith, x .0)) in
-        omega arith
-    in
-    let insert = c .before .before .before .before .before .before .before .before .before .before .before .before .insert-hashes in
-    let n₂ = insert .kept .0 in
-    let e₃ = c .before .before .before .before .before .before .before .before .wide3 .ensures in
-    let e₄ = c .before .before .before .before .before .wide4 .ensures in
     let from = places .links + c .before .before .before .before .before .before .before .before .wide3 .result in
     let v = c .before .before .before .before .before .wide4 .result in
-    let in₂ = row .children-end in
-    let child : (k : ℕ) → k < length (take (from + v - from) (drop from l)) → (i < getD (take (from + v - from) (drop from l)) k 0) × (getD (take (from + v - from) (drop from l)) k 0 < args .nodes) =
-        λ k b.
-        let x = block-element from v l k (omega arith) b in
-        let place : from + k ≡ places .links + getD l (places .table + 6 * i) 0 + k = omega arith in
-        let z = x .1 ∙ ap (λ (j : ℕ). getD l j 0) place in
-        let below = row .child-below k (omega (arith, x .0)) in
-        let above = row .child-above k (omega (arith, x .0)) in
-        (omega arith, omega arith)
-    in
-    let unite = c .before .before .unite-children in
+    let later = child (c .before .before .before .before .before) in
     filter-made places l h₀ (insert .last .0) (unite .last .0) (clear .last .0) (take (first + w - first) (drop first l)) (take (from + v - from) (drop from l)) at i
     refl (omega arith) (clear .ensures) (take at h₀ ++ (clear .last .0 ++ drop (at + 4 - at) (drop at h₀))) refl (insert .ensures) (unite .ensures)
-    (lent-is first w l ∙ ap₂ (λ (a b : ℕ). part (places .order + a) b l) e₁ e₂)
-    (lent-is from v l ∙ ap₂ (λ (a b : ℕ). part (places .links + a) b l) e₃ e₄)
-    entry (λ k b. omega (arith, child k b .0)) (λ k b. omega (arith, child k b .1))
+    (lent-is first w l ∙ ap₂ (λ (a b : ℕ). part (places .order + a) b l) (c .before .before .before .before .before .before .before .before .before .before .before .before .before .before .before .before .before .before .wide .ensures) (c .before .before .before .before .before .before .before .before .before .before .before .before .before .before .before .wide2 .ensures))
+    (lent-is from v l ∙ ap₂ (λ (a b : ℕ). part (places .links + a) b l) (c .before .before .before .before .before .before .before .before .wide3 .ensures) (c .before .before .before .before .before .wide4 .ensures))
+    (entry (c .before .before .before .before .before .before .before .before .before .before .before .before .before .before .before)) (λ k b. omega (arith, later k b .0)) (λ k b. omega (arith, later k b .1))
 
 pub make-filter-spec : {M : Type 1} → statement M
 make-filter-spec =

@@ -1,12 +1,9 @@
 -- What is still to be made from here is what was due: the filters of the nodes below i.
 -- Assumes nothing.
-use Prim.Native.Nat.{ℕ, zero, suc, _+_, _-_, _*_, _≤_, _<_}
-use mathlib.Core.Path.{_≡_, refl, sym, ap, ap₂, _∙_, subst}
-use mathlib.Core.List.{List, [], _∷_, _++_, map}
-use native.Mathlib.Numerals.{add-one}
+use Prim.Native.Nat.{ℕ, suc, _-_, _≤_, _<_}
+use mathlib.Core.Path.{_≡_, refl, sym, ap, _∙_}
 use native.Mathlib.Omega.{arith}
-use lib.ListN.{length, getD, set, take, drop, length-set, length-take, length-drop}
-use lib.Seq.{sets, take-suc, take-all, length-take-le, length-sets}
+use lib.ListN.{length}
 use borrow.Author.Needs.{needs}
 use Rattle.label_entries.specs.Passes.{filtersMade}
 use Rattle.label_entries.proofs.Filtering.{made-next, made-none}
@@ -27,7 +24,7 @@ sub-i : tie.Need-sub-i Inv-loop μ-loop
 sub-i c = omega arith
 
 make-filter-requires : tie.Need-make-filter-requires Inv-loop μ-loop
-make-filter-requires c κs = 
+make-filter-requires c κs =
     let s = c .before .before .before .before .before in
     let at-loop = c .before .before .loop in
     let t = c .before .loop-test .taken in
@@ -41,22 +38,24 @@ loop-less : tie.Need-loop-less Inv-loop μ-loop
 loop-less c = omega arith
 
 loop-again : tie.Need-loop-again Inv-loop μ-loop
-loop-again c = 
+loop-again c =
     let s = c .before .before .before .before .before .before .before .before in
     let args = s .args in
     let at-loop = c .before .before .before .before .before .loop in
     let make = c .before .before .make-filter in
     let t = c .before .before .before .before .loop-test .taken in
-    let j : suc (at-loop .i - 1) ≡ at-loop .i = omega arith in
-    (omega arith, make .kept .0 ∙ at-loop .inv .1,
-    made-next (args .places) (args .numbers .now) (at-loop .hashes) (make .last .0) (at-loop .i - 1) (make .ensures)
-    ∙ ap (λ (k : ℕ). filtersMade (args .places) (args .numbers .now) k (at-loop .hashes)) j ∙ at-loop .inv .2)
+    let j : suc (at-loop .i - 1) ≡ at-loop .i = omega arith in (
+      omega arith,
+      make .kept .0 ∙ at-loop .inv .1,
+      made-next (args .places) (args .numbers .now) (at-loop .hashes) (make .last .0) (at-loop .i - 1) (make .ensures)
+          ∙ ap (λ (k : ℕ). filtersMade (args .places) (args .numbers .now) k (at-loop .hashes)) j ∙ at-loop .inv .2,
+    )
 
 same-length : tie.Need-same-length Inv-loop μ-loop
 same-length c = search needs
 
 returns : tie.Need-returns Inv-loop μ-loop
-returns c = 
+returns c =
     let args = c .before .before .before .before .args in
     let at-loop = c .before .loop in
     let z : 0 ≡ at-loop .i = omega arith in

@@ -1,12 +1,11 @@
 -- The filters of the first k children are added; those of the others stand after the filter and stay.
 -- Assumes nothing.
-use Prim.Native.Nat.{ℕ, zero, suc, _+_, _-_, _*_, _≤_, _<_}
-use mathlib.Core.Path.{_≡_, refl, sym, ap, ap₂, _∙_, subst}
-use mathlib.Core.List.{List, [], _∷_, _++_, map}
-use native.Mathlib.Numerals.{add-one}
+use Prim.Native.Nat.{ℕ, _+_, _-_, _*_, _≤_, _<_}
+use mathlib.Core.Path.{_≡_, refl, ap, _∙_}
+use mathlib.Core.List.{List, map}
 use native.Mathlib.Omega.{arith}
-use lib.ListN.{length, getD, set, take, drop, length-set, length-take, length-drop}
-use lib.Seq.{sets, take-suc, take-all, length-take-le, length-sets}
+use lib.ListN.{length}
+use lib.Seq.{sets, take-all, length-sets}
 use borrow.Author.Needs.{needs}
 use Rattle.lists.specs.Lists.{part}
 use Rattle.tree.specs.NodeLaws.{unionAll}
@@ -23,15 +22,31 @@ Inv-loop hashes₀ filters at children end k₀ hashes k =
 abbrev μ-loop : tie.MeasureT-loop
 μ-loop hashes₀ filters at children end k₀ hashes k = length children - k
 
+-- the child's filter stands after the filter
+behind : (c : tie.After-wide Inv-loop μ-loop)
+    → (c .before .before .before .before .loop .k < length (c .before .before .before .before .before .before .before .args .children .now)) × (c .before .before .before .before .before .before .before .args .at + 4 ≤ c .before .before .before .before .before .before .before .args .filters + 4 * c .wide .result)
+    × (c .before .before .before .before .before .before .before .args .filters + 4 * c .wide .result + 4 ≤ length (c .before .before .before .before .loop .hashes))
+behind c =
+    let s = c .before .before .before .before .before .before .before in
+    let at-loop = c .before .before .before .before .loop in
+    let h : at-loop .k < length (s .args .children .now) = omega arith in
+    let a = s .pre .1 .0 (at-loop .k) h in
+    let b = s .pre .1 .1 (at-loop .k) h in
+    let e = c .wide .ensures in
+    (h, omega arith, omega (arith, b, e, at-loop .inv .1))
+
 add-end : tie.Need-add-end Inv-loop μ-loop
 add-end c = omega arith
 
 loop-holds : tie.Need-loop-holds Inv-loop μ-loop
-loop-holds c = 
+loop-holds c =
     let s = c .before .before in
-    let args = s .args in
-    (omega arith, refl, united-none (args .hashes .now) (args .filters) (args .at) (args .children .now),
-    united-first (args .hashes .now) (args .filters) (args .at) (args .children .now) (s .pre .0))
+    let args = s .args in (
+      omega arith,
+      refl,
+      united-none (args .hashes .now) (args .filters) (args .at) (args .children .now),
+      united-first (args .hashes .now) (args .filters) (args .at) (args .children .now) (s .pre .0),
+    )
 
 mul-wide : tie.Need-mul-wide Inv-loop μ-loop
 mul-wide c = omega arith
@@ -43,116 +58,32 @@ wide-requires : tie.Need-wide-requires Inv-loop μ-loop
 wide-requires c κs = search needs
 
 mul-words : tie.Need-mul-words Inv-loop μ-loop
-mul-words c = 
-    let s = c .before .before .before .before .before .before .before in
-    let args = s .args in
-    let at-loop = c .before .before .before .before .loop in
-    let k = at-loop .k in
-    let h : k < length (args .children .now) = omega arith in
-    let a = s .pre .1 .0 k h in
-    let b = s .pre .1 .1 k h in
-    let fits = s .pre .0 in
-    let e = c .wide .ensures in
-    let x = c .wide .result in
-    omega arith
+mul-words c = let r = behind (c) in omega (arith, r .1, r .2)
 
 add-words : tie.Need-add-words Inv-loop μ-loop
-add-words c = 
-    let s = c .before .before .before .before .before .before .before in
-    let args = s .args in
-    let at-loop = c .before .before .before .before .loop in
-    let k = at-loop .k in
-    let h : k < length (args .children .now) = omega arith in
-    let a = s .pre .1 .0 k h in
-    let b = s .pre .1 .1 k h in
-    let fits = s .pre .0 in
-    let e = c .wide .ensures in
-    let x = c .wide .result in
-    omega arith
+add-words c = let r = behind (c) in omega (arith, r .1, r .2)
 
 words-requires : tie.Need-words-requires Inv-loop μ-loop
-words-requires c κs = 
-    let s = c .before .before .before .before .before .before .before in
-    let args = s .args in
-    let at-loop = c .before .before .before .before .loop in
-    let k = at-loop .k in
-    let h : k < length (args .children .now) = omega arith in
-    let a = s .pre .1 .0 k h in
-    let b = s .pre .1 .1 k h in
-    let fits = s .pre .0 in
-    let e = c .wide .ensures in
-    let x = c .wide .result in
-    omega arith
+words-requires c κs = let r = behind (c) in omega (arith, r .1, r .2)
 
 mul-unite : tie.Need-mul-unite Inv-loop μ-loop
-mul-unite c = 
-    let s = c .before .before .before .before .before .before .before .before in
-    let args = s .args in
-    let at-loop = c .before .before .before .before .before .loop in
-    let k = at-loop .k in
-    let h : k < length (args .children .now) = omega arith in
-    let a = s .pre .1 .0 k h in
-    let b = s .pre .1 .1 k h in
-    let fits = s .pre .0 in
-    let e = c .before .wide .ensures in
-    let x = c .before .wide .result in
-    omega arith
+mul-unite c = let r = behind (c .before) in omega (arith, r .1, r .2)
 
 sub-unite : tie.Need-sub-unite Inv-loop μ-loop
-sub-unite c = 
-    let s = c .before .before .before .before .before .before .before .before in
-    let args = s .args in
-    let at-loop = c .before .before .before .before .before .loop in
-    let k = at-loop .k in
-    let h : k < length (args .children .now) = omega arith in
-    let a = s .pre .1 .0 k h in
-    let b = s .pre .1 .1 k h in
-    let fits = s .pre .0 in
-    let e = c .before .wide .ensures in
-    let x = c .before .wide .result in
-    omega arith
+sub-unite c = let r = behind (c .before) in omega (arith, r .1, r .2)
 
 part-unite-start : tie.Need-part-unite-start Inv-loop μ-loop
-part-unite-start c = 
-    let s = c .before .before .before .before .before .before .before .before in
-    let args = s .args in
-    let at-loop = c .before .before .before .before .before .loop in
-    let k = at-loop .k in
-    let h : k < length (args .children .now) = omega arith in
-    let a = s .pre .1 .0 k h in
-    let b = s .pre .1 .1 k h in
-    let fits = s .pre .0 in
-    let e = c .before .wide .ensures in
-    let x = c .before .wide .result in
-    omega arith
+part-unite-start c = let r = behind (c .before) in omega (arith, r .1, r .2)
 
 part-unite-end : tie.Need-part-unite-end Inv-loop μ-loop
-part-unite-end c = 
-    let s = c .before .before .before .before .before .before .before .before in
-    let args = s .args in
-    let at-loop = c .before .before .before .before .before .loop in
-    let k = at-loop .k in
-    let h : k < length (args .children .now) = omega arith in
-    let a = s .pre .1 .0 k h in
-    let b = s .pre .1 .1 k h in
-    let fits = s .pre .0 in
-    let e = c .before .wide .ensures in
-    let x = c .before .wide .result in
-    omega arith
+part-unite-end c = let r = behind (c .before) in omega (arith, r .1, r .2)
 
 unite-requires : tie.Need-unite-requires Inv-loop μ-loop
-unite-requires c κs = 
-    let s = c .before .before .before .before .before .before .before .before .before in
-    let args = s .args in
-    let at-loop = c .before .before .before .before .before .before .loop in
-    let k = at-loop .k in
-    let h : k < length (args .children .now) = omega arith in
-    let a = s .pre .1 .0 k h in
-    let b = s .pre .1 .1 k h in
-    let fits = s .pre .0 in
-    let e = c .before .before .wide .ensures in
-    let x = c .before .before .wide .result in
-    ap (λ (r : List ℕ). length r) (lent-is (args .at) 4 (at-loop .hashes)) ∙ length-four (at-loop .hashes) (args .at) (omega arith)
+unite-requires c κs =
+    let r = behind (c .before .before) in
+    let at = c .before .before .before .before .before .before .before .before .before .args .at in
+    let l = c .before .before .before .before .before .before .loop .hashes in
+    ap (λ (r : List ℕ). length r) (lent-is at 4 l) ∙ length-four l at (omega (arith, r .1, r .2))
 
 add-k : tie.Need-add-k Inv-loop μ-loop
 add-k c = omega arith
@@ -161,28 +92,27 @@ loop-less : tie.Need-loop-less Inv-loop μ-loop
 loop-less c = omega arith
 
 loop-again : tie.Need-loop-again Inv-loop μ-loop
-loop-again c = 
+loop-again c =
+    let r = behind (c .before .before .before .before .before) in
     let s = c .before .before .before .before .before .before .before .before .before .before .before .before in
-    let args = s .args in
+    let l₀ = s .args .hashes .now in
+    let at = s .args .at in
+    let filters = s .args .filters in
+    let children = s .args .children .now in
     let at-loop = c .before .before .before .before .before .before .before .before .before .loop in
     let k = at-loop .k in
-    let h : k < length (args .children .now) = omega arith in
-    let a = s .pre .1 .0 k h in
-    let b = s .pre .1 .1 k h in
-    let fits = s .pre .0 in
-    let e = c .before .before .before .before .before .wide .ensures in
-    let x = c .before .before .before .before .before .wide .result in
     let unite = c .before .before .unite in
-    let four = united-four (args .hashes .now) (args .filters) (args .at) (args .children .now) k h (at-loop .inv .3) b in
-    let next = united-next (args .hashes .now) (at-loop .hashes) (unite .last .0) (c .before .before .before .before .words .result) (args .filters) (args .at) (args .children .now) k x fits h (at-loop .inv .3) four
-        (at-loop .inv .2) e (omega arith) (c .before .before .before .before .words .ensures) (unite .ensures) in
-    (omega arith, ap (λ (r : List ℕ). length r) next ∙ length-sets (args .hashes .now) (args .at) (united (args .hashes .now) (args .filters) (args .at) (args .children .now) (k + 1)), next, four)
+    let words = c .before .before .before .before .words in
+    let four = united-four l₀ filters at children k (r .0) (at-loop .inv .3) (s .pre .1 .1 k (r .0)) in
+    let next = united-next l₀ (at-loop .hashes) (unite .last .0) (words .result) filters at children k (c .before .before .before .before .before .wide .result) (s .pre .0) (r .0) (at-loop .inv .3) four (at-loop .inv .2)
+    (c .before .before .before .before .before .wide .ensures) (r .1) (words .ensures) (unite .ensures) in
+    (omega arith, ap (λ (r : List ℕ). length r) next ∙ length-sets l₀ at (united l₀ filters at children (k + 1)), next, four)
 
 same-length : tie.Need-same-length Inv-loop μ-loop
 same-length c = search needs
 
 returns : tie.Need-returns Inv-loop μ-loop
-returns c = 
+returns c =
     let args = c .before .before .before .before .args in
     let at-loop = c .before .loop in
     at-loop .inv .2

@@ -1,24 +1,23 @@
 -- One pass after the other.
 -- Assumes nothing.
-use Prim.Native.Nat.{ℕ, suc, _+_, _-_, _*_, _≤_, _<_, _^_}
-use mathlib.Core.Path.{_≡_, refl, sym, ap, ap₂, _∙_, subst}
+use Prim.Native.Nat.{ℕ, _+_, _-_}
+use mathlib.Core.Path.{ap, _∙_}
 use mathlib.Core.List.{List}
 use native.Mathlib.Omega.{arith}
-use lib.ListN.{length, getD, drop}
-use lib.Seq.{sets}
+use lib.ListN.{getD}
 use Rattle.label_entries.specs.Passes.{written, leavesMarked}
 use borrow.Author.Needs.{needs}
 use Rattle.label_entries.proofs.leaves.entry_leaves.Statement.{statement}
 use Rattle.label_entries.proofs.leaves.entry_leaves.Tie as tie
 
 mark-leaves-requires : tie.Need-mark-leaves-requires
-mark-leaves-requires c κs = 
+mark-leaves-requires c κs =
     let s = c .before .before .before in
     let long = s .pre .0 in
     (s .pre .1 .0, (s .pre .1 .1 .0, (s .pre .1 .1 .1 .0, λ k b. let h = s .pre .1 .1 .1 .1 .0 k b in omega arith)))
 
 find-leaves-requires : tie.Need-find-leaves-requires
-find-leaves-requires c κs = 
+find-leaves-requires c κs =
     let s = c .before .before .before .before .before .before .before in
     let n = c .before .before .before .mark-leaves .kept .0 in
     let long = s .pre .0 in
@@ -29,7 +28,7 @@ same-length c = search needs
 
 returns : tie.Need-returns
 unfolding leavesMarked
-returns c = 
+returns c =
     let args = c .before .before .before .before .before .before .before .before .before .before .args in
     c .before .before .find-leaves .ensures
     ∙ ap (λ (r : List ℕ). written (λ k. args .at + k) (λ k. getD r (getD (args .numbers .now) (args .owners + k) 0) 0) (args .entries) r) (c .before .before .before .before .before .before .mark-leaves .ensures)

@@ -1,16 +1,13 @@
 -- The leaves of the first k entries are written; the places before `at` keep the leaves of the vectors.
 -- Assumes nothing.
-use Prim.Native.Nat.{ℕ, _+_, _-_, _*_, _≤_, _<_}
+use Prim.Native.Nat.{ℕ, _+_, _-_, _≤_}
 use mathlib.Core.Path.{_≡_, refl, sym, ap, ap₂, _∙_}
 use mathlib.Core.List.{List}
-use native.Mathlib.Numerals.{add-one}
 use native.Mathlib.Omega.{arith}
-use lib.ListN.{length, getD, set, take, drop, length-set}
-use lib.Seq.{sets, take-suc, take-all, length-take-le}
+use lib.ListN.{length, getD, length-set}
 use borrow.Author.Needs.{needs}
-use Rattle.lists.specs.Parts.{sets-snoc}
-use Rattle.label_entries.specs.Passes.{written, cellAt, cell, column, sumTo, startAt, blockStart}
-use Rattle.label_entries.proofs.Written.{written-next, written-none, length-written, getD-written-other, written-congr, sumTo-next, sumTo-suc, sum-none}
+use Rattle.label_entries.specs.Passes.{written}
+use Rattle.label_entries.proofs.Written.{written-next, written-none, getD-written-other}
 use Rattle.label_entries.proofs.leaves.find_leaves.Statement.{statement}
 use Rattle.label_entries.proofs.leaves.find_leaves.Tie as tie
 
@@ -37,7 +34,7 @@ wide-requires : tie.Need-wide-requires Inv-loop μ-loop
 wide-requires c κs = search needs
 
 mul-work : tie.Need-mul-work Inv-loop μ-loop
-mul-work c = 
+mul-work c =
     let start = c .before .before .before .before .before .before in
     let at-loop = c .before .before .before .loop in
     let e = c .wide .ensures in
@@ -45,7 +42,7 @@ mul-work c =
     omega arith
 
 slice-read-work : tie.Need-slice-read-work Inv-loop μ-loop
-slice-read-work c = 
+slice-read-work c =
     let start = c .before .before .before .before .before .before .before in
     let at-loop = c .before .before .before .before .loop in
     let e = c .before .wide .ensures in
@@ -68,7 +65,7 @@ loop-less : tie.Need-loop-less Inv-loop μ-loop
 loop-less c = omega arith
 
 loop-again : tie.Need-loop-again Inv-loop μ-loop
-loop-again c = 
+loop-again c =
     let start = c .before .before .before .before .before .before .before in
     let at-loop = c .before .before .before .before .loop in
     let args = start .args in
@@ -76,17 +73,19 @@ loop-again c =
     let e = c .before .wide .ensures in
     let b = start .pre .1 .1 k (omega arith) in
     let p : ℕ → ℕ = λ k. args .at + k in
-    let f : ℕ → ℕ = λ k. getD (args .work .now) (getD (args .numbers .now) (args .owners + k) 0) 0 in
-    (omega arith, length-set (at-loop .work) (args .at + k) (getD (at-loop .work) (c .before .wide .result) 0) ∙ at-loop .inv .1,
-    written-next p f (args .work .now) k (getD (at-loop .work) (c .before .wide .result) 0) (at-loop .work) (at-loop .inv .2)
-    (ap₂ (λ (r : List ℕ) (q : ℕ). getD r q 0) (at-loop .inv .2) e
-    ∙ getD-written-other p f k (args .work .now) (getD (args .numbers .now) (args .owners + k) 0) (λ i g w. omega arith)))
+    let f : ℕ → ℕ = λ k. getD (args .work .now) (getD (args .numbers .now) (args .owners + k) 0) 0 in (
+      omega arith,
+      length-set (at-loop .work) (args .at + k) (getD (at-loop .work) (c .before .wide .result) 0) ∙ at-loop .inv .1,
+      written-next p f (args .work .now) k (getD (at-loop .work) (c .before .wide .result) 0) (at-loop .work) (at-loop .inv .2)
+          (ap₂ (λ (r : List ℕ) (q : ℕ). getD r q 0) (at-loop .inv .2) e
+          ∙ getD-written-other p f k (args .work .now) (getD (args .numbers .now) (args .owners + k) 0) (λ i g w. omega arith)),
+    )
 
 same-length : tie.Need-same-length Inv-loop μ-loop
 same-length c = search needs
 
 returns : tie.Need-returns Inv-loop μ-loop
-returns c = 
+returns c =
     let at-loop = c .before .loop in
     let args = c .before .before .before .before .args in
     let e : at-loop .k ≡ args .entries = omega arith in

@@ -1,16 +1,12 @@
 -- The first k ids are marked.
 -- Assumes nothing.
-use Prim.Native.Nat.{ℕ, _+_, _-_, _*_, _≤_, _<_}
-use mathlib.Core.Path.{_≡_, refl, sym, ap, ap₂, _∙_}
-use mathlib.Core.List.{List}
-use native.Mathlib.Numerals.{add-one}
+use Prim.Native.Nat.{ℕ, _-_, _≤_}
+use mathlib.Core.Path.{_≡_, refl, sym, ap, _∙_}
 use native.Mathlib.Omega.{arith}
-use lib.ListN.{length, getD, set, take, drop, length-set}
-use lib.Seq.{sets, take-suc, take-all, length-take-le}
+use lib.ListN.{length, getD, set, length-set}
 use borrow.Author.Needs.{needs}
-use Rattle.lists.specs.Parts.{sets-snoc}
-use Rattle.label_entries.specs.Passes.{written, cellAt, cell, column, sumTo, startAt, blockStart}
-use Rattle.label_entries.proofs.Written.{written-next, written-none, length-written, getD-written-other, written-congr, sumTo-next, sumTo-suc, sum-none}
+use Rattle.label_entries.specs.Passes.{written}
+use Rattle.label_entries.proofs.Written.{written-next, written-none}
 use Rattle.label_entries.proofs.leaves.mark_leaf.Statement.{statement}
 use Rattle.label_entries.proofs.leaves.mark_leaf.Tie as tie
 
@@ -34,14 +30,14 @@ wide-requires : tie.Need-wide-requires Inv-loop μ-loop
 wide-requires c κs = search needs
 
 mul-work : tie.Need-mul-work Inv-loop μ-loop
-mul-work c = 
+mul-work c =
     let at-loop = c .before .before .before .loop in
     let e = c .wide .ensures in
     let b = c .before .before .before .before .before .before .pre (at-loop .k) (omega arith) in
     omega arith
 
 slice-write-work : tie.Need-slice-write-work Inv-loop μ-loop
-slice-write-work c = 
+slice-write-work c =
     let at-loop = c .before .before .before .loop in
     let e = c .wide .ensures in
     let b = c .before .before .before .before .before .before .pre (at-loop .k) (omega arith) in
@@ -54,19 +50,21 @@ loop-less : tie.Need-loop-less Inv-loop μ-loop
 loop-less c = omega arith
 
 loop-again : tie.Need-loop-again Inv-loop μ-loop
-loop-again c = 
+loop-again c =
     let at-loop = c .before .before .before .loop in
     let args = c .before .before .before .before .before .before .args in
-    let p : ℕ → ℕ = λ k. getD (args .ids .now) k 0 in
-    (omega arith, length-set (at-loop .work) (c .wide .result) (args .node) ∙ at-loop .inv .1,
-    ap (λ (q : ℕ). set (at-loop .work) q (args .node)) (c .wide .ensures)
-    ∙ written-next p (λ k. args .node) (args .work .now) (at-loop .k) (args .node) (at-loop .work) (at-loop .inv .2) refl)
+    let p : ℕ → ℕ = λ k. getD (args .ids .now) k 0 in (
+      omega arith,
+      length-set (at-loop .work) (c .wide .result) (args .node) ∙ at-loop .inv .1,
+      ap (λ (q : ℕ). set (at-loop .work) q (args .node)) (c .wide .ensures)
+          ∙ written-next p (λ k. args .node) (args .work .now) (at-loop .k) (args .node) (at-loop .work) (at-loop .inv .2) refl,
+    )
 
 same-length : tie.Need-same-length Inv-loop μ-loop
 same-length c = search needs
 
 returns : tie.Need-returns Inv-loop μ-loop
-returns c = 
+returns c =
     let at-loop = c .before .loop in
     let args = c .before .before .before .before .args in
     let e : at-loop .k ≡ length (args .ids .now) = omega arith in

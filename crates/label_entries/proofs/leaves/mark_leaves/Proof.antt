@@ -1,17 +1,15 @@
 -- The vectors of the nodes below i are marked; `from` is where the block of node i starts.
 -- Assumes nothing.
-use Prim.Native.Nat.{ℕ, zero, suc, _+_, _-_, _*_, _≤_, _<_}
-use mathlib.Core.Path.{_≡_, refl, sym, ap, ap₂, _∙_, subst}
-use mathlib.Core.List.{List, [], _∷_, _++_, map}
-use native.Mathlib.Numerals.{add-one}
+use Prim.Native.Nat.{ℕ, _+_, _-_, _≤_, _<_}
+use mathlib.Core.Path.{_≡_, refl, ap, _∙_}
+use mathlib.Core.List.{List}
 use native.Mathlib.Omega.{arith}
-use lib.ListN.{length, getD, set, take, drop, length-set, length-take, length-drop}
-use lib.Seq.{sets, take-suc, take-all, length-take-le, length-sets}
+use lib.ListN.{length, getD, take, drop}
 use borrow.Author.Needs.{needs}
 use Rattle.lists.specs.Parts.{length-part, getD-part}
 use Rattle.label_entries.specs.Passes.{cell, sumTo, marked}
 use Rattle.label_entries.proofs.Written.{sumTo-next, sumTo-suc, sum-none}
-use Rattle.label_entries.proofs.Marking.{lent-is, marked-none, marked-next}
+use Rattle.label_entries.proofs.Marking.{lent-is, block-element, marked-none, marked-next}
 use Rattle.label_entries.proofs.leaves.mark_leaves.Statement.{statement}
 use Rattle.label_entries.proofs.leaves.mark_leaves.Tie as tie
 
@@ -23,11 +21,35 @@ Inv-loop work₀ numbers at nodes order from₀ i₀ work from i =
 abbrev μ-loop : tie.MeasureT-loop
 μ-loop work₀ numbers at nodes order from₀ i₀ work from i = nodes - i
 
+-- the block of node i
+record Block (order : ℕ) (counts : ℕ → ℕ) (nodes i from w size : ℕ) : Type 0 where
+  node-lt : i < nodes
+  count-is : w ≡ counts i
+  from-is : from ≡ order + sumTo counts i
+  in-sum : sumTo counts i + counts i ≤ sumTo counts nodes
+  in-order : from + w ≤ size
+
+block : (c : tie.After-wide Inv-loop μ-loop)
+    → Block (c .before .before .before .before .before .before .args .order) (cell (c .before .before .before .before .before .before .args .at) (c .before .before .before .before .before .before .args .numbers .now)) (c .before .before .before .before .before .before .args .nodes) (c .before .before .before .loop .i) (c .before .before .before .loop .from) (c .wide .result) (length (c .before .before .before .before .before .before .args .numbers .now))
+block c =
+    let s = c .before .before .before .before .before .before in
+    let args = s .args in
+    let at-loop = c .before .before .before .loop in
+    let h : at-loop .i < args .nodes = c .before .before .loop-test .taken in
+    let n = sumTo-next (cell (args .at) (args .numbers .now)) (at-loop .i) (args .nodes) h in
+    let e = c .wide .ensures in
+    let f = at-loop .inv .2 in
+    let p = s .pre .1 .1 .0 in
+    record { node-lt = h; count-is = e; from-is = f; in-sum = n; in-order = omega arith }
+
 loop-holds : tie.Need-loop-holds Inv-loop μ-loop
-loop-holds c = 
-    let args = c .before .before .args in
-    (omega arith, refl, let z = sum-none (cell (args .at) (args .numbers .now)) in omega arith,
-    marked-none (λ k. getD (args .numbers .now) (args .order + k) 0) (cell (args .at) (args .numbers .now)) (args .work .now))
+loop-holds c =
+    let args = c .before .before .args in (
+      omega arith,
+      refl,
+      let z = sum-none (cell (args .at) (args .numbers .now)) in omega arith,
+      marked-none (λ k. getD (args .numbers .now) (args .order + k) 0) (cell (args .at) (args .numbers .now)) (args .work .now),
+    )
 
 mul-wide : tie.Need-mul-wide Inv-loop μ-loop
 mul-wide c = omega arith
@@ -45,111 +67,39 @@ wide-requires : tie.Need-wide-requires Inv-loop μ-loop
 wide-requires c κs = search needs
 
 add-next : tie.Need-add-next Inv-loop μ-loop
-add-next c = 
-    let s = c .before .before .before .before .before .before in
-    let args = s .args in
-    let at-loop = c .before .before .before .loop in
-    let counts : ℕ → ℕ = cell (args .at) (args .numbers .now) in
-    let i = at-loop .i in
-    let h : i < args .nodes = c .before .before .loop-test .taken in
-    let n = sumTo-next counts i (args .nodes) h in
-    let f = at-loop .inv .2 in
-    let p = s .pre .1 .1 .0 in
-    let q = s .pre .0 in
-    let e = c .wide .ensures in
-    let w = c .wide .result in
-    omega arith
+add-next c = let b = block (c) in omega arith
 
 mul-mark-leaf : tie.Need-mul-mark-leaf Inv-loop μ-loop
-mul-mark-leaf c = 
-    let s = c .before .before .before .before .before .before .before in
-    let args = s .args in
-    let at-loop = c .before .before .before .before .loop in
-    let counts : ℕ → ℕ = cell (args .at) (args .numbers .now) in
-    let i = at-loop .i in
-    let h : i < args .nodes = c .before .before .before .loop-test .taken in
-    let n = sumTo-next counts i (args .nodes) h in
-    let f = at-loop .inv .2 in
-    let p = s .pre .1 .1 .0 in
-    let q = s .pre .0 in
-    let e = c .before .wide .ensures in
-    let w = c .before .wide .result in
-    omega arith
+mul-mark-leaf c = let b = block (c .before) in omega arith
 
 sub-mark-leaf : tie.Need-sub-mark-leaf Inv-loop μ-loop
-sub-mark-leaf c = 
-    let s = c .before .before .before .before .before .before .before in
-    let args = s .args in
-    let at-loop = c .before .before .before .before .loop in
-    let counts : ℕ → ℕ = cell (args .at) (args .numbers .now) in
-    let i = at-loop .i in
-    let h : i < args .nodes = c .before .before .before .loop-test .taken in
-    let n = sumTo-next counts i (args .nodes) h in
-    let f = at-loop .inv .2 in
-    let p = s .pre .1 .1 .0 in
-    let q = s .pre .0 in
-    let e = c .before .wide .ensures in
-    let w = c .before .wide .result in
-    omega arith
+sub-mark-leaf c = let b = block (c .before) in omega arith
 
 part-mark-leaf-start : tie.Need-part-mark-leaf-start Inv-loop μ-loop
-part-mark-leaf-start c = 
-    let s = c .before .before .before .before .before .before .before in
-    let args = s .args in
-    let at-loop = c .before .before .before .before .loop in
-    let counts : ℕ → ℕ = cell (args .at) (args .numbers .now) in
-    let i = at-loop .i in
-    let h : i < args .nodes = c .before .before .before .loop-test .taken in
-    let n = sumTo-next counts i (args .nodes) h in
-    let f = at-loop .inv .2 in
-    let p = s .pre .1 .1 .0 in
-    let q = s .pre .0 in
-    let e = c .before .wide .ensures in
-    let w = c .before .wide .result in
-    omega arith
+part-mark-leaf-start c = let b = block (c .before) in omega arith
 
 part-mark-leaf-end : tie.Need-part-mark-leaf-end Inv-loop μ-loop
-part-mark-leaf-end c = 
-    let s = c .before .before .before .before .before .before .before in
-    let args = s .args in
-    let at-loop = c .before .before .before .before .loop in
-    let counts : ℕ → ℕ = cell (args .at) (args .numbers .now) in
-    let i = at-loop .i in
-    let h : i < args .nodes = c .before .before .before .loop-test .taken in
-    let n = sumTo-next counts i (args .nodes) h in
-    let f = at-loop .inv .2 in
-    let p = s .pre .1 .1 .0 in
-    let q = s .pre .0 in
-    let e = c .before .wide .ensures in
-    let w = c .before .wide .result in
-    omega arith
+part-mark-leaf-end c = let b = block (c .before) in omega arith
 
 cast-mark-leaf : tie.Need-cast-mark-leaf Inv-loop μ-loop
 cast-mark-leaf c = omega arith
 
 mark-leaf-requires : tie.Need-mark-leaf-requires Inv-loop μ-loop
-mark-leaf-requires c κs = 
+mark-leaf-requires c κs =
+    let b = block (c .before .before) in
     let s = c .before .before .before .before .before .before .before .before in
-    let args = s .args in
+    let l = s .args .numbers .now in
     let at-loop = c .before .before .before .before .before .loop in
-    let counts : ℕ → ℕ = cell (args .at) (args .numbers .now) in
-    let i = at-loop .i in
-    let h : i < args .nodes = c .before .before .before .before .loop-test .taken in
-    let n = sumTo-next counts i (args .nodes) h in
-    let f = at-loop .inv .2 in
-    let p = s .pre .1 .1 .0 in
-    let q = s .pre .0 in
-    let e = c .before .before .wide .ensures in
+    let from = at-loop .from in
     let w = c .before .before .wide .result in
-    λ k b.
-    let is = lent-is (at-loop .from) w (args .numbers .now) in
-    let long = ap (λ (r : List ℕ). length r) is ∙ length-part (at-loop .from) w (args .numbers .now) (omega arith) in
-    let b′ : k < w = omega arith in
-    let place : at-loop .from + k ≡ args .order + (sumTo counts i + k) = omega arith in
-    let v = s .pre .1 .1 .1 (sumTo counts i + k) (omega arith) in
-    let x = ap (λ (r : List ℕ). getD r k 0) is ∙ getD-part (at-loop .from) w (args .numbers .now) k 0 b′ ∙ ap (λ (j : ℕ). getD (args .numbers .now) j 0) place in
+    let sum = sumTo (cell (s .args .at) l) (at-loop .i) in
+    λ k h.
+    let x = block-element from w l k (b .in-order) h in
+    let place : from + k ≡ s .args .order + (sum + k) = omega (arith, b .from-is) in
+    let y = x .1 ∙ ap (λ (j : ℕ). getD l j 0) place in
+    let v = s .pre .1 .1 .1 (sum + k) (omega (arith, x .0, b .count-is, b .in-sum)) in
     let z = at-loop .inv .1 in
-    omega arith
+    omega (arith, y, v, z)
 
 add-i : tie.Need-add-i Inv-loop μ-loop
 add-i c = omega arith
@@ -158,36 +108,32 @@ loop-less : tie.Need-loop-less Inv-loop μ-loop
 loop-less c = omega arith
 
 loop-again : tie.Need-loop-again Inv-loop μ-loop
-loop-again c = 
+loop-again c =
+    let b = block (c .before .before .before .before .before) in
     let s = c .before .before .before .before .before .before .before .before .before .before .before in
-    let args = s .args in
+    let l = s .args .numbers .now in
     let at-loop = c .before .before .before .before .before .before .before .before .loop in
-    let counts : ℕ → ℕ = cell (args .at) (args .numbers .now) in
-    let i = at-loop .i in
-    let h : i < args .nodes = c .before .before .before .before .before .before .before .loop-test .taken in
-    let n = sumTo-next counts i (args .nodes) h in
-    let f = at-loop .inv .2 in
-    let p = s .pre .1 .1 .0 in
-    let q = s .pre .0 in
-    let e = c .before .before .before .before .before .wide .ensures in
+    let from = at-loop .from in
     let w = c .before .before .before .before .before .wide .result in
+    let sum = sumTo (cell (s .args .at) l) (at-loop .i) in
     let mark = c .before .before .mark-leaf in
-    let ids = take (at-loop .from + w - at-loop .from) (drop (at-loop .from) (args .numbers .now)) in
-    let is = lent-is (at-loop .from) w (args .numbers .now) in
-    let long = ap (λ (r : List ℕ). length r) is ∙ length-part (at-loop .from) w (args .numbers .now) (omega arith) in
-    let places : ℕ → ℕ = λ k. getD (args .numbers .now) (args .order + k) 0 in
-    (omega arith, mark .kept .0 ∙ at-loop .inv .1, let t = sumTo-suc counts i in omega arith,
-    marked-next places counts i (args .work .now) (at-loop .work) (mark .last .0) ids (at-loop .inv .3) (mark .ensures) (long ∙ e)
-    (λ k b.
-    let b′ : k < w = omega arith in
-    let place : at-loop .from + k ≡ args .order + (sumTo counts i + k) = omega arith in
-    ap (λ (r : List ℕ). getD r k 0) is ∙ getD-part (at-loop .from) w (args .numbers .now) k 0 b′ ∙ ap (λ (j : ℕ). getD (args .numbers .now) j 0) place))
+    let is = lent-is from w l in
+    let counts : ℕ → ℕ = cell (s .args .at) l in (
+      omega arith,
+      mark .kept .0 ∙ at-loop .inv .1,
+      let t = sumTo-suc counts (at-loop .i) in omega (arith, t, b .from-is, b .count-is),
+      marked-next (λ k. getD l (s .args .order + k) 0) counts (at-loop .i) (s .args .work .now) (at-loop .work) (mark .last .0) (take (from + w - from) (drop from l)) (at-loop .inv .3)
+          (mark .ensures) (ap (λ (r : List ℕ). length r) is ∙ length-part from w l (b .in-order) ∙ b .count-is)
+          (λ k h.
+          let place : from + k ≡ s .args .order + (sum + k) = omega (arith, b .from-is) in
+          ap (λ (r : List ℕ). getD r k 0) is ∙ getD-part from w l k 0 (omega (arith, h, b .count-is)) ∙ ap (λ (j : ℕ). getD l j 0) place),
+    )
 
 same-length : tie.Need-same-length Inv-loop μ-loop
 same-length c = search needs
 
 returns : tie.Need-returns Inv-loop μ-loop
-returns c = 
+returns c =
     let args = c .before .before .before .before .args in
     let at-loop = c .before .loop in
     let e : at-loop .i ≡ args .nodes = omega arith in

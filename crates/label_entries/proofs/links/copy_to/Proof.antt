@@ -1,16 +1,14 @@
 -- The first k elements are copied.
 -- Assumes nothing.
-use Prim.Native.Nat.{ℕ, _+_, _-_, _*_, _≤_, _<_}
+use Prim.Native.Nat.{ℕ, _+_, _-_, _≤_, _<_}
 use mathlib.Core.Path.{_≡_, refl, sym, ap, ap₂, _∙_}
 use mathlib.Core.List.{List}
 use native.Mathlib.Numerals.{add-one}
 use native.Mathlib.Omega.{arith}
-use lib.ListN.{length, getD, set, take, drop, length-set}
+use lib.ListN.{length, getD, set, take, length-set}
 use lib.Seq.{sets, take-suc, take-all, length-take-le}
 use borrow.Author.Needs.{needs}
 use Rattle.lists.specs.Parts.{sets-snoc}
-use Rattle.label_entries.specs.Passes.{written, cellAt, cell, column, sumTo, startAt, blockStart}
-use Rattle.label_entries.proofs.Written.{written-next, written-none, length-written, getD-written-other, written-congr, sumTo-next, sumTo-suc, sum-none}
 use Rattle.label_entries.proofs.links.copy_to.Statement.{statement}
 use Rattle.label_entries.proofs.links.copy_to.Tie as tie
 
@@ -46,24 +44,26 @@ loop-less : tie.Need-loop-less Inv-loop μ-loop
 loop-less c = omega arith
 
 loop-again : tie.Need-loop-again Inv-loop μ-loop
-loop-again c = 
+loop-again c =
     let at-loop = c .before .before .loop in
     let args = c .before .before .before .args in
     let source = args .source .now in
     let at = args .at in
     let k = at-loop .k in
     let h : k < length source = omega arith in
-    let n : length (take k source) ≡ k = length-take-le k source (omega arith) in
-    (omega arith, length-set (at-loop .numbers) (at + k) (getD source k 0) ∙ at-loop .inv .1,
-    ap₂ (λ (r : List ℕ) (j : ℕ). set r (at + j) (getD source k 0)) (at-loop .inv .2) (sym n)
-    ∙ sym (sets-snoc (args .numbers .now) at (take k source) (getD source k 0))
-    ∙ ap (λ (r : List ℕ). sets (args .numbers .now) at r) (sym (take-suc source k 0 h) ∙ ap (λ (j : ℕ). take j source) (sym (add-one k))))
+    let n : length (take k source) ≡ k = length-take-le k source (omega arith) in (
+      omega arith,
+      length-set (at-loop .numbers) (at + k) (getD source k 0) ∙ at-loop .inv .1,
+      ap₂ (λ (r : List ℕ) (j : ℕ). set r (at + j) (getD source k 0)) (at-loop .inv .2) (sym n)
+          ∙ sym (sets-snoc (args .numbers .now) at (take k source) (getD source k 0))
+          ∙ ap (λ (r : List ℕ). sets (args .numbers .now) at r) (sym (take-suc source k 0 h) ∙ ap (λ (j : ℕ). take j source) (sym (add-one k))),
+    )
 
 same-length : tie.Need-same-length Inv-loop μ-loop
 same-length c = search needs
 
 returns : tie.Need-returns Inv-loop μ-loop
-returns c = 
+returns c =
     let at-loop = c .before .loop in
     let args = c .before .before .args in
     let source = args .source .now in

@@ -1,13 +1,12 @@
 -- The starts leave the counts as they were.
 -- Assumes nothing.
-use Prim.Native.Nat.{ℕ, suc, _+_, _-_, _*_, _≤_, _<_, _^_}
-use mathlib.Core.Path.{_≡_, refl, sym, ap, ap₂, _∙_, subst}
+use Prim.Native.Nat.{ℕ, _+_, _-_}
+use mathlib.Core.Path.{sym, ap₂, _∙_, subst}
 use mathlib.Core.List.{List}
 use native.Mathlib.Omega.{arith}
-use lib.ListN.{length, getD, drop}
 use lib.Seq.{sets}
 use Rattle.tree.specs.Links.{linkUp}
-use Rattle.label_entries.specs.Passes.{cells, blockStart, Counts}
+use Rattle.label_entries.specs.Passes.{blockStart, Counts}
 use Rattle.label_entries.proofs.Linking.{length-cells}
 use Rattle.label_entries.proofs.Sorted.{sum-cells, cells-kept}
 use borrow.Author.Needs.{needs}
@@ -15,7 +14,7 @@ use Rattle.label_entries.proofs.links.link_nodes.Statement.{statement}
 use Rattle.label_entries.proofs.links.link_nodes.Tie as tie
 
 set-starts-requires : tie.Need-set-starts-requires
-set-starts-requires c κs = 
+set-starts-requires c κs =
     let s = c .before .before .before in
     let args = s .args in
     let fit = s .pre .0 in
@@ -30,7 +29,7 @@ add-link-children : tie.Need-add-link-children
 add-link-children c = search needs
 
 link-children-requires : tie.Need-link-children-requires
-link-children-requires c κs = 
+link-children-requires c κs =
     let s = c .before .before .before .before .before .before .before .before in
     let args = s .args in
     let starts = c .before .before .before .before .set-starts in
@@ -47,7 +46,7 @@ same-length-2 : tie.Need-same-length-2
 same-length-2 c = search needs
 
 returns : tie.Need-returns
-returns c = 
+returns c =
     let s = c .before .before .before .before .before .before .before .before .before .before .before .before .before in
     let args = s .args in
     let starts = c .before .before .before .before .before .before .before .before .before .set-starts in
