@@ -15,7 +15,7 @@ fn copy_to(numbers: &mut [u32], at: usize, source: &[u32])
 {
     let mut k = 0;
     while k < source.len() {
-        numbers[at + k] = source[0];
+        numbers[at + k] = source[k];
         k += 1;
     }
 }
