@@ -210,7 +210,7 @@ pub fn best_first_walk(
 }
 
 // One search: the walk, and the first k of its hits.
-fn search(
+pub fn search(
     shape: Shape,
     counts: Counts,
     ef_search: usize,

@@ -1,0 +1,45 @@
+-- What a build asks before it makes the tree, and what the making relies on.
+use Prim.Native.Nat.{ℕ, _+_, _≤_, _<_}
+use mathlib.Core.Bool.{Bool, true, false, not}
+use mathlib.Core.List.{List, _∷_}
+use mathlib.Core.Path.{_≡_}
+use lib.Dec.{ltb}
+use lib.ListN.{length, getD}
+use Rattle.lists.specs.Lists.{part}
+use Rattle.store.specs.Store.{Store, ownersAt, floatsSize, numbersSize, hashesSize, workSize}
+use Rattle.walk.specs.StoreView.{allPass}
+use Rattle.curator.specs.declared.Check.{Check}
+use Rattle.curator.specs.declared.Check.the-variants.{Fine}
+use Rattle.curator.specs.declared.CuratorIndex.{CuratorIndex}
+use Rattle.curator.specs.Limits.{stateSound, indexShape}
+use Rattle.curator.specs.Rows.{Lengths, firstOf, stateRow, buildRows}
+use Rattle.curator.specs.Calls.{factsOf, lengthsOf}
+use Rattle.curator.specs.StateLaws.{Sound}
+
+-- the lengths of the four lists
+abbrev pub lengths : ℕ → ℕ → ℕ → ℕ → Lengths
+lengths floats numbers hashes work = record { floats = floats; numbers = numbers; hashes = hashes; work = work }
+
+-- 'Build's 15: an owner not below n', by the numbers alone
+unfoldable pub ownersBad : CuratorIndex → List ℕ → Bool
+unfolding allPass
+ownersBad index numbers =
+    not (allPass (λ owner. ltb owner (index .counts .vectors)) (part (ownersAt (indexShape index)) (index .counts .entries) numbers))
+
+-- the rows of a build with row 13 left open: its case is that of the tree, which is not made yet
+unfoldable pub buildChecked : CuratorIndex → Lengths → List ℕ → Check
+unfolding firstOf stateSound buildRows ownersBad
+buildChecked index lent numbers =
+    firstOf (stateRow (stateSound index) ∷ buildRows (factsOf index) lent (ownersBad index numbers) false)
+
+-- What the making of the tree relies on, as plain facts: the index is not built, and no row's case but perhaps row 13's holds.
+pub record Ready (index : CuratorIndex) (store : Store) (work : List ℕ) : Type 0 where
+  pub passed : buildChecked index (lengthsOf store work) (store .numbers) ≡ Fine
+  pub unbuilt : index .built ≡ false
+  pub sound : Sound index
+  pub some : 1 ≤ index .counts .vectors
+  pub floats : floatsSize (indexShape index) ≤ length (store .floats)
+  pub numbers : numbersSize (indexShape index) ≤ length (store .numbers)
+  pub hashes : hashesSize (indexShape index) ≤ length (store .hashes)
+  pub work-room : workSize (indexShape index) ≤ length work
+  pub owned : (k : ℕ) → k < index .counts .entries → getD (store .numbers) (ownersAt (indexShape index) + k) 0 < index .counts .vectors

@@ -1,0 +1,5 @@
+-- What a build asks, and what its making relies on.
+pub mod Asked
+pub mod CheckLaws
+pub mod MakeLaws
+pub mod BuildLaws

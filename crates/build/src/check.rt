@@ -1,0 +1,84 @@
+// What a build asks before it writes: rows 4, 3, 12 and 15 of document 01. Row 13 is answered by the making of the tree.
+ghost use denote.Ref.{now};
+ghost use Prim.Native.Nat.{_+_, _≤_};
+ghost use mathlib.Core.Path.{_≡_};
+ghost use lib.Dec.{ltb};
+ghost use lib.ListN.{length};
+ghost use Rattle.lists.specs.Lists.{part};
+ghost use Rattle.store.specs.Store.{Limits};
+ghost use Rattle.walk.specs.StoreView.{allPass};
+ghost use Rattle.curator.specs.Rows.{listsShort};
+ghost use Rattle.build.specs.Asked.{lengths, buildChecked};
+use curator::Check;
+use curator::CuratorIndex;
+use curator::limits;
+use curator::refusal::Refusal;
+use curator::refusal::StateRefusal;
+use curator::refusal::StoreRefusal;
+use store::Shape;
+
+// Whether a list is shorter than its size.
+fn lists_short(shape: Shape, floats: usize, numbers: usize, hashes: usize, work: usize) -> bool
+    requires { ⌜ Limits shape ⌝ }
+    ensures { λ r. ⌜ r ≡ listsShort shape (lengths floats numbers hashes work) ⌝ }
+{
+    !((shape.floats_size() <= floats)
+        & ((shape.numbers_size() <= numbers) & (shape.hashes_size() <= hashes)))
+        | !(shape.work_size() <= work)
+}
+
+// A number of a list as a size.
+fn wide(x: u32) -> usize
+    ensures { λ r. ⌜ r ≡ x ⌝ }
+{
+    x as usize
+}
+
+// Whether the owners from a place on are all below n.
+fn owners_sound(numbers: &[u32], at: usize, count: usize, n: usize) -> bool
+    requires { ⌜ at + count ≤ length (now numbers) ⌝ }
+    ensures { λ r. ⌜ r ≡ allPass (λ owner. ltb owner n) (part at count (now (numbers .entry))) ⌝ }
+{
+    let mut i = 0;
+    while i < count {
+        if n <= wide(numbers[at + i]) {
+            return false;
+        }
+        i += 1;
+    }
+    true
+}
+
+// The first refusal whose case holds, row 13 apart.
+pub fn build_check(
+    index: CuratorIndex,
+    floats: usize,
+    numbers: &[u32],
+    hashes: usize,
+    work: usize,
+) -> Check
+    ensures { λ r. ⌜ r ≡ buildChecked index (lengths floats (length (now (numbers .entry))) hashes work) (now (numbers .entry)) ⌝ }
+{
+    if !limits::state_sound(index) {
+        return Check::Refused(Refusal::State(StateRefusal::InvalidState));
+    }
+    let shape = limits::shape_of(index);
+    if lists_short(shape, floats, numbers.len(), hashes, work) {
+        return Check::Refused(Refusal::Store(StoreRefusal::ListTooShort));
+    }
+    if index.built {
+        return Check::Fine;
+    }
+    if index.counts.vectors == 0 {
+        return Check::Refused(Refusal::State(StateRefusal::EmptyIndex));
+    }
+    if !owners_sound(
+        numbers,
+        shape.owners_at(),
+        index.counts.entries,
+        index.counts.vectors,
+    ) {
+        return Check::Refused(Refusal::Store(StoreRefusal::Damaged));
+    }
+    Check::Fine
+}

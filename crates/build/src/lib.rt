@@ -1,0 +1,35 @@
+// The entry point `build`: what it asks, the tree, and the finishing passes (document 01, 'Calls').
+ghost use denote.Ref.{now};
+ghost use Rattle.curator.specs.Changes.{Builds};
+ghost use Rattle.curator.specs.Lent.{lent};
+
+mod check;
+mod make;
+
+use curator::Changed;
+use curator::Check;
+use curator::CuratorIndex;
+
+// Makes the tree of what is held, once: a built index stays as it is.
+pub fn build(
+    index: CuratorIndex,
+    floats: &mut [f32],
+    numbers: &mut [u32],
+    hashes: &mut [u64],
+    work: &mut [u32],
+) -> Changed
+    ensures { λ r. ⌜ Builds index (lent (floats .entry) (numbers .entry) (hashes .entry)) (now (work .entry))
+        r
+        (lent (floats .exit) (numbers .exit) (hashes .exit)) (now (work .exit)) ⌝ }
+{
+    let check = check::build_check(index, floats.len(), numbers, hashes.len(), work.len());
+    match check {
+        Check::Refused(refusal) => Changed::Refused(refusal),
+        Check::Fine => {
+            if index.built {
+                return Changed::Index(index);
+            }
+            make::make_index(index, floats, numbers, hashes, work)
+        }
+    }
+}

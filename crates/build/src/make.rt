@@ -1,0 +1,75 @@
+// The making of the tree, and of what is laid out with it.
+ghost use denote.Ref.{now};
+ghost use Prim.Native.Nat.{_≤_};
+ghost use mathlib.Core.Path.{_≡_};
+ghost use Rattle.curator.specs.Calls.{builtWith};
+ghost use Rattle.curator.specs.Changes.{Builds};
+ghost use Rattle.curator.specs.Lent.{lent};
+ghost use Rattle.build.specs.Asked.{Ready};
+use build_tree::Made;
+use curator::Changed;
+use curator::CuratorIndex;
+use curator::limits;
+use curator::refusal::Refusal;
+use curator::refusal::StoreRefusal;
+use walk::Counts;
+
+// The state after an accepted build.
+fn built_with(index: CuratorIndex, nodes: usize) -> CuratorIndex
+    ensures { λ r. ⌜ r ≡ builtWith index nodes ⌝ }
+{
+    let params = index.params;
+    let capacities = index.capacities;
+    let counts = Counts {
+        vectors: index.counts.vectors,
+        entries: index.counts.entries,
+        nodes,
+    };
+    CuratorIndex {
+        dimension: index.dimension,
+        params,
+        capacities,
+        counts,
+        built: true,
+    }
+}
+
+// Makes the tree and finishes it, or refuses a tree that has more nodes than there is room for.
+pub fn make_index(
+    index: CuratorIndex,
+    floats: &mut [f32],
+    numbers: &mut [u32],
+    hashes: &mut [u64],
+    work: &mut [u32],
+) -> Changed
+    requires { ⌜ Ready index (lent floats numbers hashes) (now work) ⌝ }
+    ensures { λ r. ⌜ Builds index (lent (floats .entry) (numbers .entry) (hashes .entry)) (now (work .entry))
+        r
+        (lent (floats .exit) (numbers .exit) (hashes .exit)) (now (work .exit)) ⌝ }
+{
+    let shape = limits::shape_of(index);
+    let held = index.counts;
+    let made = build_tree::build_tree(
+        shape,
+        index.params.max_leaf_size,
+        held.vectors,
+        floats,
+        numbers,
+        work,
+    );
+    match made {
+        Made::TooMany => Changed::Refused(Refusal::Store(StoreRefusal::NodesFull)),
+        Made::Nodes(nodes) => {
+            label_entries::insert_label_entries(
+                shape,
+                held.vectors,
+                held.entries,
+                nodes,
+                numbers,
+                hashes,
+                work,
+            );
+            Changed::Index(built_with(index, nodes))
+        }
+    }
+}

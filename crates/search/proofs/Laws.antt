@@ -1,0 +1,198 @@
+-- What no row's case gives, and the walk's end as a search's.
+use Prim.Native.Nat.{ℕ, zero, _+_, _≤_}
+use mathlib.Core.Bool.{Bool, true, false, not, _&&_, _||_, cond}
+use mathlib.Core.Path.{_≡_, refl, sym, ap, _∙_, subst}
+use mathlib.Core.List.{List, [], _∷_, _++_}
+use native.Mathlib.Omega.{arith}
+use borrow.Author.Tests.{not-false, leb-true, ltb-true, ltb-false, eqb-true}
+use lib.Dec.{leb, ltb, eqb}
+use lib.Ieee.{Float}
+use lib.ListN.{length, take, drop, length-append}
+use lib.Seq.{sets, take-append-seam}
+use Rattle.distance.specs.Vector.{dot, Normalized, allFinite}
+use Rattle.lists.specs.Lists.{part}
+use Rattle.lists.specs.Parts.{length-part, sets-part}
+use Rattle.store.specs.declared.Shape.{Shape}
+use Rattle.store.specs.Store.{Store, floatsSize, numbersSize, hashesSize, workSize}
+use Rattle.walk.specs.declared.Counts.{Counts}
+use Rattle.walk.specs.declared.Searched.{Searched}
+use Rattle.walk.specs.declared.Wanted.{Wanted}
+use Rattle.walk.specs.Answer.{Answer, answer}
+use Rattle.walk.specs.Search.{FloatsLent, NumbersLent, HashesLent, WorkLent, Works, SearchEnds, Searches as WalkSearches}
+use Rattle.walk.specs.StoreView.{storeView}
+use Rattle.walk.specs.Walk.{State, damaged, going, walk}
+use Rattle.curator.specs.declared.Check.{Check}
+use Rattle.curator.specs.declared.Check.the-variants.{Fine, Refused}
+use Rattle.curator.specs.declared.CuratorIndex.{CuratorIndex}
+use Rattle.curator.specs.declared.Found.{Found}
+use Rattle.curator.specs.declared.Found.the-variants as found
+use Rattle.curator.specs.declared.refusal.Refusal.{Refusal}
+use Rattle.curator.specs.Calls.{factsOf, lengthsOf}
+use Rattle.curator.specs.Changes.{Freed, workPart}
+use Rattle.curator.specs.Limits.{stateSound, indexShape, builtAllowed}
+use Rattle.curator.specs.RowLaws.{NoneHolds, fine-none}
+use Rattle.curator.specs.Rows.{Row, Lengths, firstOf, stateRow, storeShort, listsShort, searchRows}
+use Rattle.curator.specs.Searches.{Asked, wantedOf, SearchCall, SearchEnd, searchCheck, Untouched, Broken, Answered, WalkedTo, Walked, SearchesBy, Searches}
+use Rattle.curator.specs.StateLaws.{and-all, Sound, sound-facts}
+use Rattle.search.specs.Lent.{lengths, Ready, foundOf}
+
+-- ---- what no row's case gives
+
+-- of two tests neither of which holds
+neither : (a b : Bool) → a || b ≡ false → (a ≡ false) × (b ≡ false)
+neither true b h = absurd (no h)
+  where
+    no : true ≡ false → ⊥
+    no e = let z : _≡_ {A = ℕ} 0 1 = cc in omega arith
+neither false b h = (refl, h)
+
+store-long : (s : Shape) (lent : Lengths) → storeShort s lent ≡ false
+    → (leb (floatsSize s) (lent .floats) ≡ true)
+    × (leb (numbersSize s) (lent .numbers) ≡ true)
+    × (leb (hashesSize s) (lent .hashes) ≡ true)
+unfolding storeShort
+store-long s lent h =
+    let (f, rest) = and-all (leb (floatsSize s) (lent .floats)) _ (not-false _ h) in
+    let (n, k) = and-all (leb (numbersSize s) (lent .numbers)) (leb (hashesSize s) (lent .hashes)) rest in
+    (f, n, k)
+
+lists-long : (s : Shape) (lent : Lengths) → listsShort s lent ≡ false
+    → (storeShort s lent ≡ false) × (workSize s ≤ lent .work)
+unfolding listsShort
+lists-long s lent h =
+    let (a, b) = neither (storeShort s lent) (not (leb (workSize s) (lent .work))) h in
+    (a, leb-true _ _ (not-false _ b))
+
+-- what is built has a node
+has-node : (built : Bool) (c : Counts) → built ≡ true → builtAllowed built c ≡ true → 1 ≤ c .nodes
+unfolding builtAllowed
+has-node true c e h =
+    let (a, b) = and-all (ltb 0 (c .vectors)) (ltb 0 (c .nodes)) h in
+    let k = ltb-true 0 (c .nodes) b in
+    omega arith
+has-node false c e h = let z : _≡_ {A = ℕ} 0 1 = cc in absurd (omega arith)
+
+abbrev rowsOfSearch : CuratorIndex → Store → List ℕ → SearchCall → List Row
+rowsOfSearch index store work call =
+    stateRow (stateSound index)
+    ∷ searchRows (factsOf index) (lengthsOf store work) (call .query) (call .k) (length (call .ids)) (length (call .distances))
+
+ready-of : (index : CuratorIndex) (store : Store) (work : List ℕ) (call : SearchCall) → NoneHolds (rowsOfSearch index store work call)
+    → Ready index store work (call .query) (call .k) (call .ids) (call .distances)
+unfolding searchRows
+ready-of index store work call (sound, (short, (built, (dimension, (finite, (answers, _)))))) =
+    let s = sound-facts index (not-false _ sound) in
+    let (st, w) = lists-long (indexShape index) (lengthsOf store work) short in
+    let (f, n, h) = store-long (indexShape index) (lengthsOf store work) st in
+    let (i, d) = neither (ltb (length (call .ids)) (call .k)) (ltb (length (call .distances)) (call .k)) answers in
+    record {
+      limits = s .limits;
+      vectors = s .vectors;
+      entries = s .entries;
+      nodes = s .nodes;
+      some = has-node (index .built) (index .counts) (not-false _ built) (s .built);
+      floats = leb-true _ _ f;
+      numbers = leb-true _ _ n;
+      hashes = leb-true _ _ h;
+      work = w;
+      dimension = eqb-true _ _ (not-false _ dimension);
+      ids = ltb-false _ _ i;
+      distances = ltb-false _ _ d;
+    }
+
+pub ready : (index : CuratorIndex) (store : Store) (work : List ℕ) (call : SearchCall) → searchCheck index store work call ≡ Fine
+    → Ready index store work (call .query) (call .k) (call .ids) (call .distances)
+unfolding searchCheck
+ready index store work call fine = ready-of index store work call (fine-none (rowsOfSearch index store work call) fine)
+
+-- ---- the relation by what the check comes to
+
+pub searches-by : (index : CuratorIndex) (store : Store) (work : List ℕ) (call : SearchCall) (end : SearchEnd) (check : Check)
+    → searchCheck index store work call ≡ check → SearchesBy check index store work call end → Searches index store work call end
+unfolding Searches
+searches-by index store work call end check e h = subst (λ (c : Check). SearchesBy c index store work call end) (sym e) h
+
+-- ---- the walk's end
+
+-- a list of which only the work part changed
+pub freed : (s : Shape) (work work′ : List ℕ) → workSize s ≤ length work → Works s work work′ → Freed (workPart s ∷ []) work work′
+unfolding Freed
+freed s work work′ room w =
+    let none : 0 + workSize s ≡ workSize s = omega arith in
+    let before : 0 + workSize s ≤ length work = omega (arith, room) in
+    let after : 0 + workSize s ≤ length work′ = omega (arith, room, w .size) in
+    let surplus : drop (0 + workSize s) work ≡ drop (0 + workSize s) work′ =
+    ap (λ (n : ℕ). drop n work) none ∙ sym (w .surplus) ∙ ap (λ (n : ℕ). drop n work′) (sym none) in
+    (part 0 (workSize s) work′, length-part 0 (workSize s) work′ after, sym (sets-part work work′ 0 (workSize s) before after refl surplus))
+
+pub walked-to : (state : State) (index : CuratorIndex) (work : List ℕ) (call : SearchCall) (searched : Searched) (end : SearchEnd)
+    → end .answer ≡ foundOf searched → Freed (workPart (indexShape index) ∷ []) work (end .work)
+    → SearchEnds state (call .k) searched (call .ids) (end .ids) (call .distances) (end .distances) → WalkedTo state index work call end
+unfolding WalkedTo
+walked-to damaged index work call searched end a f h =
+    record { answer = a ∙ ap foundOf (h .is); work = f; ids = h .ids-kept; distances = h .distances-kept }
+walked-to (going p) index work call searched end a f h =
+    record { answer = a ∙ ap foundOf (h .is); work = f; ids = h .ids-are; distances = h .distances-are }
+
+-- ---- the normalised query
+
+-- what was lent as the front of a list and came back is within it, and is read as it came back
+pub front-room : (ys rest : List Float) (n : ℕ) → length ys ≡ n → n ≤ length (ys ++ rest)
+front-room ys rest n e = omega (arith, length-append ys rest, e)
+
+pub front-back : (l ys : List Float) (n m : ℕ) → length ys ≡ n → m ≡ n → take m (ys ++ drop m l) ≡ ys
+front-back l ys n m e g = ap (λ (k : ℕ). take k (ys ++ drop m l)) (g ∙ sym e) ∙ take-append-seam ys (drop m l)
+
+-- ---- a search that is ready
+
+-- what the walk asks of the lists that it is lent
+abbrev Lent : CuratorIndex → Store → List ℕ → ℕ → List ℕ → List Float → Shape → Type 0
+Lent index store work k ids distances s =
+    FloatsLent s (store .floats)
+    × (NumbersLent s (index .counts) (store .numbers)
+    × (HashesLent s (store .hashes) × (WorkLent s (index .counts) work × ((k ≤ length ids) × (k ≤ length distances)))))
+
+pub lent-all : (index : CuratorIndex) (store : Store) (work : List ℕ) (query : List Float) (k : ℕ) (ids : List ℕ) (distances : List Float)
+    → Ready index store work query k ids distances → (s : Shape) → s ≡ indexShape index → Lent index store work k ids distances s
+lent-all index store work query k ids distances r s e =
+    subst (Lent index store work k ids distances) (sym e) (
+      record { limits = r .limits; size = r .floats },
+      (
+        record { limits = r .limits; vectors = r .vectors; entries = r .entries; nodes = r .nodes; size = r .numbers },
+        (
+          record { limits = r .limits; size = r .hashes },
+          (
+            record { limits = r .limits; nodes = r .nodes; some = r .some; size = r .work },
+            (r .ids, r .distances),
+          ),
+        ),
+      ),
+    )
+
+-- the walk from the normalised query, whatever names its arguments have
+pub walked-of : (index : CuratorIndex) (store : Store) (work : List ℕ) (call : SearchCall) (end : SearchEnd) (s : Shape) (squares : Float)
+    (query stored : List Float) (wanted : Wanted) (searched : Searched) → s ≡ indexShape index → query ≡ stored → wantedOf (call .asked) ≡ wanted
+    → squares ≡ dot (call .query) (call .query) → Normalized squares (call .query) stored → workSize (indexShape index) ≤ length work
+    → end .answer ≡ foundOf searched
+    → WalkSearches s (index .counts) (index .params .«ef_search») (store .floats) (store .numbers) (store .hashes) query wanted (call .k) work
+    (call .ids)
+    (call .distances)
+    searched
+    (end .work)
+    (end .ids)
+    (end .distances)
+    → Walked index store work call end
+walked-of index store work call end s squares query stored wanted searched es eq ew ed normal room answers h =
+    let viewed : Shape → List Float → Wanted → State =
+    λ s q w. walk (storeView s (index .counts) store q w) (index .params .«ef_search») in
+    let same : viewed s query wanted ≡ viewed (indexShape index) stored (wantedOf (call .asked)) =
+    ap (λ (s : Shape). viewed s query wanted) es ∙ ap (λ (q : List Float). viewed (indexShape index) q wanted) eq
+    ∙ ap (λ (w : Wanted). viewed (indexShape index) stored w) (sym ew) in
+    record {
+      query = stored;
+      normalized = subst (λ (f : Float). Normalized f (call .query) stored) ed normal;
+      walked =
+          walked-to (viewed (indexShape index) stored (wantedOf (call .asked))) index work call searched end answers
+          (freed (indexShape index) work (end .work) room (subst (λ (s : Shape). Works s work (end .work)) es (h .works)))
+          (subst (λ (t : State). SearchEnds t (call .k) searched (call .ids) (end .ids) (call .distances) (end .distances)) same (h .ends));
+    }

@@ -1,0 +1,42 @@
+-- What is wanted is the hash of the label's bytes.
+use mathlib.Core.Path.{sym, ap}
+use denote.Ref.{now}
+use Rattle.walk.specs.declared.Wanted.the-variants.{Label}
+use Rattle.curator.specs.Searches.{labelled, wantedOf}
+use borrow.Author.Needs.{needs}
+use Rattle.search.proofs.search_filtered.Statement.{statement}
+use Rattle.search.proofs.search_filtered.Tie as tie
+
+hash-label-requires : tie.Need-hash-label-requires
+hash-label-requires c κs = search needs
+
+search-wanted-requires : tie.Need-search-wanted-requires
+search-wanted-requires c κs = search needs
+
+same-length : tie.Need-same-length
+same-length c = search needs
+
+same-length-2 : tie.Need-same-length-2
+same-length-2 c = search needs
+
+same-length-3 : tie.Need-same-length-3
+same-length-3 c = search needs
+
+returns : tie.Need-returns
+unfolding wantedOf
+returns c =
+    let hashed = c .before .before .before .before .before .before .before .before .before .before in
+    c .before .before .before .before .before .before .search-wanted .ensures
+    (labelled (now (c .before .before .before .before .before .before .before .before .before .before .before .before .before .before .before .before .before .before .before .args .label)))
+    (ap Label (sym (hashed .hash-label .ensures)))
+
+pub search-filtered-spec : {M : Type 1} → statement M
+search-filtered-spec =
+    tie.close
+    (tie.spec
+    hash-label-requires
+    search-wanted-requires
+    same-length
+    same-length-2
+    same-length-3
+    returns)

@@ -1,0 +1,74 @@
+-- By the case of the check: its first refusal, or the walk; that no row's case holds gives what the walk relies on.
+use mathlib.Core.Path.{_≡_, refl, sym, ap, _∙_}
+use Prim.Native.Nat.{ℕ}
+use Rattle.store.specs.Store.{Store}
+use Rattle.curator.specs.declared.Check.the-variants.{Fine}
+use Rattle.curator.specs.Lent.{lent}
+use Rattle.curator.specs.Searches.{Asked, everything, SearchCall, SearchesBy, searchCheck}
+use Rattle.search.specs.Lent.{looking}
+use Rattle.search.proofs.Laws.{ready, searches-by}
+use denote.Ref.{now}
+use borrow.Author.Needs.{needs}
+use Rattle.search.proofs.search_wanted.Statement.{statement}
+use Rattle.search.proofs.search_wanted.Tie as tie
+
+-- the function's entry, from the place where the check is known to be `Fine`
+abbrev entry : tie.After-enum-told → tie.Start
+entry c = c .before .before .before .before .before .before .before .before .before .before
+
+abbrev callOf : tie.Start → Asked → SearchCall
+callOf s asked = looking (s .args .query) (s .args .k) (s .args .ids) (s .args .distances) asked
+
+fine : (c : tie.After-enum-told) (asked : Asked)
+    → searchCheck (entry c .args .index) (lent (entry c .args .floats) (entry c .args .numbers) (entry c .args .hashes)) (now (entry c .args .work))
+    (callOf (entry c) asked)
+    ≡ Fine
+unfolding searchCheck
+fine c asked = sym (c .before .before .search-check .ensures) ∙ c .enum-told .given .1
+
+search-check-requires : tie.Need-search-check-requires
+search-check-requires c κs = search needs
+
+enum-known-check : tie.Need-enum-known-check
+enum-known-check c = search needs
+
+enum-told : tie.Need-enum-told
+enum-told c = search needs
+
+walk-from-requires : tie.Need-walk-from-requires
+walk-from-requires c κs = ready _ _ _ (callOf (entry (c .before .before .before)) everything) (fine (c .before .before .before) everything)
+
+returns : tie.Need-returns
+unfolding SearchesBy searchCheck
+returns c =
+    λ asked e. searches-by _ _ _ _ _ _ (sym (c .before .before .before .search-check .ensures) ∙ c .before .check .given .1)
+    (record { answer = refl; work = refl; ids = refl; distances = refl })
+
+same-length : tie.Need-same-length
+same-length c = search needs
+
+same-length-2 : tie.Need-same-length-2
+same-length-2 c = search needs
+
+same-length-3 : tie.Need-same-length-3
+same-length-3 c = search needs
+
+returns-2 : tie.Need-returns-2
+unfolding SearchesBy
+returns-2 c =
+    let walked = c .before .before .before .before .before .before in
+    λ asked e. searches-by _ _ _ _ _ _ (fine (walked .before .before .before .before) asked) (walked .walk-from .ensures asked e)
+
+pub search-wanted-spec : {M : Type 1} → statement M
+search-wanted-spec =
+    tie.close
+    (tie.spec
+    search-check-requires
+    enum-known-check
+    enum-told
+    walk-from-requires
+    returns
+    same-length
+    same-length-2
+    same-length-3
+    returns-2)

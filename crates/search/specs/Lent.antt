@@ -1,0 +1,77 @@
+-- The records of a search's contract, made of what the call is lent.
+use Prim.Native.Nat.{ℕ, _≤_}
+use mathlib.Core.Bool.{Bool, true}
+use mathlib.Core.List.{List, _∷_}
+use mathlib.Core.Path.{_≡_}
+use lib.Ieee.{Float}
+use lib.ListN.{length}
+use denote.Ref.{RefT, now}
+use Rattle.distance.specs.Vector.{dot, Normalized}
+use Rattle.store.specs.Store.{Store, Limits, floatsSize, numbersSize, hashesSize, workSize}
+use Rattle.walk.specs.declared.Searched.{Searched}
+use Rattle.walk.specs.declared.Searched.the-variants as searched
+use Rattle.walk.specs.declared.Wanted.{Wanted}
+use Rattle.curator.specs.declared.Check.{Check}
+use Rattle.curator.specs.declared.CuratorIndex.{CuratorIndex}
+use Rattle.curator.specs.declared.Found.{Found}
+use Rattle.curator.specs.declared.Found.the-variants as answers
+use Rattle.curator.specs.declared.refusal.Refusal.the-variants as refusal
+use Rattle.curator.specs.declared.refusal.StoreRefusal.the-variants as store-refusal
+use Rattle.curator.specs.Limits.{stateSound, indexShape}
+use Rattle.curator.specs.Rows.{Lengths, firstOf, stateRow, searchRows}
+use Rattle.curator.specs.Calls.{factsOf}
+use Rattle.curator.specs.Searches.{Asked, everything, labelled, wantedOf, SearchCall, SearchEnd, Walked, Searches}
+
+-- the lengths of the four lists
+abbrev pub lengths : ℕ → ℕ → ℕ → ℕ → Lengths
+lengths floats numbers hashes work = record { floats = floats; numbers = numbers; hashes = hashes; work = work }
+
+-- what the rows of a search come to, by the lengths of the lists
+abbrev pub searchChecked : CuratorIndex → Lengths → RefT (List Float) → ℕ → ℕ → ℕ → Check
+searchChecked index lent query k ids distances =
+    firstOf (stateRow (stateSound index) ∷ searchRows (factsOf index) lent (now query) k ids distances)
+
+-- what a search brings, once it is known what it asks for
+abbrev pub looking : RefT (List Float) → ℕ → RefT (List ℕ) → RefT (List Float) → Asked → SearchCall
+looking query k ids distances asked =
+    record { query = now query; asked = asked; k = k; ids = now ids; distances = now distances }
+
+-- `search_filtered` asks for those with a label, `search` for every vector
+abbrev pub filtered : RefT (List Float) → RefT (List ℕ) → ℕ → RefT (List ℕ) → RefT (List Float) → SearchCall
+filtered query label k ids distances = looking query k ids distances (labelled (now label))
+
+abbrev pub unfiltered : RefT (List Float) → ℕ → RefT (List ℕ) → RefT (List Float) → SearchCall
+unfiltered query k ids distances = looking query k ids distances everything
+
+-- what a search leaves
+abbrev pub leaving : Found → RefT (List ℕ) → RefT (List ℕ) → RefT (List Float) → SearchEnd
+leaving answer work ids distances = record { answer = answer; work = now work; ids = now ids; distances = now distances }
+
+-- ---- inside
+
+-- a walk's end as an answer: damage is refusal 15
+abbrev pub foundOf : Searched → Found
+foundOf searched.Damaged = answers.Refused (refusal.Store store-refusal.Damaged)
+foundOf (searched.Found hits opened complete) = answers.Hits hits opened complete
+
+-- What the walk relies on, as plain facts: no row's case holds.
+pub record Ready (index : CuratorIndex) (store : Store) (scratch : List ℕ) (query : List Float) (k : ℕ) (found : List ℕ) (far : List Float) : Type 0 where
+  pub limits : Limits (indexShape index)
+  pub vectors : index .counts .vectors ≤ index .capacities .vectors
+  pub entries : index .counts .entries ≤ index .capacities .entries
+  pub nodes : index .counts .nodes ≤ index .capacities .nodes
+  pub some : 1 ≤ index .counts .nodes
+  pub floats : floatsSize (indexShape index) ≤ length (store .floats)
+  pub numbers : numbersSize (indexShape index) ≤ length (store .numbers)
+  pub hashes : hashesSize (indexShape index) ≤ length (store .hashes)
+  pub work : workSize (indexShape index) ≤ length scratch
+  pub dimension : length query ≡ index .dimension
+  pub ids : k ≤ length found
+  pub distances : k ≤ length far
+
+-- the walk, and the whole search, for whatever asks for what is wanted
+abbrev pub WalkedFor : CuratorIndex → Store → List ℕ → Wanted → (Asked → SearchCall) → SearchEnd → Type 0
+WalkedFor index store work wanted call end = (asked : Asked) → wantedOf asked ≡ wanted → Walked index store work (call asked) end
+
+abbrev pub SearchesFor : CuratorIndex → Store → List ℕ → Wanted → (Asked → SearchCall) → SearchEnd → Type 0
+SearchesFor index store work wanted call end = (asked : Asked) → wantedOf asked ≡ wanted → Searches index store work (call asked) end

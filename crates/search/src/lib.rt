@@ -1,0 +1,228 @@
+// Both searches of an index: the refusals, the query normalised, and the walk (document 01, 'Search').
+ghost use mathlib.Core.Path.{_≡_};
+ghost use Rattle.store.specs.Store.{Limits};
+ghost use Rattle.curator.specs.Lent.{lent};
+ghost use Rattle.curator.specs.Rows.{listsShort};
+ghost use Rattle.curator.specs.Searches.{Searches};
+ghost use Rattle.search.specs.Lent.{lengths, searchChecked, Ready, foundOf, looking, leaving, filtered, unfiltered, SearchesFor, WalkedFor};
+use curator::Check;
+use curator::CuratorIndex;
+use curator::Found;
+use curator::limits;
+use curator::refusal::InputRefusal;
+use curator::refusal::Refusal;
+use curator::refusal::StateRefusal;
+use curator::refusal::StoreRefusal;
+use store::Shape;
+use walk::Searched;
+use walk::Wanted;
+
+// Whether a list of the store, or the work list, is shorter than its size.
+fn lists_short(shape: Shape, floats: usize, numbers: usize, hashes: usize, work: usize) -> bool
+    requires { ⌜ Limits shape ⌝ }
+    ensures { λ r. ⌜ r ≡ listsShort shape (lengths floats numbers hashes work) ⌝ }
+{
+    !((shape.floats_size() <= floats)
+        & ((shape.numbers_size() <= numbers) & (shape.hashes_size() <= hashes)))
+        | !(shape.work_size() <= work)
+}
+
+// The first refusal whose case holds, of those that come before the walk.
+fn search_check(
+    index: CuratorIndex,
+    floats: usize,
+    numbers: usize,
+    hashes: usize,
+    work: usize,
+    query: &[f32],
+    k: usize,
+    ids: usize,
+    distances: usize,
+) -> Check
+    ensures { λ r. ⌜ r ≡ searchChecked index (lengths floats numbers hashes work) (query .entry) k ids distances ⌝ }
+{
+    if !limits::state_sound(index) {
+        return Check::Refused(Refusal::State(StateRefusal::InvalidState));
+    }
+    if lists_short(limits::shape_of(index), floats, numbers, hashes, work) {
+        return Check::Refused(Refusal::Store(StoreRefusal::ListTooShort));
+    }
+    if !index.built {
+        return Check::Refused(Refusal::State(StateRefusal::NotBuilt));
+    }
+    if query.len() != index.dimension {
+        return Check::Refused(Refusal::Input(InputRefusal::DimensionMismatch));
+    }
+    if !distance::vector::all_finite(query) {
+        return Check::Refused(Refusal::Input(InputRefusal::NonFiniteInput));
+    }
+    if (ids < k) | (distances < k) {
+        return Check::Refused(Refusal::Input(InputRefusal::AnswerTooShort));
+    }
+    Check::Fine
+}
+
+// What a walk gave, as an answer.
+fn found(searched: Searched) -> Found
+    ensures { λ r. ⌜ r ≡ foundOf searched ⌝ }
+{
+    match searched {
+        Searched::Damaged => Found::Refused(Refusal::Store(StoreRefusal::Damaged)),
+        Searched::Found {
+            hits,
+            opened,
+            whole,
+        } => Found::Hits {
+            count: hits,
+            opened,
+            whole,
+        },
+    }
+}
+
+// The walk from the normalised query.
+fn walk_from(
+    index: CuratorIndex,
+    floats: &[f32],
+    numbers: &[u32],
+    hashes: &[u64],
+    work: &mut [u32],
+    query: &[f32],
+    wanted: Wanted,
+    k: usize,
+    ids: &mut [u32],
+    distances: &mut [f32],
+) -> Found
+    requires { ⌜ Ready index (lent floats numbers hashes) (now work) (now query) k (now ids) (now distances) ⌝ }
+    ensures { λ r. ⌜ WalkedFor index (lent (floats .entry) (numbers .entry) (hashes .entry)) (now (work .entry)) wanted
+        (looking (query .entry) k (ids .entry) (distances .entry))
+        (leaving r (work .exit) (ids .exit) (distances .exit)) ⌝ }
+{
+    let start = 0;
+    let end = query.len();
+    let squares = distance::vector::dot(query, query);
+    let mut normalized: [f32; 128] = [0.0; 128];
+    distance::vector::normalize(query, squares, &mut normalized[start..end]);
+    let counts = index.counts;
+    found(walk::search(
+        limits::shape_of(index),
+        counts,
+        index.params.ef_search,
+        floats,
+        numbers,
+        hashes,
+        work,
+        &normalized[start..end],
+        wanted,
+        k,
+        ids,
+        distances,
+    ))
+}
+
+// One search, by what is wanted.
+fn search_wanted(
+    index: CuratorIndex,
+    floats: &[f32],
+    numbers: &[u32],
+    hashes: &[u64],
+    work: &mut [u32],
+    query: &[f32],
+    wanted: Wanted,
+    k: usize,
+    ids: &mut [u32],
+    distances: &mut [f32],
+) -> Found
+    ensures { λ r. ⌜ SearchesFor index (lent (floats .entry) (numbers .entry) (hashes .entry)) (now (work .entry)) wanted
+        (looking (query .entry) k (ids .entry) (distances .entry))
+        (leaving r (work .exit) (ids .exit) (distances .exit)) ⌝ }
+{
+    let check = search_check(
+        index,
+        floats.len(),
+        numbers.len(),
+        hashes.len(),
+        work.len(),
+        query,
+        k,
+        ids.len(),
+        distances.len(),
+    );
+    match check {
+        Check::Refused(refusal) => Found::Refused(refusal),
+        Check::Fine => walk_from(
+            index,
+            floats,
+            numbers,
+            hashes,
+            work,
+            query,
+            wanted,
+            k,
+            ids,
+            distances,
+        ),
+    }
+}
+
+// The nearest k documents that have a vector with a label, which is any bytes.
+pub fn search_filtered(
+    index: CuratorIndex,
+    floats: &[f32],
+    numbers: &[u32],
+    hashes: &[u64],
+    work: &mut [u32],
+    query: &[f32],
+    label: &[u8],
+    k: usize,
+    ids: &mut [u32],
+    distances: &mut [f32],
+) -> Found
+    ensures { λ r. ⌜ Searches index (lent (floats .entry) (numbers .entry) (hashes .entry)) (now (work .entry))
+        (filtered (query .entry) (label .entry) k (ids .entry) (distances .entry))
+        (leaving r (work .exit) (ids .exit) (distances .exit)) ⌝ }
+{
+    let wanted = Wanted::Label(label::hash_label(label));
+    search_wanted(
+        index,
+        floats,
+        numbers,
+        hashes,
+        work,
+        query,
+        wanted,
+        k,
+        ids,
+        distances,
+    )
+}
+
+// The nearest k documents.
+pub fn search(
+    index: CuratorIndex,
+    floats: &[f32],
+    numbers: &[u32],
+    hashes: &[u64],
+    work: &mut [u32],
+    query: &[f32],
+    k: usize,
+    ids: &mut [u32],
+    distances: &mut [f32],
+) -> Found
+    ensures { λ r. ⌜ Searches index (lent (floats .entry) (numbers .entry) (hashes .entry)) (now (work .entry))
+        (unfiltered (query .entry) k (ids .entry) (distances .entry))
+        (leaving r (work .exit) (ids .exit) (distances .exit)) ⌝ }
+{
+    search_wanted(
+        index,
+        floats,
+        numbers,
+        hashes,
+        work,
+        query,
+        Wanted::Everything,
+        k,
+        ids,
+        distances,
+    )
+}
