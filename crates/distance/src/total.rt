@@ -1,5 +1,6 @@
 // The total order of IEEE 754 as an order of u32 keys.
-use crate::bits::{from_bits, to_bits};
+use crate::bits::from_bits;
+use crate::bits::to_bits;
 ghost use mathlib.Core.Path.{_≡_};
 ghost use Rattle.distance.specs.TotalOrder.{keyOf, ofKey};
 

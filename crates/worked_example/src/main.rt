@@ -91,11 +91,58 @@ fn example(ef_search: usize, label: &[u8]) {
     let first = [1.0f32, 0.0];
     let second = [0.0f32, 2.0];
     let third = [3.0f32, 4.0];
-    let index = kept(fresh, fresh.add(&mut floats, &mut numbers, &mut hashes, 7, &first, &one, b"a"));
-    let index = kept(index, index.add(&mut floats, &mut numbers, &mut hashes, 8, &second, &one, b"b"));
-    let index = kept(index, index.add(&mut floats, &mut numbers, &mut hashes, 9, &third, &one, b"a"));
-    let index = kept(index, build::build(index, &mut floats, &mut numbers, &mut hashes, &mut work));
-    let found = search::search_filtered(index, &floats, &numbers, &hashes, &mut work, &first, label, 4, &mut ids, &mut distances);
+    let index = kept(
+        fresh,
+        fresh.add(
+            &mut floats,
+            &mut numbers,
+            &mut hashes,
+            7,
+            &first,
+            &one,
+            b"a",
+        ),
+    );
+    let index = kept(
+        index,
+        index.add(
+            &mut floats,
+            &mut numbers,
+            &mut hashes,
+            8,
+            &second,
+            &one,
+            b"b",
+        ),
+    );
+    let index = kept(
+        index,
+        index.add(
+            &mut floats,
+            &mut numbers,
+            &mut hashes,
+            9,
+            &third,
+            &one,
+            b"a",
+        ),
+    );
+    let index = kept(
+        index,
+        build::build(index, &mut floats, &mut numbers, &mut hashes, &mut work),
+    );
+    let found = search::search_filtered(
+        index,
+        &floats,
+        &numbers,
+        &hashes,
+        &mut work,
+        &first,
+        label,
+        4,
+        &mut ids,
+        &mut distances,
+    );
     print_found(found, &ids, &distances);
 }
 
