@@ -1,5 +1,5 @@
-// Document 01's worked example: three echoes are added, the index is built, and the nearest with the label `a` are looked up, at four budgets. Then the
-// nearest of all, and two calls that are refused.
+// Document 01's worked example: three echoes are added, the index is built, and the nearest with the label `a` are looked up, at budgets below, at and above
+// the node count. Then a label that no echo has, and one of 300 bytes.
 use curator::Capacities;
 use curator::Changed;
 use curator::CuratorIndex;
@@ -79,6 +79,7 @@ fn example(ef_search: usize, label: &[u8]) {
     };
     let made = CuratorIndex::new(2, params, capacities);
     let Changed::Index(fresh) = made else {
+        io::write_all(STDOUT_FILENO, b"refused by new\n");
         return;
     };
     let mut floats = [0.0f32; 22];
@@ -151,5 +152,10 @@ fn main() {
     example(0, b"a");
     example(2, b"a");
     example(4, b"a");
+    example(6, b"a");
+    example(65537, b"a");
+    example(65538, b"a");
     example(5, b"c");
+    let long = [97u8; 300];
+    example(5, &long);
 }

@@ -1,0 +1,252 @@
+// Searches of document 01's worked example after one or two numbers of its store were overwritten: each kind of damage at the first and at the last place
+// where it can stand, and the same garbage where no search reads it. The expected lines are reasoned from 01's list of damage.
+use curator::Capacities;
+use curator::Changed;
+use curator::CuratorIndex;
+use curator::CuratorParams;
+use curator::Found;
+use curator::refusal::Refusal;
+use libc::STDOUT_FILENO;
+
+fn print_refusal(refusal: Refusal) {
+    io::write_all(STDOUT_FILENO, b"refused ");
+    io::print_decimal(STDOUT_FILENO, refusal.number() as u64);
+    io::write_all(STDOUT_FILENO, b"\n");
+}
+
+// The index from now on; a refusal is printed, and the index stays.
+fn kept(index: CuratorIndex, changed: Changed) -> CuratorIndex {
+    match changed {
+        Changed::Index(next) => next,
+        Changed::Refused(refusal) => {
+            print_refusal(refusal);
+            index
+        }
+    }
+}
+
+fn print_hit(id: u32, distance: f32) {
+    io::print_decimal(STDOUT_FILENO, id as u64);
+    io::write_all(STDOUT_FILENO, b" ");
+    io::print_hex(STDOUT_FILENO, distance::bits::to_bits(distance) as u64, 8);
+    io::write_all(STDOUT_FILENO, b"\n");
+}
+
+fn print_hits(count: usize, ids: &[u32], distances: &[f32]) {
+    let mut i = 0;
+    while i < count {
+        if i < ids.len() {
+            if i < distances.len() {
+                print_hit(ids[i], distances[i]);
+            }
+        }
+        i += 1;
+    }
+}
+
+fn print_found(found: Found, ids: &[u32], distances: &[f32]) {
+    match found {
+        Found::Refused(refusal) => print_refusal(refusal),
+        Found::Hits {
+            count,
+            opened,
+            whole,
+        } => {
+            print_hits(count, ids, distances);
+            if whole {
+                io::write_all(STDOUT_FILENO, b"whole ");
+            } else {
+                io::write_all(STDOUT_FILENO, b"cut ");
+            }
+            io::print_decimal(STDOUT_FILENO, opened as u64);
+            io::write_all(STDOUT_FILENO, b"\n");
+        }
+    }
+}
+
+// Two places of the numbers, and what is written there; a place past the end writes nothing.
+struct Damage {
+    first: usize,
+    first_value: u32,
+    second: usize,
+    second_value: u32,
+}
+
+fn overwrite(numbers: &mut [u32], place: usize, value: u32) {
+    if place < numbers.len() {
+        numbers[place] = value;
+    }
+}
+
+// The worked example with damage: V 4, E 4, M 5, so owners stand at 4, the leaf order of vectors at 8, six numbers per node at 12, child links at 42 and the
+// leaf order of entries at 47. Nodes 0 and 2 are inner, 1, 3 and 4 hold the vectors 0, 1 and 2.
+fn example(ef_search: usize, filtered: bool, damage: Damage) {
+    let params = CuratorParams {
+        branching_factor: 2,
+        max_leaf_size: 1,
+        ef_search,
+        beam_width: 4,
+    };
+    let capacities = Capacities {
+        vectors: 4,
+        entries: 4,
+        nodes: 5,
+    };
+    let made = CuratorIndex::new(2, params, capacities);
+    let Changed::Index(fresh) = made else {
+        return;
+    };
+    let mut floats = [0.0f32; 22];
+    let mut numbers = [0u32; 51];
+    let mut hashes = [0u64; 24];
+    let mut work = [0u32; 27];
+    let mut ids = [0u32; 4];
+    let mut distances = [0.0f32; 4];
+    let one = [1u8];
+    let first = [1.0f32, 0.0];
+    let second = [0.0f32, 2.0];
+    let third = [3.0f32, 4.0];
+    let index = kept(
+        fresh,
+        fresh.add(
+            &mut floats,
+            &mut numbers,
+            &mut hashes,
+            7,
+            &first,
+            &one,
+            b"a",
+        ),
+    );
+    let index = kept(
+        index,
+        index.add(
+            &mut floats,
+            &mut numbers,
+            &mut hashes,
+            8,
+            &second,
+            &one,
+            b"b",
+        ),
+    );
+    let index = kept(
+        index,
+        index.add(
+            &mut floats,
+            &mut numbers,
+            &mut hashes,
+            9,
+            &third,
+            &one,
+            b"a",
+        ),
+    );
+    let index = kept(
+        index,
+        build::build(index, &mut floats, &mut numbers, &mut hashes, &mut work),
+    );
+    overwrite(&mut numbers, damage.first, damage.first_value);
+    overwrite(&mut numbers, damage.second, damage.second_value);
+    if filtered {
+        let found = search::search_filtered(
+            index,
+            &floats,
+            &numbers,
+            &hashes,
+            &mut work,
+            &first,
+            b"a",
+            4,
+            &mut ids,
+            &mut distances,
+        );
+        print_found(found, &ids, &distances);
+    } else {
+        let found = search::search(
+            index,
+            &floats,
+            &numbers,
+            &hashes,
+            &mut work,
+            &first,
+            4,
+            &mut ids,
+            &mut distances,
+        );
+        print_found(found, &ids, &distances);
+    }
+}
+
+fn one_place(filtered: bool, place: usize, value: u32) {
+    example(
+        5,
+        filtered,
+        Damage {
+            first: place,
+            first_value: value,
+            second: 51,
+            second_value: 0,
+        },
+    );
+}
+
+fn children() {
+    one_place(true, 42, 0);
+    one_place(true, 42, 5);
+    one_place(true, 43, 1);
+    one_place(true, 45, 2);
+    one_place(true, 45, 5);
+    one_place(true, 45, 3);
+    one_place(true, 13, 6);
+    one_place(true, 12, 4);
+    one_place(true, 24, 4);
+    one_place(true, 12, 4294967295);
+}
+
+fn leaves() {
+    one_place(true, 47, 3);
+    one_place(true, 49, 3);
+    one_place(true, 4, 3);
+    one_place(true, 6, 3);
+    one_place(true, 23, 4);
+    one_place(true, 40, 3);
+    one_place(false, 8, 3);
+    one_place(false, 10, 3);
+    one_place(false, 21, 4);
+}
+
+// Three entries with the label in node 1 and one in node 4: a fourth hit where three entries are held. Then garbage that is not read: the list of node 3, which
+// the filter denies; vectors in a filtered search; entries in an unfiltered one; the start of an empty list; everything where nothing is opened.
+fn other() {
+    example(
+        5,
+        true,
+        Damage {
+            first: 23,
+            first_value: 3,
+            second: 48,
+            second_value: 0,
+        },
+    );
+    one_place(true, 48, 99);
+    one_place(true, 8, 99);
+    one_place(false, 47, 99);
+    one_place(true, 18, 4294967295);
+    example(
+        0,
+        true,
+        Damage {
+            first: 13,
+            first_value: 99,
+            second: 42,
+            second_value: 99,
+        },
+    );
+}
+
+fn main() {
+    children();
+    leaves();
+    other();
+}
