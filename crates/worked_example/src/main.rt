@@ -1,5 +1,6 @@
-// Document 01's worked example: three echoes are added, the index is built, and the nearest with the label `a` are looked up, at budgets below, at and above
-// the node count. Then a label that no echo has, and one of 300 bytes.
+// Document 01's worked example: three echoes are added, the index is built, and the nearest are looked up, at budgets below, at and above the node count,
+// with a label that no echo has and with one of 300 bytes. Then the same after numbers of the store were overwritten: each kind of damage at the first and at
+// the last place where it can stand, and garbage that no search reads. Those lines are reasoned from 01's list of damage.
 use curator::Capacities;
 use curator::Changed;
 use curator::CuratorIndex;
@@ -64,8 +65,23 @@ fn print_found(found: Found, ids: &[u32], distances: &[f32]) {
     }
 }
 
-// D 2, B 2, leaf size 1, beam 4, with room for 4 vectors, 4 entries and 5 nodes.
-fn example(ef_search: usize, label: &[u8]) {
+// Two places of the numbers, and what is written there; a place past the end writes nothing.
+struct Damage {
+    first: usize,
+    first_value: u32,
+    second: usize,
+    second_value: u32,
+}
+
+fn overwrite(numbers: &mut [u32], place: usize, value: u32) {
+    if place < numbers.len() {
+        numbers[place] = value;
+    }
+}
+
+// The worked example with damage: V 4, E 4, M 5, so owners stand at 4, the leaf order of vectors at 8, six numbers per node at 12, child links at 42 and the
+// leaf order of entries at 47. Nodes 0 and 2 are inner, 1, 3 and 4 hold the vectors 0, 1 and 2.
+fn example(ef_search: usize, filtered: bool, label: &[u8], damage: Damage) {
     let params = CuratorParams {
         branching_factor: 2,
         max_leaf_size: 1,
@@ -132,30 +148,138 @@ fn example(ef_search: usize, label: &[u8]) {
         index,
         build::build(index, &mut floats, &mut numbers, &mut hashes, &mut work),
     );
-    let found = search::search_filtered(
-        index,
-        &floats,
-        &numbers,
-        &hashes,
-        &mut work,
-        &first,
-        label,
-        4,
-        &mut ids,
-        &mut distances,
+    overwrite(&mut numbers, damage.first, damage.first_value);
+    overwrite(&mut numbers, damage.second, damage.second_value);
+    if filtered {
+        let found = search::search_filtered(
+            index,
+            &floats,
+            &numbers,
+            &hashes,
+            &mut work,
+            &first,
+            label,
+            4,
+            &mut ids,
+            &mut distances,
+        );
+        print_found(found, &ids, &distances);
+    } else {
+        let found = search::search(
+            index,
+            &floats,
+            &numbers,
+            &hashes,
+            &mut work,
+            &first,
+            4,
+            &mut ids,
+            &mut distances,
+        );
+        print_found(found, &ids, &distances);
+    }
+}
+
+fn one_place(filtered: bool, place: usize, value: u32) {
+    example(
+        5,
+        filtered,
+        b"a",
+        Damage {
+            first: place,
+            first_value: value,
+            second: 51,
+            second_value: 0,
+        },
     );
-    print_found(found, &ids, &distances);
+}
+
+fn children() {
+    one_place(true, 42, 0);
+    one_place(true, 42, 5);
+    one_place(true, 43, 1);
+    one_place(true, 45, 2);
+    one_place(true, 45, 5);
+    one_place(true, 45, 3);
+    one_place(true, 13, 6);
+    one_place(true, 12, 4);
+    one_place(true, 24, 4);
+    one_place(true, 12, 4294967295);
+}
+
+fn leaves() {
+    one_place(true, 47, 3);
+    one_place(true, 49, 3);
+    one_place(true, 4, 3);
+    one_place(true, 6, 3);
+    one_place(true, 23, 4);
+    one_place(true, 40, 3);
+    one_place(false, 8, 3);
+    one_place(false, 10, 3);
+    one_place(false, 21, 4);
+}
+
+// Three entries with the label in node 1 and one in node 4: a fourth hit where three entries are held. Then garbage that is not read: the list of node 3, which
+// the filter denies; vectors in a filtered search; entries in an unfiltered one; the start of an empty list; everything where nothing is opened.
+fn other() {
+    example(
+        5,
+        true,
+        b"a",
+        Damage {
+            first: 23,
+            first_value: 3,
+            second: 48,
+            second_value: 0,
+        },
+    );
+    one_place(true, 48, 99);
+    one_place(true, 8, 99);
+    one_place(false, 47, 99);
+    one_place(true, 18, 4294967295);
+    example(
+        0,
+        true,
+        b"a",
+        Damage {
+            first: 13,
+            first_value: 99,
+            second: 42,
+            second_value: 99,
+        },
+    );
+}
+
+fn unharmed(ef_search: usize, label: &[u8]) {
+    example(
+        ef_search,
+        true,
+        label,
+        Damage {
+            first: 51,
+            first_value: 0,
+            second: 51,
+            second_value: 0,
+        },
+    );
+}
+
+fn budgets() {
+    unharmed(5, b"a");
+    unharmed(0, b"a");
+    unharmed(2, b"a");
+    unharmed(4, b"a");
+    unharmed(6, b"a");
+    unharmed(65537, b"a");
+    unharmed(65538, b"a");
+    unharmed(5, b"c");
+    let long = [97u8; 300];
+    unharmed(5, &long);
 }
 
 fn main() {
-    example(5, b"a");
-    example(0, b"a");
-    example(2, b"a");
-    example(4, b"a");
-    example(6, b"a");
-    example(65537, b"a");
-    example(65538, b"a");
-    example(5, b"c");
-    let long = [97u8; 300];
-    example(5, &long);
+    budgets();
+    children();
+    leaves();
+    other();
 }
