@@ -15,7 +15,7 @@ use Rattle.curator.specs.declared.refusal.SettingsRefusal.the-variants.{
 use Rattle.curator.specs.declared.refusal.StateRefusal.{StateRefusal}
 use Rattle.curator.specs.declared.refusal.StateRefusal.the-variants.{InvalidState, AlreadyBuilt, NotBuilt, EmptyIndex}
 use Rattle.curator.specs.declared.refusal.InputRefusal.{InputRefusal}
-use Rattle.curator.specs.declared.refusal.InputRefusal.the-variants.{DimensionMismatch, NonFiniteInput, LabelLengths, AnswerTooShort}
+use Rattle.curator.specs.declared.refusal.InputRefusal.the-variants.{DimensionMismatch, NonFiniteInput, LabelLengths, AnswerTooShort, BadRecord, SettingsOrder, FileTooLong}
 use Rattle.curator.specs.declared.refusal.StoreRefusal.{StoreRefusal}
 use Rattle.curator.specs.declared.refusal.StoreRefusal.the-variants.{ListTooShort, VectorsFull, EntriesFull, NodesFull, Damaged}
 
@@ -34,6 +34,9 @@ inputNumber DimensionMismatch = 7
 inputNumber NonFiniteInput = 8
 inputNumber LabelLengths = 9
 inputNumber AnswerTooShort = 14
+inputNumber BadRecord = 16
+inputNumber SettingsOrder = 17
+inputNumber FileTooLong = 18
 
 abbrev pub storeNumber : StoreRefusal → ℕ
 storeNumber ListTooShort = 3

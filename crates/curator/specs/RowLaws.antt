@@ -21,7 +21,7 @@ use Rattle.curator.specs.declared.refusal.Refusal.{Refusal}
 use Rattle.curator.specs.declared.refusal.Refusal.the-variants.{Settings, State, Input, Store as StoreR}
 use Rattle.curator.specs.declared.refusal.SettingsRefusal.the-variants.{InvalidDimension, InvalidConfig}
 use Rattle.curator.specs.declared.refusal.StateRefusal.the-variants.{InvalidState, AlreadyBuilt, NotBuilt, EmptyIndex}
-use Rattle.curator.specs.declared.refusal.InputRefusal.the-variants.{DimensionMismatch, NonFiniteInput, LabelLengths, AnswerTooShort}
+use Rattle.curator.specs.declared.refusal.InputRefusal.the-variants.{DimensionMismatch, NonFiniteInput, LabelLengths, AnswerTooShort, BadRecord, SettingsOrder, FileTooLong}
 use Rattle.curator.specs.declared.refusal.StoreRefusal.the-variants.{ListTooShort, VectorsFull, EntriesFull, NodesFull, Damaged}
 use Rattle.curator.specs.Outcome.{number, checkNumber, changedNumber}
 use Rattle.curator.specs.Limits.{stateSound}
@@ -127,6 +127,9 @@ number-positive (Input DimensionMismatch) = omega arith
 number-positive (Input NonFiniteInput) = omega arith
 number-positive (Input LabelLengths) = omega arith
 number-positive (Input AnswerTooShort) = omega arith
+number-positive (Input BadRecord) = omega arith
+number-positive (Input SettingsOrder) = omega arith
+number-positive (Input FileTooLong) = omega arith
 number-positive (StoreR ListTooShort) = omega arith
 number-positive (StoreR VectorsFull) = omega arith
 number-positive (StoreR EntriesFull) = omega arith

@@ -43,6 +43,9 @@ pub enum InputRefusal {
     NonFiniteInput,
     LabelLengths,
     AnswerTooShort,
+    BadRecord,
+    SettingsOrder,
+    FileTooLong,
 }
 
 impl InputRefusal {
@@ -54,6 +57,9 @@ impl InputRefusal {
             InputRefusal::NonFiniteInput => 8,
             InputRefusal::LabelLengths => 9,
             InputRefusal::AnswerTooShort => 14,
+            InputRefusal::BadRecord => 16,
+            InputRefusal::SettingsOrder => 17,
+            InputRefusal::FileTooLong => 18,
         }
     }
 }

@@ -19,12 +19,9 @@ use Rattle.curator.specs.declared.Changed.{Changed}
 use Rattle.curator.specs.declared.Found.the-variants.{Hits}
 use Rattle.curator.specs.declared.refusal.Refusal.{Refusal}
 use Rattle.curator.specs.declared.refusal.Refusal.the-variants as Refusal′
-use Rattle.curator.specs.declared.refusal.SettingsRefusal.the-variants.{InvalidDimension, InvalidConfig}
-use Rattle.curator.specs.declared.refusal.StateRefusal.the-variants.{InvalidState, AlreadyBuilt, NotBuilt, EmptyIndex}
-use Rattle.curator.specs.declared.refusal.InputRefusal.the-variants.{DimensionMismatch, NonFiniteInput, LabelLengths, AnswerTooShort}
-use Rattle.curator.specs.declared.refusal.StoreRefusal.the-variants.{ListTooShort, VectorsFull, EntriesFull, NodesFull, Damaged}
 use Rattle.curator.specs.Outcome.{number, checkNumber, foundNumber}
 use Rattle.curator.specs.Rows.{Row, Lengths, firstOf, addRows, buildRows, searchRows}
+use Rattle.curator.specs.RowLaws.{number-positive}
 use Rattle.curator.specs.Changes.{AddCall}
 use Rattle.curator.specs.Searches.{SearchCall, SearchEnd}
 use Rattle.runs.specs.Model.{Setting, Model, ModelRow, emptyModel, modelFacts, modelAddCheck, modelBuildCheck, modelSearchCheck, modelWalk, addedBy, builtBy, nodeCount}
@@ -121,23 +118,6 @@ pub small-empty : Small emptyModel
 small-empty r k = absurd (List·Memᴰ·not-nil k)
 
 -- ---- no call is answered 15, none 4
-
-pub number-some : (r : Refusal) → 0 < number r
-number-some (Refusal′.Settings InvalidDimension) = omega arith
-number-some (Refusal′.Settings InvalidConfig) = omega arith
-number-some (Refusal′.State InvalidState) = omega arith
-number-some (Refusal′.State AlreadyBuilt) = omega arith
-number-some (Refusal′.State NotBuilt) = omega arith
-number-some (Refusal′.State EmptyIndex) = omega arith
-number-some (Refusal′.Input DimensionMismatch) = omega arith
-number-some (Refusal′.Input NonFiniteInput) = omega arith
-number-some (Refusal′.Input LabelLengths) = omega arith
-number-some (Refusal′.Input AnswerTooShort) = omega arith
-number-some (Refusal′.Store ListTooShort) = omega arith
-number-some (Refusal′.Store VectorsFull) = omega arith
-number-some (Refusal′.Store EntriesFull) = omega arith
-number-some (Refusal′.Store NodesFull) = omega arith
-number-some (Refusal′.Store Damaged) = omega arith
 
 -- neither 15 nor 4
 abbrev Other : ℕ → Type 0
@@ -238,7 +218,7 @@ pub answered-finds : (s : Setting) (m : Model) (fronts : Fronts) (work : List �
     → Finds s m fronts work call end
 answered-finds s m fronts work call end h hits opened complete e =
     either (search-cases s m fronts work call end h)
-    (λ r. let zero′ : 0 ≡ number (r .refusal) = ap foundNumber (sym e) ∙ r .is in absurd (omega (arith, number-some (r .refusal), zero′)))
+    (λ r. let zero′ : 0 ≡ number (r .refusal) = ap foundNumber (sym e) ∙ r .is in absurd (omega (arith, number-positive (r .refusal), zero′)))
     (λ f. f)
 
 -- a search does not end as a change
