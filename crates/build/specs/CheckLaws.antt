@@ -23,7 +23,7 @@ use Rattle.curator.specs.declared.refusal.StateRefusal.the-variants.{InvalidSta
 use Rattle.curator.specs.declared.refusal.StoreRefusal.the-variants.{ListTooShort, NodesFull, Damaged}
 use Rattle.curator.specs.Limits.{stateSound, indexShape}
 use Rattle.curator.specs.Rows.{Row, row, Lengths, firstOf, stateRow, storeShort, listsShort, buildRows}
-use Rattle.curator.specs.RowLaws.{NoneHolds, FirstAt, refusalAt, refused-first, fine-none, no-rows, row-stops, row-passes}
+use Rattle.curator.specs.RowLaws.{NoneHolds, FirstAt, refusalAt, refused-first, fine-none, no-rows, row-stops, row-passes, rows-then}
 use Rattle.curator.specs.StateLaws.{Sound, and-all, sound-facts}
 use Rattle.curator.specs.Calls.{factsOf, lengthsOf, heldEntries}
 use Rattle.curator.specs.Changes.{Part, workPart, Freed, freeOf, Left, ownersDamaged, tooManyNodes, buildCheck}
@@ -40,21 +40,19 @@ false-not-true e = let z : _≡_ {A = ℕ} 0 1 = cc in omega arith
 -- a refusal by an earlier row stays
 earlier-refused : (rows : List Row) (last other : Row) (r : Refusal) → last .holds ≡ false → firstOf (rows ++ (last ∷ [])) ≡ Refused r
     → firstOf (rows ++ (other ∷ [])) ≡ Refused r
-earlier-refused [] last other r h f = absurd (refused-not-fine (sym no-rows ∙ sym (row-passes last [] h) ∙ f))
-earlier-refused (first ∷ rows) last other r h f = by (first .holds) refl (earlier-refused rows last other r h)
+earlier-refused rows last other r h f = by (firstOf rows) refl
   where
-    by : (b : Bool) → first .holds ≡ b → (firstOf (rows ++ (last ∷ [])) ≡ Refused r → firstOf (rows ++ (other ∷ [])) ≡ Refused r)
-        → firstOf (first ∷ (rows ++ (other ∷ []))) ≡ Refused r
-    by true e later = row-stops first (rows ++ (other ∷ [])) e ∙ sym (row-stops first (rows ++ (last ∷ [])) e) ∙ f
-    by false e later = row-passes first (rows ++ (other ∷ [])) e ∙ later (sym (row-passes first (rows ++ (last ∷ [])) e) ∙ f)
+    by : (check : Check) → firstOf rows ≡ check → firstOf (rows ++ (other ∷ [])) ≡ Refused r
+    by Fine e = absurd (refused-not-fine (sym no-rows ∙ sym (row-passes last [] h) ∙ sym (rows-then rows (last ∷ []) Fine e) ∙ f))
+    by (Refused q) e = rows-then rows (other ∷ []) (Refused q) e ∙ sym (rows-then rows (last ∷ []) (Refused q) e) ∙ f
 
 -- where no earlier row's case holds, the last row decides
 last-decides : (rows : List Row) (last other : Row) → firstOf (rows ++ (last ∷ [])) ≡ Fine → firstOf (rows ++ (other ∷ [])) ≡ firstOf (other ∷ [])
-last-decides [] last other f = refl
-last-decides (first ∷ rows) last other f =
-    let (e, _) = fine-none (first ∷ (rows ++ (last ∷ []))) f in
-    row-passes first (rows ++ (other ∷ [])) e
-    ∙ last-decides rows last other (sym (row-passes first (rows ++ (last ∷ [])) e) ∙ f)
+last-decides rows last other f = by (firstOf rows) refl
+  where
+    by : (check : Check) → firstOf rows ≡ check → firstOf (rows ++ (other ∷ [])) ≡ firstOf (other ∷ [])
+    by Fine e = rows-then rows (other ∷ []) Fine e
+    by (Refused q) e = absurd (refused-not-fine (sym f ∙ rows-then rows (last ∷ []) (Refused q) e))
 
 -- ---- the rows of a build
 

@@ -3,3 +3,4 @@ pub mod Asked
 pub mod CheckLaws
 pub mod MakeLaws
 pub mod BuildLaws
+pub mod HeldLaws

@@ -115,9 +115,9 @@ fn print_floats(list: &[f32], from: usize, count: usize) {
 }
 
 fn print_refusal(refusal: Refusal) {
-    io::write_all(STDOUT_FILENO, b"refused ");
-    io::print_decimal(STDOUT_FILENO, refusal.number() as u64);
-    line_end();
+    let mut line = [0u8; 19];
+    let end = text::write_refused(&mut line, 0, refusal.number());
+    io::write_all(STDOUT_FILENO, &line[..end]);
 }
 
 fn float_at(s: &[u8], at: usize, i: usize) -> f32

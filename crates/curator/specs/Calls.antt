@@ -4,10 +4,11 @@ use mathlib.Core.Bool.{Bool, true, false}
 use mathlib.Core.List.{List, [], _∷_, map}
 use lib.Ieee.{Float}
 use lib.ListN.{length, take, drop}
-use Rattle.lists.specs.Lists.{part, countFrom}
+use Rattle.lists.specs.Lists.{part}
 use Rattle.label.specs.Fnv.{fnv}
 use Rattle.store.specs.declared.Shape.{Shape}
-use Rattle.store.specs.Store.{Store, vectorAt, ownersAt}
+use Rattle.store.specs.Store.{Store, ownersAt}
+use Rattle.cluster.specs.Lent.{vectorsIn}
 use Rattle.tree.specs.Tree.{Splitting}
 use Rattle.tree.specs.Nodes.{Entries}
 use Rattle.walk.specs.declared.Counts.{Counts}
@@ -37,8 +38,8 @@ hashesOfLabels lengths bytes = map fnv (labelsOf lengths bytes)
 
 -- the vectors, their document ids, and the entries, that a store holds
 unfoldable pub heldVectors : CuratorIndex → Store → List (List Float)
-unfolding countFrom
-heldVectors index store = map (vectorAt (index .dimension) (store .floats)) (countFrom 0 (index .counts .vectors))
+unfolding vectorsIn
+heldVectors index store = vectorsIn (index .dimension) (index .counts .vectors) (store .floats)
 
 unfoldable pub heldDocuments : CuratorIndex → Store → List ℕ
 heldDocuments index store = part 0 (index .counts .vectors) (store .numbers)

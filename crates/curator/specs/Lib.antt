@@ -8,8 +8,11 @@ pub mod Searches
 pub mod Lent
 pub mod LabelLaws
 pub mod RowLaws
+pub mod BuildRowLaws
+pub mod SearchRowLaws
 pub mod StateLaws
 pub mod AddLaws
 pub mod HeldLaws
+pub mod SearchHeldLaws
 pub mod BeamLaws
 pub mod Trials

@@ -1,10 +1,12 @@
 -- Document 01, 'Refusals and what they leave': 'A refusal is returned in its row's case and in no other; where several cases hold, the earliest in
--- the order is returned.' Stated once over any list of rows, then for the numbers of each call.
+-- the order is returned.' Stated once over any list of rows, then for the numbers of `new` and `add`; of a build in BuildRowLaws, of the searches in
+-- SearchRowLaws.
 use Prim.Native.Nat.{ℕ, zero, suc, _<_}
 use mathlib.Core.Bool.{Bool, true, false, not, _&&_}
 use mathlib.Core.Path.{_≡_, refl, sym, ap, _∙_}
-use mathlib.Core.List.{List, [], _∷_}
+use mathlib.Core.List.{List, [], _∷_, _++_}
 use native.Mathlib.Omega.{arith}
+use borrow.Author.Tests.{not-true, not-false}
 use lib.ListN.{length, getD}
 use mathlib.Core.Logic.{_↔_, _⊎_, inl, inr}
 use Rattle.lists.specs.Lists.{isIn}
@@ -42,6 +44,13 @@ row-stops r rows e = rw e
 pub row-passes : (r : Row) (rows : List Row) → r .holds ≡ false → firstOf (r ∷ rows) ≡ firstOf rows
 unfolding firstOf
 row-passes r rows e = rw e
+
+-- a test that a row negates
+pub test-failed : (t : Bool) → (not t ≡ true) ↔ (t ≡ false)
+test-failed t = (not-true t, λ e. ap not e)
+
+pub test-passed : (t : Bool) → (not t ≡ false) ↔ (t ≡ true)
+test-passed t = (not-false t, λ e. ap not e)
 
 -- ---- any list of rows
 
@@ -105,6 +114,23 @@ pub first-refused : (rows : List Row) (i : ℕ) → FirstAt rows i → firstOf r
 first-refused [] i h = absurd h
 first-refused (r ∷ rows) zero e = row-stops r rows e
 first-refused (r ∷ rows) (suc i) (e, h) = row-passes r rows e ∙ first-refused rows i h
+
+-- rows that others follow
+abbrev pub checkThen : Check → Check → Check
+checkThen Fine later = later
+checkThen (Refused r) later = Refused r
+
+pub rows-then : (rows more : List Row) (check : Check) → firstOf rows ≡ check → firstOf (rows ++ more) ≡ checkThen check (firstOf more)
+rows-then rows more check f = then rows ∙ ap (λ (c : Check). checkThen c (firstOf more)) f
+  where
+    then : (rows : List Row) → firstOf (rows ++ more) ≡ checkThen (firstOf rows) (firstOf more)
+    then [] = ap (λ (c : Check). checkThen c (firstOf more)) (sym no-rows)
+    then (r ∷ rows) = by (r .holds) refl (then rows)
+      where
+        by : (h : Bool) → r .holds ≡ h → firstOf (rows ++ more) ≡ checkThen (firstOf rows) (firstOf more)
+            → firstOf (r ∷ (rows ++ more)) ≡ checkThen (firstOf (r ∷ rows)) (firstOf more)
+        by true e later = row-stops r (rows ++ more) e ∙ ap (λ (c : Check). checkThen c (firstOf more)) (sym (row-stops r rows e))
+        by false e later = row-passes r (rows ++ more) e ∙ later ∙ ap (λ (c : Check). checkThen c (firstOf more)) (sym (row-passes r rows e))
 
 pub refused-first : (rows : List Row) (r : Refusal) → firstOf rows ≡ Refused r → (i : ℕ) × FirstAt rows i × (refusalAt rows i ≡ Refused r)
 refused-first rows r f = by (first-or-none rows)

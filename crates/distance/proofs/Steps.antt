@@ -1,5 +1,5 @@
 -- One turn of each loop, and its end. What is still due from the place i on is what the turn does, then what is due from the next place.
-use Prim.Native.Nat.{ℕ, zero, suc, _+_, _≤_, _<_, min}
+use Prim.Native.Nat.{ℕ, zero, suc, _+_, _-_, _≤_, _<_, min}
 use mathlib.Core.Path.{_≡_, refl, sym, _∙_}
 use mathlib.Core.Bool.{Bool, true, false, _&&_}
 use mathlib.Core.List.{List, [], _∷_, _++_, append-nil}
@@ -8,8 +8,8 @@ use native.Mathlib.Nat.{le-of-lt}
 use native.Mathlib.Numerals.{add-one}
 use lib.ListN.{length, getD, set, take, drop, drop-of-length-le}
 use lib.Seq.{drop-nil, drop-cons, take-suc, set-at, append-snoc, length-take-le, take-all}
-use lib.Ieee.{Float, nan, binary32, add, mul}
-use Rattle.distance.specs.Vector.{finite, allFinite, dotFrom}
+use lib.Ieee.{Float, nan}
+use Rattle.distance.specs.Vector.{finite, allFinite, dotFrom, dotStep}
 
 -- ---- all finite
 
@@ -31,12 +31,12 @@ allFinite-end x v i e h = sym (e ∙ rw (drop-of-length-le v h))
 -- ---- a sum of products
 
 dotFrom-cons : (s : Float) (xs ys : List Float) (i : ℕ) → i < length xs → i < length ys
-    → dotFrom s (drop i xs) (drop i ys) ≡ dotFrom (add binary32 s (mul binary32 (getD xs i nan) (getD ys i nan))) (drop (suc i) xs) (drop (suc i) ys)
+    → dotFrom s (drop i xs) (drop i ys) ≡ dotFrom (dotStep s xs ys i) (drop (suc i) xs) (drop (suc i) ys)
 unfolding dotFrom
 dotFrom-cons s xs ys i h k = rw (drop-cons xs i nan, drop-cons ys i nan)
 
 pub dotFrom-turn : (x s : Float) (xs ys : List Float) (n i : ℕ) → x ≡ dotFrom s (drop i xs) (drop i ys) → n ≡ min (length xs) (length ys) → i < n
-    → x ≡ dotFrom (add binary32 s (mul binary32 (getD xs i nan) (getD ys i nan))) (drop (i + 1) xs) (drop (i + 1) ys)
+    → x ≡ dotFrom (dotStep s xs ys i) (drop (i + 1) xs) (drop (i + 1) ys)
 dotFrom-turn x s xs ys n i e m h = e ∙ dotFrom-cons s xs ys i (omega arith) (omega arith) ∙ rw add-one
 
 dotFrom-nil : (s : Float) (xs : List Float) → dotFrom s xs [] ≡ s
@@ -54,8 +54,29 @@ due-none s (x ∷ xs) (y ∷ ys) (suc i) h = due-none s xs ys i (omega arith)
 pub dotFrom-end : (x s : Float) (xs ys : List Float) (n i : ℕ) → x ≡ dotFrom s (drop i xs) (drop i ys) → n ≡ min (length xs) (length ys) → n ≤ i → s ≡ x
 dotFrom-end x s xs ys n i e m h = sym (e ∙ due-none s xs ys i (omega arith))
 
-pub min-same : {m n : ℕ} → n ≡ m → m ≡ min m n
+-- ---- a sum of products of vectors of one length
+
+-- the lengths are equal, and x is what is due from i on, begun at s
+abbrev pub Due : Float → Float → List Float → List Float → ℕ → Type 0
+Due x s xs ys i = (length ys ≡ length xs) × (x ≡ dotFrom s (drop i xs) (drop i ys))
+
+min-same : {m n : ℕ} → n ≡ m → m ≡ min m n
 min-same e = omega arith
+
+pub due-step : (x s t : Float) (xs ys : List Float) (i j : ℕ) → Due x s xs ys i → i < length xs → t ≡ dotStep s xs ys i → j ≡ i + 1 → Due x t xs ys j
+due-step x s t xs ys i j e h f k = (e .0, rw (f, k) (dotFrom-turn x s xs ys (length xs) i (e .1) (min-same (e .0)) h))
+
+-- four steps, as a turn of `dot_four` takes them
+pub due-four : (x s t u v w : Float) (xs ys : List Float) (i : ℕ) → Due x s xs ys i → 4 ≤ length xs - i
+    → t ≡ dotStep s xs ys i → u ≡ dotStep t xs ys (i + 1) → v ≡ dotStep u xs ys (i + 2) → w ≡ dotStep v xs ys (i + 3) → Due x w xs ys (i + 4)
+due-four x s t u v w xs ys i e h ft fu fv fw =
+    let one = due-step x s t xs ys i (i + 1) e (omega arith) ft refl in
+    let two = due-step x t u xs ys (i + 1) (i + 2) one (omega arith) fu (omega arith) in
+    let three = due-step x u v xs ys (i + 2) (i + 3) two (omega arith) fv (omega arith) in
+    due-step x v w xs ys (i + 3) (i + 4) three (omega arith) fw (omega arith)
+
+pub due-end : (x s : Float) (xs ys : List Float) (i : ℕ) → Due x s xs ys i → length xs ≤ i → s ≡ x
+due-end x s xs ys i e h = dotFrom-end x s xs ys (length xs) i (e .1) (min-same (e .0)) h
 
 -- ---- a list that is written from the front
 

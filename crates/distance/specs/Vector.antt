@@ -1,7 +1,9 @@
 -- Vectors: finiteness, the norm, and what is stored of a vector (document 01, 'Root and length' and refusal 8).
+use Prim.Native.Nat.{ℕ}
 use mathlib.Core.Bool.{Bool, true, false, _&&_, cond}
 use mathlib.Core.Path.{_≡_}
 use mathlib.Core.List.{List, [], _∷_, map}
+use lib.ListN.{getD}
 use lib.Ieee.{Float, nan, inf, fin, binary32, ofBits, add, mul, div, lt}
 use Rattle.distance.specs.Root.{Root}
 
@@ -23,6 +25,10 @@ unfolding add mul
 dotFrom a [] ys = a
 dotFrom a (x ∷ xs) [] = a
 dotFrom a (x ∷ xs) (y ∷ ys) = dotFrom (add binary32 a (mul binary32 x y)) xs ys
+
+-- one step of it: s with the product of the components at place i added
+abbrev pub dotStep : Float → List Float → List Float → ℕ → Float
+dotStep s xs ys i = add binary32 s (mul binary32 (getD xs i nan) (getD ys i nan))
 
 -- +0.0
 unfoldable pub zero32 : Float

@@ -3,9 +3,10 @@
 ghost use mathlib.Core.Path.{_≡_};
 ghost use mathlib.Core.Bool.{_&&_};
 ghost use lib.Dec.{eqb};
-ghost use lib.ListN.{length};
+ghost use Prim.Native.Nat.{_<_};
+ghost use lib.ListN.{length, drop};
 ghost use lib.Ieee.{binary32, sub};
-ghost use Rattle.distance.specs.Vector.{dot};
+ghost use Rattle.distance.specs.Vector.{dot, dotFrom, dotStep};
 ghost use Rattle.distance.specs.Distance.{one32, distance};
 
 pub mod bits;
@@ -39,7 +40,49 @@ pub struct Four {
     pub d: f32,
 }
 
-// The sums of products of q with four vectors of its length, side by side.
+// Each of four sums with the product of component i added.
+fn step_four(sums: Four, q: &[f32], a: &[f32], b: &[f32], c: &[f32], d: &[f32], i: usize) -> Four
+    requires { ⌜ i < length (now q) ⌝ }
+    requires { ⌜ i < length (now a) ⌝ }
+    requires { ⌜ i < length (now b) ⌝ }
+    requires { ⌜ i < length (now c) ⌝ }
+    requires { ⌜ i < length (now d) ⌝ }
+    ensures { λ r. ⌜ r .a ≡ dotStep (sums .a) (now (q .entry)) (now (a .entry)) i ⌝ }
+    ensures { λ r. ⌜ r .b ≡ dotStep (sums .b) (now (q .entry)) (now (b .entry)) i ⌝ }
+    ensures { λ r. ⌜ r .c ≡ dotStep (sums .c) (now (q .entry)) (now (c .entry)) i ⌝ }
+    ensures { λ r. ⌜ r .d ≡ dotStep (sums .d) (now (q .entry)) (now (d .entry)) i ⌝ }
+{
+    let x = q[i];
+    Four {
+        a: sums.a + x * a[i],
+        b: sums.b + x * b[i],
+        c: sums.c + x * c[i],
+        d: sums.d + x * d[i],
+    }
+}
+
+// Four sums with the products of the components from k on added.
+fn rest_four(begun: Four, q: &[f32], a: &[f32], b: &[f32], c: &[f32], d: &[f32], k: usize) -> Four
+    requires { ⌜ length (now a) ≡ length (now q) ⌝ }
+    requires { ⌜ length (now b) ≡ length (now q) ⌝ }
+    requires { ⌜ length (now c) ≡ length (now q) ⌝ }
+    requires { ⌜ length (now d) ≡ length (now q) ⌝ }
+    ensures { λ r. ⌜ r .a ≡ dotFrom (begun .a) (drop k (now (q .entry))) (drop k (now (a .entry))) ⌝ }
+    ensures { λ r. ⌜ r .b ≡ dotFrom (begun .b) (drop k (now (q .entry))) (drop k (now (b .entry))) ⌝ }
+    ensures { λ r. ⌜ r .c ≡ dotFrom (begun .c) (drop k (now (q .entry))) (drop k (now (c .entry))) ⌝ }
+    ensures { λ r. ⌜ r .d ≡ dotFrom (begun .d) (drop k (now (q .entry))) (drop k (now (d .entry))) ⌝ }
+{
+    let mut sums = begun;
+    let mut i = k;
+    while i < q.len() {
+        sums = step_four(sums, q, a, b, c, d, i);
+        i += 1;
+    }
+    sums
+}
+
+// The sums of products of q with four vectors of its length, side by side. A turn reads four
+// components of each; every sum still takes its products one after the other.
 fn dot_four(q: &[f32], a: &[f32], b: &[f32], c: &[f32], d: &[f32]) -> Four
     requires { ⌜ length (now a) ≡ length (now q) ⌝ }
     requires { ⌜ length (now b) ≡ length (now q) ⌝ }
@@ -50,25 +93,21 @@ fn dot_four(q: &[f32], a: &[f32], b: &[f32], c: &[f32], d: &[f32]) -> Four
     ensures { λ r. ⌜ r .c ≡ dot (now (q .entry)) (now (c .entry)) ⌝ }
     ensures { λ r. ⌜ r .d ≡ dot (now (q .entry)) (now (d .entry)) ⌝ }
 {
-    let mut sum_a = 0.0;
-    let mut sum_b = 0.0;
-    let mut sum_c = 0.0;
-    let mut sum_d = 0.0;
+    let mut sums = Four {
+        a: 0.0,
+        b: 0.0,
+        c: 0.0,
+        d: 0.0,
+    };
     let mut i = 0;
-    while i < q.len() {
-        let x = q[i];
-        sum_a = sum_a + x * a[i];
-        sum_b = sum_b + x * b[i];
-        sum_c = sum_c + x * c[i];
-        sum_d = sum_d + x * d[i];
-        i += 1;
+    while 4 <= q.len() - i {
+        sums = step_four(sums, q, a, b, c, d, i);
+        sums = step_four(sums, q, a, b, c, d, i + 1);
+        sums = step_four(sums, q, a, b, c, d, i + 2);
+        sums = step_four(sums, q, a, b, c, d, i + 3);
+        i += 4;
     }
-    Four {
-        a: sum_a,
-        b: sum_b,
-        c: sum_c,
-        d: sum_d,
-    }
+    rest_four(sums, q, a, b, c, d, i)
 }
 
 // Whether four lengths are n.

@@ -8,24 +8,22 @@ use curator::CuratorIndex;
 use curator::CuratorParams;
 use walk::Counts;
 
-// The bits of an f32; a NaN has one pattern.
-fn bits(x: f32) -> u32 {
-    if x != x {
-        return 0x7FC0_0000;
-    }
-    f32::to_bits(x)
-}
-
 fn print_number(n: u64) {
     io::print_decimal(1, n);
     io::write_all(1, b" ");
 }
 
+// The bits of an f32, and a space.
+fn print_bits(x: f32) {
+    let mut word = [b' '; 9];
+    text::write_hex(&mut word, 0, distance::bits::to_bits(x));
+    io::write_all(1, &word);
+}
+
 fn print_floats(list: &[f32]) {
     let mut i = 0;
     while i < list.len() {
-        io::print_hex(1, bits(list[i]) as u64, 8);
-        io::write_all(1, b" ");
+        print_bits(list[i]);
         i += 1;
     }
     io::write_all(1, b"\n");

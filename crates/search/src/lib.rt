@@ -104,7 +104,7 @@ fn walk_from(
     let mut normalized: [f32; 128] = [0.0; 128];
     distance::vector::normalize(query, squares, &mut normalized[start..end]);
     let counts = index.counts;
-    found(walk::search(
+    found(best_first_search::search(
         limits::shape_of(index),
         counts,
         index.params.ef_search,

@@ -1,15 +1,14 @@
 -- What a node of a lent store shows, from what was read of it: its filter, its count of children, and its list's block. Assumes nothing.
-use Prim.Native.Nat.{ℕ, zero, suc, _+_, _-_, _*_, _≤_, _<_}
+use Prim.Native.Nat.{ℕ, zero, suc, _+_, _*_, _≤_, _<_}
 use native.Mathlib.Nat.{add-zero}
 use native.Mathlib.Omega.{arith}
-use mathlib.Core.Path.{_≡_, refl, sym, ap, ap₂, _∙_, subst}
+use mathlib.Core.Path.{_≡_, refl, sym, ap, _∙_}
 use mathlib.Core.Bool.{Bool, true, false, cond}
-use mathlib.Core.List.{List, [], _∷_, map}
-use lib.Dec.{eqb, leb}
+use mathlib.Core.List.{List, []}
 use lib.Ieee.{Float}
-use lib.ListN.{length, getD, take, drop}
+use lib.ListN.{length, getD}
 use borrow.Author.Tests.{eq-eqb, ne-eqb, le-leb, lt-leb}
-use Rattle.lists.specs.Lists.{part, keep}
+use Rattle.lists.specs.Lists.{part}
 use Rattle.store.specs.declared.Shape.{Shape}
 use Rattle.store.specs.Store.{orderAt, nodesAt, linksAt, entryOrderAt, filtersAt}
 use Rattle.walk.specs.declared.Wanted.{Wanted}
@@ -18,21 +17,17 @@ use Rattle.walk.specs.declared.Counts.{Counts}
 use Rattle.walk.specs.declared.look.Placed.{Placed}
 use Rattle.walk.specs.declared.look.Placed.the-variants.{Outside, Within}
 use Rattle.walk.specs.declared.look.Look.{Look}
-use Rattle.walk.specs.declared.look.Look.the-variants as look
-use Rattle.walk.specs.Walk.{Shown, children, hits, damage, shown}
-use Rattle.walk.specs.StoreView.{allPass, blockHeld, nodeField, ownerOf, hitAt, childrenShown, vectorsShown, entriesShown, leafShown, nodeShown, nodeDenied, storeView}
+use Rattle.walk.specs.Walk.{Shown, hits, damage, shown}
+use Rattle.walk.specs.StoreView.{blockHeld, childrenShown, vectorsShown, entriesShown, leafShown, nodeShown, nodeDenied, storeView}
 use Rattle.walk.specs.StoreViewLaws.{block-empty, block-some, store-shown}
-use Rattle.walk.specs.Search.{lent, filterDenies, Held, Placing, LeafPlacing, listShown, Looks}
+use Rattle.walk.specs.Search.{lent, filterDenies, Placing, LeafPlacing, listShown, Looks}
+use Rattle.walk.specs.declared.look.Look.the-variants as look
 
 denied-filter : (s : Shape) (c : Counts) (floats : List Float) (numbers hashes : List ℕ) (wanted : Wanted) (i : ℕ)
     → nodeDenied s c (lent floats numbers hashes) wanted i ≡ filterDenies wanted (part (filtersAt s + i * 4) 4 hashes)
 unfolding nodeDenied filterDenies
 denied-filter s c floats numbers hashes Everything i = refl
 denied-filter s c floats numbers hashes (Label hash) i = refl
-
--- a lent part of a list, by its start and end
-pub lent-is {ℓ} : {A : Type ℓ} (l : List A) (a e s n : ℕ) → a ≡ s → e ≡ s + n → take (e - a) (drop a l) ≡ part s n l
-lent-is l a e s n p q = let d : e - a ≡ n = omega arith in rw (d, p)
 
 -- blocks
 pub block-out : (start count held : ℕ) → (count ≡ 0 → ⊥) → held < start + count → blockHeld start count held ≡ false

@@ -7,5 +7,7 @@ pub mod WalkLaws
 pub mod SoundWalk
 pub mod AnswerLaws
 pub mod StoreViewLaws
-pub mod HeldLaws
 pub mod Search
+pub mod LentLaws
+pub mod ReadLaws
+pub mod HeldLaws

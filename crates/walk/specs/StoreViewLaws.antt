@@ -1,14 +1,14 @@
 -- What a lent store shows, case by case: its children are below the node count, whatever numbers stand in it. Assumes nothing.
-use Prim.Native.Nat.{ℕ, zero, suc, _+_, _*_, _^_, _≤_, _<_}
+use Prim.Native.Nat.{ℕ, zero, suc, _+_, _≤_, _<_}
 use native.Mathlib.Omega.{arith}
 use mathlib.Core.Path.{_≡_, refl, sym, ap, ap₂, _∙_, subst}
 use mathlib.Core.Logic.{_⊎_, inl, inr}
-use mathlib.Core.Bool.{Bool, true, false, not, _&&_, cond, false≢true}
+use mathlib.Core.Bool.{Bool, true, false, _&&_, cond, false≢true}
 use mathlib.Core.List.{List, [], _∷_, map, List·Memᴰ, List·Memᴰ·head, List·Memᴰ·tail, List·Memᴰ·not-nil, List·Memᴰ·cases-cons}
 use lib.Dec.{leb, ltb, eqb}
 use lib.Ieee.{Float}
 use lib.ListN.{getD}
-use borrow.Author.Tests.{leb-true, ltb-true}
+use borrow.Author.Tests.{leb-true, ltb-true, eqb-false}
 use Rattle.lists.specs.Lists.{part, keep}
 use Rattle.store.specs.declared.Shape.{Shape}
 use Rattle.store.specs.Store.{Store, orderAt, linksAt, entryOrderAt}
@@ -16,7 +16,7 @@ use Rattle.order.specs.SortedLaws.{either}
 use Rattle.walk.specs.declared.Wanted.{Wanted}
 use Rattle.walk.specs.declared.Wanted.the-variants.{Everything, Label}
 use Rattle.walk.specs.declared.Counts.{Counts}
-use Rattle.walk.specs.Walk.{View, Shown, children, hits, damage, shown}
+use Rattle.walk.specs.Walk.{Shown, children, hits, damage, shown}
 use Rattle.walk.specs.WalkLaws.{ChildrenBelow}
 use Rattle.walk.specs.StoreView.{allPass, blockHeld, nodeField, ownerOf, hitAt, childrenShown, vectorsShown, entriesShown, leafShown, nodeShown, nodeDenied, storeView}
 
@@ -45,9 +45,10 @@ allPass-Memᴰ t (y ∷ ys) e x m =
     either (List·Memᴰ·cases-cons m) (λ s. ap t s ∙ and-left (t y) (allPass t ys) both)
     (λ k. allPass-Memᴰ t ys (and-right (t y) (allPass t ys) both) x k)
 
-pub allPass-congr : (t u : ℕ → Bool) (l : List ℕ) → ((x : ℕ) → t x ≡ u x) → allPass t l ≡ allPass u l
+pub allPass-congr : (t u : ℕ → Bool) (l : List ℕ) → ((x : ℕ) → List·Memᴰ x l → t x ≡ u x) → allPass t l ≡ allPass u l
 allPass-congr t u [] h = allPass-nil t ∙ sym (allPass-nil u)
-allPass-congr t u (x ∷ xs) h = allPass-cons t x xs ∙ ap₂ _&&_ (h x) (allPass-congr t u xs h) ∙ sym (allPass-cons u x xs)
+allPass-congr t u (x ∷ xs) h =
+    allPass-cons t x xs ∙ ap₂ _&&_ (h x (List·Memᴰ·head refl)) (allPass-congr t u xs (λ y m. h y (List·Memᴰ·tail m))) ∙ sym (allPass-cons u x xs)
 
 -- ---- blocks
 
@@ -106,28 +107,38 @@ module _ (s : Shape) (c : Counts) (store : Store) where
       let l : List ℕ = part (entryOrderAt s + nodeField s c store i 4) (nodeField s c store i 5) (store .numbers) in
       childless-cond (blockHeld (nodeField s c store i 4) (nodeField s c store i 5) (c .entries)) (entriesShown s c store query hash l) damage (childless-entries query hash l) childless-damage
 
-  -- what is shown as children was tested
+  -- what is shown as children was listed and tested
   childrenShown-below : (parent : ℕ) (numbers shownAs : List ℕ) → childrenShown s c store parent numbers ≡ children shownAs
-      → (x : ℕ) → List·Memᴰ x shownAs → (parent < x) × (x < c .nodes)
+      → (x : ℕ) → List·Memᴰ x shownAs → List·Memᴰ x numbers × (parent < x) × (x < c .nodes)
   unfolding childrenShown
   childrenShown-below parent numbers shownAs e x m =
       either (cond-cases (allPass (λ child. ltb parent child && ltb child (c .nodes)) numbers) (children numbers) damage)
       (λ p. let same : children numbers ≡ children shownAs = sym (p .1) ∙ e in
       let l : numbers ≡ shownAs = cc in
-      let both : (ltb parent x && ltb x (c .nodes)) ≡ true = allPass-Memᴰ (λ child. ltb parent child && ltb child (c .nodes)) numbers (p .0) x (subst (List·Memᴰ x) (sym l) m) in
-      (ltb-true parent x (and-left (ltb parent x) (ltb x (c .nodes)) both), ltb-true x (c .nodes) (and-right (ltb parent x) (ltb x (c .nodes)) both)))
+      let listed : List·Memᴰ x numbers = subst (List·Memᴰ x) (sym l) m in
+      let both : (ltb parent x && ltb x (c .nodes)) ≡ true = allPass-Memᴰ (λ child. ltb parent child && ltb child (c .nodes)) numbers (p .0) x listed in
+      (listed, ltb-true parent x (and-left (ltb parent x) (ltb x (c .nodes)) both), ltb-true x (c .nodes) (and-right (ltb parent x) (ltb x (c .nodes)) both)))
       (λ p. absurd (childless-damage shownAs (sym (p .1) ∙ e)))
 
-  nodeShown-below : (query : List Float) (wanted : Wanted) (i : ℕ) (numbers : List ℕ) → nodeShown s c store query wanted i ≡ children numbers
-      → (x : ℕ) → List·Memᴰ x numbers → (i < x) × (x < c .nodes)
+  -- A child x that node i shows: the node has children, all within what is held, and x is one of them, above its parent and below the node count
+  pub record ShownChild (i x : ℕ) : Type 0 where
+    pub inner : nodeField s c store i 1 ≡ 0 → ⊥
+    pub held : blockHeld (nodeField s c store i 0) (nodeField s c store i 1) (c .nodes) ≡ true
+    pub listed : List·Memᴰ x (part (linksAt s + nodeField s c store i 0) (nodeField s c store i 1) (store .numbers))
+    pub above : i < x
+    pub below : x < c .nodes
+
+  nodeShown-child : (query : List Float) (wanted : Wanted) (i : ℕ) (numbers : List ℕ) → nodeShown s c store query wanted i ≡ children numbers
+      → (x : ℕ) → List·Memᴰ x numbers → ShownChild i x
   unfolding nodeShown
-  nodeShown-below query wanted i numbers e x m =
-      let inner : Shown = childrenShown s c store i (part (linksAt s + nodeField s c store i 0) (nodeField s c store i 1) (store .numbers)) in
+  nodeShown-child query wanted i numbers e x m =
+      let list : List ℕ = part (linksAt s + nodeField s c store i 0) (nodeField s c store i 1) (store .numbers) in
       let held : Bool = blockHeld (nodeField s c store i 0) (nodeField s c store i 1) (c .nodes) in
-      either (cond-cases (eqb (nodeField s c store i 1) 0) (leafShown s c store query wanted i) (cond held inner damage))
+      either (cond-cases (eqb (nodeField s c store i 1) 0) (leafShown s c store query wanted i) (cond held (childrenShown s c store i list) damage))
       (λ p. absurd (childless-leaf query wanted i numbers (sym (p .1) ∙ e)))
-      (λ p. either (cond-cases held inner damage)
-      (λ q. childrenShown-below i (part (linksAt s + nodeField s c store i 0) (nodeField s c store i 1) (store .numbers)) numbers (sym (q .1) ∙ sym (p .1) ∙ e) x m)
+      (λ p. either (cond-cases held (childrenShown s c store i list) damage)
+      (λ q. let child = childrenShown-below i list numbers (sym (q .1) ∙ sym (p .1) ∙ e) x m in
+      record { inner = eqb-false (nodeField s c store i 1) 0 (p .0); held = q .0; listed = child .0; above = child .1; below = child .2 })
       (λ q. absurd (childless-damage numbers (sym (q .1) ∙ sym (p .1) ∙ e))))
 
   pub store-shown : (query : List Float) (wanted : Wanted) (i : ℕ)
@@ -135,13 +146,18 @@ module _ (s : Shape) (c : Counts) (store : Store) where
   unfolding shown storeView
   store-shown query wanted i = refl
 
-  -- The children that a store shows are above their parent and below the node count
-  pub store-children : (query : List Float) (wanted : Wanted) (i : ℕ) (numbers : List ℕ) (x : ℕ) → shown (storeView s c store query wanted) i ≡ children numbers
-      → List·Memᴰ x numbers → (i < x) × (x < c .nodes)
-  store-children query wanted i numbers x e m =
+  -- The children that a store shows, by a node that its filter does not deny
+  pub store-child : (query : List Float) (wanted : Wanted) (i : ℕ) (numbers : List ℕ) (x : ℕ) → shown (storeView s c store query wanted) i ≡ children numbers
+      → List·Memᴰ x numbers → (nodeDenied s c store wanted i ≡ false) × ShownChild i x
+  store-child query wanted i numbers x e m =
       either (cond-cases (nodeDenied s c store wanted i) (hits []) (nodeShown s c store query wanted i))
       (λ p. absurd (childless-hits [] numbers (sym (p .1) ∙ sym (store-shown query wanted i) ∙ e)))
-      (λ p. nodeShown-below query wanted i numbers (sym (p .1) ∙ sym (store-shown query wanted i) ∙ e) x m)
+      (λ p. (p .0, nodeShown-child query wanted i numbers (sym (p .1) ∙ sym (store-shown query wanted i) ∙ e) x m))
+
+  -- They are above their parent and below the node count
+  pub store-children : (query : List Float) (wanted : Wanted) (i : ℕ) (numbers : List ℕ) (x : ℕ) → shown (storeView s c store query wanted) i ≡ children numbers
+      → List·Memᴰ x numbers → (i < x) × (x < c .nodes)
+  store-children query wanted i numbers x e m = let child = store-child query wanted i numbers x e m .1 in (child .above, child .below)
 
   pub store-children-below : (query : List Float) (wanted : Wanted) → ChildrenBelow (storeView s c store query wanted) (c .nodes)
   store-children-below query wanted i numbers x e m = store-children query wanted i numbers x e m .1

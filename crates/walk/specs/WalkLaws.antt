@@ -622,30 +622,56 @@ walk-last view b =
     ∙ walk-suc view 0 (walkFrom view b (going (startProgress view))) ∙ walk-zero view (step view (walkFrom view b (going (startProgress view))))
     ∙ ap (step view) (sym (walk-is view b))
 
+-- Node i is opened by a walk over a view with a budget: fewer nodes are opened, and it is the least of those that wait
+pub record Opens (view : View) (budget i : ℕ) : Type 0 where
+  pub opened : ℕ
+  pub fewer : opened < budget
+  pub progress : Progress
+  pub so-far : walk view opened ≡ going progress
+  pub least : ℕ
+  pub rest : List ℕ
+  pub waits : progress .waiting ≡ least ∷ rest
+  pub is : nodeNumber least ≡ i
+
 -- Two views that show the same at each node that the first walk opens, and the same keys of the nodes that it pushes, give the same walk: what stands
 -- in a node that is denied, or not opened, or in a list that is not read, changes nothing
-pub same-walk : (v w : View) → v .most ≡ w .most → v .key 0 ≡ w .key 0 → (b : ℕ)
-    → ((d : ℕ) (p : Progress) (least : ℕ) (rest : List ℕ) → d < b → walk v d ≡ going p → p .waiting ≡ least ∷ rest → Alike v w (nodeNumber least))
-    → walk v b ≡ walk w b
+pub same-walk : (v w : View) → v .most ≡ w .most → v .key 0 ≡ w .key 0 → (b : ℕ) → ((i : ℕ) → Opens v b i → Alike v w i) → walk v b ≡ walk w b
 same-walk v w most first zero f =
     walk-is v 0 ∙ walk-zero v (going (startProgress v))
     ∙ ap (λ (key : ℕ). going (record { waiting = (key * 2 ^ 64 + 0) ∷ []; pushed = 0 ∷ []; opened = []; found = [] })) first
     ∙ sym (walk-is w 0 ∙ walk-zero w (going (startProgress w)))
 same-walk v w most first (suc b) f =
-    walk-last v b ∙ step-same-at v w most (walk v b) (λ p least rest e g. f b p least rest (le-refl (suc b)) e g)
-    ∙ ap (step w) (same-walk v w most first b (λ d p least rest h e g. f d p least rest (let t : d < suc b = omega arith in t) e g)) ∙ sym (walk-last w b)
+    walk-last v b
+    ∙ step-same-at v w most (walk v b)
+    (λ p least rest e g. f (nodeNumber least) (record { opened = b; fewer = le-refl (suc b); progress = p; so-far = e; least = least; rest = rest; waits = g; is = refl }))
+    ∙ ap (step w) (same-walk v w most first b (λ i o. f i (more i o))) ∙ sym (walk-last w b)
+  where
+    more : (i : ℕ) → Opens v b i → Opens v (suc b) i
+    more i o = record {
+      opened = o .opened;
+      fewer = let t : o .opened < suc b = omega (arith, o .fewer) in t;
+      progress = o .progress;
+      so-far = o .so-far;
+      least = o .least;
+      rest = o .rest;
+      waits = o .waits;
+      is = o .is;
+    }
+
+-- A node that is opened is below a count that no shown child leaves
+pub opens-below : (v : View) (n : ℕ) → n ≤ 2 ^ 64 → 0 < n → ChildrenBelow v n → (b i : ℕ) → Opens v b i → i < n
+opens-below v n fits pos below b i h =
+    let o = once v n fits below pos (h .opened) (h .progress) (h .so-far) in
+    let waits : count i (numbersOf (h .progress .waiting)) ≡ hit i i + count i (numbersOf (h .rest)) =
+    ap (λ (l : List ℕ). count i (numbersOf l)) (h .waits) ∙ ap (λ (j : ℕ). count i (j ∷ numbersOf (h .rest))) (h .is) ∙ count-cons i i (numbersOf (h .rest)) in
+    o .below i (count-Memᴰ i (h .progress .pushed) (omega (arith, o .counted i, waits, hit-same i i refl)))
 
 -- Views that agree at every node below a count that no shown child leaves
 pub same-below : (v w : View) (n : ℕ) → n ≤ 2 ^ 64 → 0 < n → ChildrenBelow v n → v .most ≡ w .most → ((i : ℕ) → i < n → v .key i ≡ w .key i)
     → ((i : ℕ) → i < n → shown v i ≡ shown w i) → (b : ℕ) → walk v b ≡ walk w b
 same-below v w n fits pos below most keys shows b =
     same-walk v w most (keys 0 pos) b
-    (λ d p least rest h e g.
-    let o = once v n fits below pos d p e in
-    let i = nodeNumber least in
-    let waits : count i (numbersOf (p .waiting)) ≡ hit i i + count i (numbersOf rest) = ap (λ (l : List ℕ). count i (numbersOf l)) g ∙ count-cons i i (numbersOf rest) in
-    let low : i < n = o .below i (count-Memᴰ i (p .pushed) (omega (arith, o .counted i, waits, hit-same i i refl))) in
-    record { shows = shows i low; keys = λ c m. keys c (in-children i (shown v i) refl c m) })
+    (λ i o. record { shows = shows i (opens-below v n fits pos below b i o); keys = λ c m. keys c (in-children i (shown v i) refl c m) })
   where
     in-children : (i : ℕ) (sh : Shown) → shown v i ≡ sh → (c : ℕ) → List·Memᴰ c (childrenOf sh) → c < n
     in-children i damage e c m = absurd (List·Memᴰ·not-nil m)
@@ -655,7 +681,7 @@ same-below v w n fits pos below most keys shows b =
 -- Equal views give equal walks
 pub same-views : (v w : View) → v .most ≡ w .most → ((i : ℕ) → v .key i ≡ w .key i) → ((i : ℕ) → shown v i ≡ shown w i) → (b : ℕ) → walk v b ≡ walk w b
 same-views v w most keys shows b =
-    same-walk v w most (keys 0) b (λ d p least rest h e g. record { shows = shows (nodeNumber least); keys = λ c m. keys c })
+    same-walk v w most (keys 0) b (λ i o. record { shows = shows i; keys = λ c m. keys c })
 
 -- What a denied node would show changes nothing
 pub denied-ignored : (v w : View) → v .most ≡ w .most → ((i : ℕ) → v .key i ≡ w .key i) → ((i : ℕ) → v .denied i ≡ w .denied i)

@@ -10,9 +10,9 @@ use curator::refusal::Refusal;
 use libc::STDOUT_FILENO;
 
 fn print_refusal(refusal: Refusal) {
-    io::write_all(STDOUT_FILENO, b"refused ");
-    io::print_decimal(STDOUT_FILENO, refusal.number() as u64);
-    io::write_all(STDOUT_FILENO, b"\n");
+    let mut line = [0u8; 19];
+    let end = text::write_refused(&mut line, 0, refusal.number());
+    io::write_all(STDOUT_FILENO, &line[..end]);
 }
 
 // The index from now on; a refusal is printed, and the index stays.
@@ -26,26 +26,23 @@ fn kept(index: CuratorIndex, changed: Changed) -> CuratorIndex {
     }
 }
 
-fn print_hit(id: u32, distance: f32) {
-    io::print_decimal(STDOUT_FILENO, id as u64);
-    io::write_all(STDOUT_FILENO, b" ");
-    io::print_hex(STDOUT_FILENO, distance::bits::to_bits(distance) as u64, 8);
-    io::write_all(STDOUT_FILENO, b"\n");
-}
-
-fn print_hits(count: usize, ids: &[u32], distances: &[f32]) {
-    let mut i = 0;
-    while i < count {
-        if i < ids.len() {
-            if i < distances.len() {
-                print_hit(ids[i], distances[i]);
-            }
-        }
-        i += 1;
+// The lines of the hits, at most four.
+fn print_hits(count: usize, ids: &[u32; 4], distances: &[f32; 4]) {
+    if 4 < count {
+        return;
     }
+    let mut lines = [0u8; 80];
+    let end = text::write_hits(&mut lines, 0, ids, distances, count);
+    io::write_all(STDOUT_FILENO, &lines[..end]);
 }
 
-fn print_found(found: Found, ids: &[u32], distances: &[f32]) {
+fn print_closing(whole: bool, opened: usize) {
+    let mut line = [0u8; 27];
+    let end = text::write_closing(&mut line, 0, whole, opened);
+    io::write_all(STDOUT_FILENO, &line[..end]);
+}
+
+fn print_found(found: Found, ids: &[u32; 4], distances: &[f32; 4]) {
     match found {
         Found::Refused(refusal) => print_refusal(refusal),
         Found::Hits {
@@ -54,13 +51,7 @@ fn print_found(found: Found, ids: &[u32], distances: &[f32]) {
             whole,
         } => {
             print_hits(count, ids, distances);
-            if whole {
-                io::write_all(STDOUT_FILENO, b"whole ");
-            } else {
-                io::write_all(STDOUT_FILENO, b"cut ");
-            }
-            io::print_decimal(STDOUT_FILENO, opened as u64);
-            io::write_all(STDOUT_FILENO, b"\n");
+            print_closing(whole, opened);
         }
     }
 }

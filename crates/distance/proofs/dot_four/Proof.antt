@@ -1,90 +1,92 @@
--- `dot_four` meets its contract. Invariant: each sum of products is what is still to be summed from i on, begun at its own sum.
+-- `dot_four` meets its contract. Invariant: each sum of products is what is due from i on, begun at its own sum; a turn is four steps of it.
 use Prim.Native.Nat.{_≤_, _-_}
-use mathlib.Core.Path.{_≡_, refl}
+use mathlib.Core.Path.{refl}
 use native.Mathlib.Omega.{arith}
 use borrow.Author.Needs.{needs}
-use lib.ListN.{length, drop}
-use Rattle.distance.specs.Vector.{dot, dotFrom, zero32}
-use Rattle.distance.proofs.Steps.{dotFrom-turn, dotFrom-end, min-same}
+use denote.Ref.{now}
+use lib.ListN.{length}
+use Rattle.distance.specs.Vector.{dot, zero32}
+use Rattle.distance.proofs.Steps.{Due, due-four}
 use Rattle.distance.proofs.dot_four.Statement.{statement}
 use Rattle.distance.proofs.dot_four.Tie as tie
 
 abbrev Inv-loop : tie.InvT-loop
-Inv-loop q a b c d sum-a₀ sum-b₀ sum-c₀ sum-d₀ i₀ sum-a sum-b sum-c sum-d i =
+Inv-loop q a b c d sums₀ i₀ sums i =
     (i ≤ length q)
-    × (dot q a ≡ dotFrom sum-a (drop i q) (drop i a))
-    × (dot q b ≡ dotFrom sum-b (drop i q) (drop i b))
-    × (dot q c ≡ dotFrom sum-c (drop i q) (drop i c))
-    × (dot q d ≡ dotFrom sum-d (drop i q) (drop i d))
+    × Due (dot q a) (sums .a) q a i
+    × Due (dot q b) (sums .b) q b i
+    × Due (dot q c) (sums .c) q c i
+    × Due (dot q d) (sums .d) q d i
 
 abbrev μ-loop : tie.MeasureT-loop
-μ-loop q a b c d sum-a₀ sum-b₀ sum-c₀ sum-d₀ i₀ sum-a sum-b sum-c sum-d i = length q - i
+μ-loop q a b c d sums₀ i₀ sums i = length q - i
+
+-- the place in a turn after the loop's test, from its end, and the function's start from there
+abbrev test : tie.After-step-four4 Inv-loop μ-loop → tie.In-loop Inv-loop μ-loop
+test c = c .before .before .before .before
+
+abbrev start : tie.In-loop Inv-loop μ-loop → tie.Start Inv-loop μ-loop
+start c = c .before .before .before .before .before .before .before
 
 loop-holds : tie.Need-loop-holds Inv-loop μ-loop
 unfolding dot zero32
-loop-holds c = (omega arith, refl, refl, refl, refl)
+loop-holds c = (omega arith, (omega arith, refl), (omega arith, refl), (omega arith, refl), (omega arith, refl))
 
-mul-x : tie.Need-mul-x Inv-loop μ-loop
-mul-x c = search needs
+sub-loop : tie.Need-sub-loop Inv-loop μ-loop
+sub-loop c = search needs
 
-shared-slice-read-x : tie.Need-shared-slice-read-x Inv-loop μ-loop
-shared-slice-read-x c = omega arith
+step-four-requires : tie.Need-step-four-requires Inv-loop μ-loop
+step-four-requires c κs = search needs
 
-mul-sum-a : tie.Need-mul-sum-a Inv-loop μ-loop
-mul-sum-a c = search needs
+add-step-four : tie.Need-add-step-four Inv-loop μ-loop
+add-step-four c = search needs
 
-shared-slice-read-sum-a : tie.Need-shared-slice-read-sum-a Inv-loop μ-loop
-shared-slice-read-sum-a c = omega arith
+step-four-requires-2 : tie.Need-step-four-requires-2 Inv-loop μ-loop
+step-four-requires-2 c κs = search needs
 
-mul-sum-b : tie.Need-mul-sum-b Inv-loop μ-loop
-mul-sum-b c = search needs
+add-step-four-2 : tie.Need-add-step-four-2 Inv-loop μ-loop
+add-step-four-2 c = search needs
 
-shared-slice-read-sum-b : tie.Need-shared-slice-read-sum-b Inv-loop μ-loop
-shared-slice-read-sum-b c = omega arith
+step-four-requires-3 : tie.Need-step-four-requires-3 Inv-loop μ-loop
+step-four-requires-3 c κs = search needs
 
-mul-sum-c : tie.Need-mul-sum-c Inv-loop μ-loop
-mul-sum-c c = search needs
+add-step-four-3 : tie.Need-add-step-four-3 Inv-loop μ-loop
+add-step-four-3 c = let t = c .before .before .before in omega (arith, t .loop-test .taken, start t .good)
 
-shared-slice-read-sum-c : tie.Need-shared-slice-read-sum-c Inv-loop μ-loop
-shared-slice-read-sum-c c = omega arith
-
-mul-sum-d : tie.Need-mul-sum-d Inv-loop μ-loop
-mul-sum-d c = search needs
-
-shared-slice-read-sum-d : tie.Need-shared-slice-read-sum-d Inv-loop μ-loop
-shared-slice-read-sum-d c = omega arith
+step-four-requires-4 : tie.Need-step-four-requires-4 Inv-loop μ-loop
+step-four-requires-4 c κs = search needs
 
 add-i : tie.Need-add-i Inv-loop μ-loop
-add-i c = search needs
+add-i c = omega (arith, test c .loop-test .taken, start (test c) .good)
 
 loop-less : tie.Need-loop-less Inv-loop μ-loop
 loop-less c = omega arith
 
 loop-again : tie.Need-loop-again Inv-loop μ-loop
 loop-again c =
-    let due = c .before .before .before .before .before .before .loop .inv in
-    let same = c .before .before .before .before .before .before .before .pre in
-    let more = c .before .before .before .before .before .loop-test .taken in (
-      omega arith,
-      dotFrom-turn _ _ _ _ _ _ (due .1) (min-same (same .0)) more,
-      dotFrom-turn _ _ _ _ _ _ (due .2) (min-same (same .1 .0)) more,
-      dotFrom-turn _ _ _ _ _ _ (due .3) (min-same (same .1 .1 .0)) more,
-      dotFrom-turn _ _ _ _ _ _ (due .4) (min-same (same .1 .1 .1)) more,
+    let s = start (test c) .args in
+    let at = test c .before .loop in
+    let more = test c .loop-test .taken in
+    let t = c .before .before .before .step-four .ensures in
+    let u = c .before .before .step-four2 .ensures in
+    let v = c .before .step-four3 .ensures in
+    let w = c .step-four4 .ensures in (
+      omega (arith, more, at .inv .0),
+      due-four _ _ _ _ _ _ (now (s .q)) (now (s .a)) (at .i) (at .inv .1) more (t .0) (u .0) (v .0) (w .0),
+      due-four _ _ _ _ _ _ (now (s .q)) (now (s .b)) (at .i) (at .inv .2) more (t .1 .0) (u .1 .0) (v .1 .0) (w .1 .0),
+      due-four _ _ _ _ _ _ (now (s .q)) (now (s .c)) (at .i) (at .inv .3) more (t .1 .1 .0) (u .1 .1 .0) (v .1 .1 .0) (w .1 .1 .0),
+      due-four _ _ _ _ _ _ (now (s .q)) (now (s .d)) (at .i) (at .inv .4) more (t .1 .1 .1) (u .1 .1 .1) (v .1 .1 .1) (w .1 .1 .1),
     )
+
+rest-four-requires : tie.Need-rest-four-requires Inv-loop μ-loop
+rest-four-requires c κs = search needs
 
 returns : tie.Need-returns Inv-loop μ-loop
 returns c =
-    let due = c .before .loop .inv in
-    let same = c .before .before .pre in
-    let over = c .loop-test .left in (
-      dotFrom-end _ _ _ _ _ _ (due .1) (min-same (same .0)) over,
-      (
-        dotFrom-end _ _ _ _ _ _ (due .2) (min-same (same .1 .0)) over,
-        (
-          dotFrom-end _ _ _ _ _ _ (due .3) (min-same (same .1 .1 .0)) over,
-          dotFrom-end _ _ _ _ _ _ (due .4) (min-same (same .1 .1 .1)) over,
-        ),
-      ),
+    let due = c .before .before .loop .inv in
+    let rest = c .rest-four .ensures in (
+      rw (due .1 .1) (rest .0),
+      (rw (due .2 .1) (rest .1 .0), (rw (due .3 .1) (rest .1 .1 .0), rw (due .4 .1) (rest .1 .1 .1))),
     )
 
 pub dot-four-spec : {M : Type 1} → statement M
@@ -94,17 +96,16 @@ dot-four-spec =
     Inv-loop
     μ-loop
     loop-holds
-    mul-x
-    shared-slice-read-x
-    mul-sum-a
-    shared-slice-read-sum-a
-    mul-sum-b
-    shared-slice-read-sum-b
-    mul-sum-c
-    shared-slice-read-sum-c
-    mul-sum-d
-    shared-slice-read-sum-d
+    sub-loop
+    step-four-requires
+    add-step-four
+    step-four-requires-2
+    add-step-four-2
+    step-four-requires-3
+    add-step-four-3
+    step-four-requires-4
     add-i
     loop-less
     loop-again
+    rest-four-requires
     returns)

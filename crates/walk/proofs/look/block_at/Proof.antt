@@ -3,7 +3,7 @@ use native.Mathlib.Omega.{arith}
 use Rattle.walk.proofs.Looks.{block-out, block-in}
 use Rattle.walk.specs.StoreViewLaws.{block-empty}
 use lib.ListN.{getD}
-use mathlib.Core.Path.{_≡_, refl, sym, ap, _∙_}
+use mathlib.Core.Path.{_≡_, refl, sym, _∙_}
 use Prim.Native.Nat.{_+_}
 use borrow.Author.Needs.{needs}
 use Rattle.walk.proofs.look.block_at.Statement.{statement}

@@ -1,11 +1,9 @@
 -- `look::denies` meets its contract: everything is denied nowhere, a hash where the filter lacks one of its bits. Assumes nothing.
-use Rattle.walk.proofs.Looks.{lent-is}
+use Rattle.walk.specs.LentLaws.{lent-is}
 use Rattle.label.specs.Filter.{mayContain}
-use Prim.Native.Nat.{_-_}
 use mathlib.Core.Bool.{not}
-use native.Mathlib.Omega.{arith}
 use Prim.Native.Nat.{_+_, _*_}
-use mathlib.Core.Path.{_≡_, refl, sym, ap, _∙_}
+use mathlib.Core.Path.{_≡_, sym, ap, _∙_}
 use Rattle.lists.specs.Lists.{part}
 use Rattle.store.specs.Store.{filtersAt}
 use Rattle.walk.specs.Search.{filterDenies}

@@ -1,8 +1,7 @@
 -- `look::leaf_list` meets its contract. Assumes nothing.
 use Rattle.walk.specs.Search.{Placing, LeafPlacing}
 use Prim.Native.Nat.{_+_}
-use mathlib.Core.Path.{_≡_, sym, subst}
-use native.Mathlib.Omega.{arith}
+use mathlib.Core.Path.{sym, subst}
 use borrow.Author.Needs.{needs}
 use Rattle.walk.proofs.look.leaf_list.Statement.{statement}
 use Rattle.walk.proofs.look.leaf_list.Tie as tie

@@ -1,24 +1,60 @@
 -- `look::look_at` meets its contract: what was read of the node decides what it shows. Assumes nothing.
-use Rattle.store.specs.Store.{linksAt}
-use mathlib.Core.Path.{subst₂}
-use Rattle.walk.proofs.Looks.{looks-denied, looks-leaf, looks-inner}
-use Rattle.walk.specs.Search.{Placing, LeafPlacing}
+use Rattle.walk.proofs.Looks.{looks-denied, looks-leaf, looks-inner, leafLook, innerLook}
+use Rattle.walk.specs.Search.{filterDenies, Placing, LeafPlacing, Looks}
+use Rattle.walk.specs.declared.look.Look.{Look}
+use Rattle.walk.specs.declared.look.Placed.{Placed}
 use Rattle.walk.specs.declared.look.Placed.the-variants.{Outside, Within}
-use Rattle.store.specs.Store.{nodesAt}
+use Rattle.store.specs.Store.{nodesAt, linksAt, filtersAt}
+use Rattle.lists.specs.Lists.{part}
 use lib.ListN.{getD}
-use mathlib.Core.Path.{_≡_, sym, subst, _∙_}
-use Prim.Native.Nat.{_+_, _*_}
+use mathlib.Core.Bool.{false}
+use mathlib.Core.Path.{_≡_, sym, subst, subst₂, _∙_}
+use Prim.Native.Nat.{ℕ, _+_, _*_}
 use borrow.Author.Needs.{needs}
 use Rattle.walk.proofs.look.look_at.Statement.{statement}
 use Rattle.walk.proofs.look.look_at.Tie as tie
+
+-- the places: the node passes and is found, its leaf's list is placed, its children are placed
+abbrev entry : tie.After-nodes-at → tie.Start
+entry n = n .before .before .before .before .before
+
+abbrev leaf : tie.After-leaf-list → tie.After-nodes-at
+leaf l = l .before .before .before
+
+abbrev inner : tie.After-block-at → tie.After-nodes-at
+inner b = b .before .before .before .before
+
+passed : (n : tie.After-nodes-at) → filterDenies (entry n .args .wanted) (part (filtersAt (entry n .args .shape) + entry n .args .i * 4) 4 (entry n .args .hashes .now)) ≡ false
+passed n = sym (n .before .before .denies .ensures) ∙ n .before .if1 .left
+
+abbrev Shows : tie.Start → Look → Type 0
+Shows e r = Looks (e .args .shape) (e .args .counts) (e .args .numbers .now) (e .args .hashes .now) (e .args .wanted) (e .args .i) r
+
+leaf-shows : (l : tie.After-leaf-list) (r : Placed) → l .leaf-list .result ≡ r → Shows (entry (leaf l)) (leafLook r)
+leaf-shows l r is =
+    let n = leaf l in
+    let a = entry n .args in
+    looks-leaf (a .shape) (a .counts) (a .numbers .now) (a .hashes .now) (a .wanted) (a .i) (passed n)
+    (subst (λ (at : ℕ). getD (a .numbers .now) (at + a .i * 6 + 1) 0 ≡ 0) (n .nodes-at .ensures) (l .before .if2 .taken)) r
+    (subst₂ (λ (at : ℕ) (r : Placed). LeafPlacing (a .shape) (a .counts) (a .numbers .now) (a .wanted) (at + a .i * 6) r) (n .nodes-at .ensures) is (l .leaf-list .ensures))
+
+inner-shows : (b : tie.After-block-at) (r : Placed) → b .block-at .result ≡ r → Shows (entry (inner b)) (innerLook r)
+inner-shows b r is =
+    let n = inner b in
+    let a = entry n .args in
+    looks-inner (a .shape) (a .counts) (a .numbers .now) (a .hashes .now) (a .wanted) (a .i) (passed n)
+    (subst (λ (at : ℕ). getD (a .numbers .now) (at + a .i * 6 + 1) 0 ≡ 0 → ⊥) (n .nodes-at .ensures) (b .before .before .if2 .left)) r
+    (subst (λ (r : Placed). Placing (a .numbers .now) (nodesAt (a .shape) + a .i * 6) (linksAt (a .shape)) (a .counts .nodes) r) is
+    (subst₂ (λ (at base : ℕ). Placing (a .numbers .now) (at + a .i * 6) base (a .counts .nodes) (b .block-at .result)) (n .nodes-at .ensures) (b .before .links-at .ensures) (b .block-at .ensures)))
 
 denies-requires : tie.Need-denies-requires
 denies-requires c κs = search needs
 
 returns : tie.Need-returns
 returns c =
-    let a = c .before .before .before .before .args in
-    looks-denied (a .shape) (a .counts) (a .numbers .now) (a .hashes .now) (a .wanted) (a .i) (sym (c .before .denies .ensures) ∙ c .if1 .taken)
+    let d = c .before in
+    let a = d .before .before .before .args in
+    looks-denied (a .shape) (a .counts) (a .numbers .now) (a .hashes .now) (a .wanted) (a .i) (sym (d .denies .ensures) ∙ c .if1 .taken)
 
 nodes-at-requires : tie.Need-nodes-at-requires
 nodes-at-requires c κs = search needs
@@ -48,24 +84,10 @@ enum-known-list : tie.Need-enum-known-list
 enum-known-list c = search needs
 
 returns-2 : tie.Need-returns-2
-returns-2 c =
-    let a = c .before .before .before .before .before .before .before .before .before .before .args in
-    let nodes = c .before .before .before .before .before .nodes-at .ensures in
-    let list = c .before .before .leaf-list .ensures in
-    looks-leaf (a .shape) (a .counts) (a .numbers .now) (a .hashes .now) (a .wanted) (a .i) (sym (c .before .before .before .before .before .before .before .denies .ensures) ∙ c .before .before .before .before .before .before .if1 .left)
-    (subst (λ at. getD (a .numbers .now) (at + a .i * 6 + 1) 0 ≡ 0) nodes (c .before .before .before .if2 .taken)) Outside
-    (subst (λ r. LeafPlacing (a .shape) (a .counts) (a .numbers .now) (a .wanted) (nodesAt (a .shape) + a .i * 6) r) (c .enum-told .given .1)
-    (subst (λ at. LeafPlacing (a .shape) (a .counts) (a .numbers .now) (a .wanted) (at + a .i * 6) (c .before .before .leaf-list .result)) nodes list))
+returns-2 c = leaf-shows (c .before .before) Outside (c .enum-told .given .1)
 
 returns-3 : tie.Need-returns-3
-returns-3 c =
-    let a = c .before .before .before .before .before .before .before .before .before .before .before .args in
-    let nodes = c .before .before .before .before .before .before .nodes-at .ensures in
-    let list = c .before .before .before .leaf-list .ensures in
-    looks-leaf (a .shape) (a .counts) (a .numbers .now) (a .hashes .now) (a .wanted) (a .i) (sym (c .before .before .before .before .before .before .before .before .denies .ensures) ∙ c .before .before .before .before .before .before .before .if1 .left)
-    (subst (λ at. getD (a .numbers .now) (at + a .i * 6 + 1) 0 ≡ 0) nodes (c .before .before .before .before .if2 .taken)) (Within (c .before .list .given .0 .0))
-    (subst (λ r. LeafPlacing (a .shape) (a .counts) (a .numbers .now) (a .wanted) (nodesAt (a .shape) + a .i * 6) r) (c .before .list .given .1)
-    (subst (λ at. LeafPlacing (a .shape) (a .counts) (a .numbers .now) (a .wanted) (at + a .i * 6) (c .before .before .before .leaf-list .result)) nodes list))
+returns-3 c = let given = c .before .list .given in leaf-shows (c .before .before .before) (Within (given .0 .0)) (given .1)
 
 links-at-requires : tie.Need-links-at-requires
 links-at-requires c κs = search needs
@@ -80,26 +102,10 @@ enum-known-children : tie.Need-enum-known-children
 enum-known-children c = search needs
 
 returns-4 : tie.Need-returns-4
-returns-4 c =
-    let a = c .before .before .before .before .before .before .before .before .before .before .before .args in
-    let nodes = c .before .before .before .before .before .before .nodes-at .ensures in
-    let links = c .before .before .before .links-at .ensures in
-    let block = c .before .before .block-at .ensures in
-    looks-inner (a .shape) (a .counts) (a .numbers .now) (a .hashes .now) (a .wanted) (a .i) (sym (c .before .before .before .before .before .before .before .before .denies .ensures) ∙ c .before .before .before .before .before .before .before .if1 .left)
-    (subst (λ at. getD (a .numbers .now) (at + a .i * 6 + 1) 0 ≡ 0 → ⊥) nodes (c .before .before .before .before .if2 .left)) Outside
-    (subst (λ r. Placing (a .numbers .now) (nodesAt (a .shape) + a .i * 6) (linksAt (a .shape)) (a .counts .nodes) r) (c .enum-told2 .given .1)
-    (subst₂ (λ at base. Placing (a .numbers .now) (at + a .i * 6) base (a .counts .nodes) (c .before .before .block-at .result)) nodes links block))
+returns-4 c = inner-shows (c .before .before) Outside (c .enum-told2 .given .1)
 
 returns-5 : tie.Need-returns-5
-returns-5 c =
-    let a = c .before .before .before .before .before .before .before .before .before .before .before .before .args in
-    let nodes = c .before .before .before .before .before .before .before .nodes-at .ensures in
-    let links = c .before .before .before .before .links-at .ensures in
-    let block = c .before .before .before .block-at .ensures in
-    looks-inner (a .shape) (a .counts) (a .numbers .now) (a .hashes .now) (a .wanted) (a .i) (sym (c .before .before .before .before .before .before .before .before .before .denies .ensures) ∙ c .before .before .before .before .before .before .before .before .if1 .left)
-    (subst (λ at. getD (a .numbers .now) (at + a .i * 6 + 1) 0 ≡ 0 → ⊥) nodes (c .before .before .before .before .before .if2 .left)) (Within (c .before .children .given .0 .0))
-    (subst (λ r. Placing (a .numbers .now) (nodesAt (a .shape) + a .i * 6) (linksAt (a .shape)) (a .counts .nodes) r) (c .before .children .given .1)
-    (subst₂ (λ at base. Placing (a .numbers .now) (at + a .i * 6) base (a .counts .nodes) (c .before .before .before .block-at .result)) nodes links block))
+returns-5 c = let given = c .before .children .given in inner-shows (c .before .before .before) (Within (given .0 .0)) (given .1)
 
 pub look-at-spec : {M : Type 1} → statement M
 look-at-spec =

@@ -1,0 +1,234 @@
+/* Each exported function at the boundaries of its lists: the state list, the answer list, the order of the refusals, and what a refused call leaves. */
+#include "check.h"
+
+/* three vectors of document 01's worked example, built or not */
+static void example(index_t *x, size_t ef, int built) {
+    static const float seven[] = {1.0f, 0.0f}, eight[] = {0.0f, 2.0f}, nine[] = {3.0f, 4.0f};
+    CHECK(make(x, 2, 2, 1, ef, 4, 8, 16) == 0);
+    CHECK(add(x, 7, seven, "a") == 0);
+    CHECK(add(x, 8, eight, "b") == 0);
+    CHECK(add(x, 9, nine, "a") == 0);
+    if (built) CHECK(build(x) == 0);
+}
+
+static const float query[] = {1.0f, 0.0f};
+
+static void test_new(void) {
+    size_t state[CURATOR_STATE + 1];
+    memset(state, MARK, sizeof state);
+    CHECK(curator_new(0, 0, 0, 0, 0, 0, 0, 0, state, 0) == CURATOR_INVALID_DIMENSION);
+    CHECK(curator_new(129, 16, 128, 256, 4, 1, 0, 1, state, 13) == CURATOR_INVALID_DIMENSION);
+    CHECK(curator_new(2, 0, 128, 256, 4, 1, 0, 1, state, 0) == CURATOR_INVALID_CONFIG);
+    CHECK(curator_new(2, 16, 128, 256, 65536, 1, 0, 1, state, 13) == CURATOR_INVALID_CONFIG);
+    CHECK(curator_new(2, 16, 128, 256, 4, 4097, 0, 1, state, 13) == CURATOR_INVALID_CONFIG);
+    CHECK(curator_new(2, 16, 128, 256, 4, 1, 0, 1, state, 11) == CURATOR_INVALID_STATE);
+    CHECK(curator_new(2, 16, 128, 256, 4, 1, 0, 1, state, 0) == CURATOR_INVALID_STATE);
+    CHECK(is_marked(state, 0, 13, sizeof(size_t)));
+    CHECK(curator_new(2, 16, 128, 256, 4, 5, 6, 7, state, 12) == 0);
+    static const size_t fresh[] = {2, 16, 128, 256, 4, 5, 6, 7, 0, 0, 0, 0};
+    CHECK(memcmp(state, fresh, sizeof fresh) == 0);
+    CHECK(is_marked(state, 12, 13, sizeof(size_t)));
+}
+
+/* what an index holds in its lists, to compare after a refused call */
+typedef struct { size_t state[CURATOR_STATE + SURPLUS]; float *floats; uint32_t *numbers; uint64_t *hashes; } copy_t;
+
+static void *copied(const void *list, size_t bytes) { void *to = malloc(bytes); if (!to) abort(); return memcpy(to, list, bytes); }
+
+static copy_t copy(const index_t *x) {
+    copy_t c;
+    memcpy(c.state, x->state, sizeof c.state);
+    c.floats = copied(x->floats, (x->floats_len + SURPLUS) * 4);
+    c.numbers = copied(x->numbers, (x->numbers_len + SURPLUS) * 4);
+    c.hashes = copied(x->hashes, (x->hashes_len + SURPLUS) * 8);
+    return c;
+}
+
+static int unchanged(const index_t *x, const copy_t *c) {
+    return !memcmp(c->state, x->state, sizeof c->state) && !memcmp(c->floats, x->floats, (x->floats_len + SURPLUS) * 4)
+        && !memcmp(c->numbers, x->numbers, (x->numbers_len + SURPLUS) * 4) && !memcmp(c->hashes, x->hashes, (x->hashes_len + SURPLUS) * 8);
+}
+
+static void forget(copy_t *c) { free(c->floats); free(c->numbers); free(c->hashes); }
+
+/* each call on a state list of a length returns 4 and leaves everything */
+static void no_state(index_t *x, size_t state_len) {
+    static const uint8_t label[] = {'a'}, length[] = {1};
+    answer_t a;
+    copy_t c = copy(x);
+    mark(&a);
+    CHECK(curator_add(x->state, state_len, STORE(x), 1, query, 2, length, 1, label, 1) == CURATOR_INVALID_STATE);
+    CHECK(curator_build(x->state, state_len, STORE(x), WORK(x)) == CURATOR_INVALID_STATE);
+    CHECK(curator_search_filtered(x->state, state_len, STORE(x), WORK(x), query, 2, label, 1, 4, a.ids, HITS, a.distances, HITS, a.answer, 3)
+          == CURATOR_INVALID_STATE);
+    CHECK(curator_search(x->state, state_len, STORE(x), WORK(x), query, 2, 4, a.ids, HITS, a.distances, HITS, a.answer, 3)
+          == CURATOR_INVALID_STATE);
+    /* row 4 comes before 3 and before 14 */
+    CHECK(curator_search(x->state, state_len, x->floats, 0, x->numbers, 0, x->hashes, 0, x->work, 0, query, 1, 4, a.ids, 0, a.distances, 0, a.answer, 0)
+          == CURATOR_INVALID_STATE);
+    CHECK(answer_untouched(&a));
+    CHECK(unchanged(x, &c));
+    forget(&c);
+}
+
+static void test_state(void) {
+    index_t x;
+    for (int built = 0; built < 2; built++) {
+        example(&x, 5, built);
+        no_state(&x, 0);
+        no_state(&x, 11);
+        static const struct { size_t place, value; } unsound[] = {
+            {0, 0}, {0, 129}, {1, 0}, {1, 65}, {2, 4097}, {3, 65538}, {4, 65536}, {5, 2}, {6, 2}, {7, 0}, {8, 5}, {9, 9}, {10, 17},
+            {11, 2}, {11, SIZE_MAX}, {0, SIZE_MAX}, {5, SIZE_MAX}, {9, SIZE_MAX}};
+        for (size_t i = 0; i < sizeof unsound / sizeof unsound[0]; i++) {
+            size_t kept = x.state[unsound[i].place];
+            x.state[unsound[i].place] = unsound[i].value;
+            no_state(&x, CURATOR_STATE + SURPLUS);
+            x.state[unsound[i].place] = kept;
+        }
+        /* the other flag: built with no nodes, unbuilt with nodes */
+        x.state[CURATOR_BUILT] = !built;
+        no_state(&x, CURATOR_STATE + SURPLUS);
+        drop(&x);
+    }
+}
+
+static void test_add(void) {
+    static const uint8_t lengths[] = {1, 0, 2}, bytes[] = {'a', 'b', 'c'};
+    static const float bad[] = {1.0f, 1.0f / 0.0f};
+    index_t x;
+    example(&x, 5, 0);
+    static const size_t held[] = {2, 2, 1, 5, 4, 4, 8, 16, 3, 3, 0, 0};
+    CHECK(memcmp(x.state, held, sizeof held) == 0);
+    copy_t c = copy(&x);
+    CHECK(curator_add(STATE(&x), x.floats, x.floats_len - 1, x.numbers, x.numbers_len, x.hashes, x.hashes_len, 1, bad, 1, lengths, 3, bytes, 2)
+          == CURATOR_LIST_TOO_SHORT);
+    CHECK(curator_add(STATE(&x), STORE(&x), 1, bad, 1, lengths, 3, bytes, 2) == CURATOR_DIMENSION_MISMATCH);
+    CHECK(curator_add(STATE(&x), STORE(&x), 1, bad, 2, lengths, 3, bytes, 2) == CURATOR_NON_FINITE_INPUT);
+    CHECK(curator_add(STATE(&x), STORE(&x), 1, query, 2, lengths, 3, bytes, 2) == CURATOR_LABEL_LENGTHS);
+    CHECK(unchanged(&x, &c));
+    CHECK(curator_add(STATE(&x), STORE(&x), 1, query, 2, lengths, 3, bytes, 3) == 0);
+    CHECK(x.state[CURATOR_VECTORS_HELD] == 4 && x.state[CURATOR_ENTRIES_HELD] == 6);
+    forget(&c);
+    c = copy(&x);
+    CHECK(curator_add(STATE(&x), STORE(&x), 1, query, 2, lengths, 3, bytes, 3) == CURATOR_VECTORS_FULL);
+    CHECK(unchanged(&x, &c));
+    forget(&c);
+    x.state[CURATOR_VECTORS_HELD] = 3;
+    c = copy(&x);
+    CHECK(curator_add(STATE(&x), STORE(&x), 1, query, 2, lengths, 3, bytes, 3) == CURATOR_ENTRIES_FULL);
+    CHECK(unchanged(&x, &c));
+    CHECK(surplus_untouched(&x));
+    forget(&c);
+    drop(&x);
+}
+
+static void test_build(void) {
+    index_t x;
+    CHECK(make(&x, 2, 2, 1, 5, 4, 8, 16) == 0);
+    copy_t c = copy(&x);
+    CHECK(curator_build(STATE(&x), STORE(&x), x.work, x.work_len - 1) == CURATOR_LIST_TOO_SHORT);
+    CHECK(build(&x) == CURATOR_EMPTY_INDEX);
+    CHECK(unchanged(&x, &c));
+    forget(&c);
+    drop(&x);
+
+    example(&x, 5, 1);
+    static const size_t held[] = {2, 2, 1, 5, 4, 4, 8, 16, 3, 3, 5, 1};
+    CHECK(memcmp(x.state, held, sizeof held) == 0);
+    c = copy(&x);
+    CHECK(build(&x) == 0);
+    CHECK(add(&x, 1, query, "a") == CURATOR_ALREADY_BUILT);
+    CHECK(unchanged(&x, &c));
+    CHECK(surplus_untouched(&x));
+    forget(&c);
+    drop(&x);
+
+    /* one vector and leaf size 0: 17 nodes, one more than there is room for; an owner that no vector has */
+    CHECK(make(&x, 2, 2, 0, 5, 4, 8, 16) == 0);
+    CHECK(add(&x, 1, query, "a") == 0);
+    size_t state[CURATOR_STATE];
+    memcpy(state, x.state, sizeof state);
+    CHECK(build(&x) == CURATOR_NODES_FULL);
+    CHECK(memcmp(state, x.state, sizeof state) == 0);
+    x.numbers[x.v] = 1;
+    c = copy(&x);
+    CHECK(build(&x) == CURATOR_DAMAGED);
+    CHECK(unchanged(&x, &c));
+    CHECK(surplus_untouched(&x));
+    forget(&c);
+    drop(&x);
+}
+
+/* one search of both kinds, with answer lists of some lengths */
+static void both(index_t *x, const float *q, size_t q_len, size_t work_len, size_t k, size_t ids_len, size_t distances_len, size_t answer_len, uint32_t number) {
+    answer_t a;
+    mark(&a);
+    CHECK(curator_search_filtered(STATE(x), STORE(x), x->work, work_len, q, q_len, (const uint8_t *)"a", 1, k, a.ids, ids_len, a.distances,
+                                  distances_len, a.answer, answer_len) == number);
+    CHECK(!number || answer_untouched(&a));
+    mark(&a);
+    CHECK(curator_search(STATE(x), STORE(x), x->work, work_len, q, q_len, k, a.ids, ids_len, a.distances, distances_len, a.answer, answer_len)
+          == number);
+    CHECK(!number || answer_untouched(&a));
+}
+
+static void test_search(void) {
+    static const float bad[] = {0.0f, 0.0f / 0.0f};
+    index_t x;
+    answer_t a;
+    example(&x, 5, 0);
+    for (size_t n = 0; n <= 3; n++) {
+        both(&x, bad, 1, x.work_len - 1, 4, 3, 3, n, CURATOR_LIST_TOO_SHORT);
+        both(&x, bad, 1, x.work_len, 4, 3, 3, n, CURATOR_NOT_BUILT);
+    }
+    CHECK(build(&x) == 0);
+    copy_t c = copy(&x);
+    for (size_t n = 0; n <= 3; n++) {
+        both(&x, bad, 1, x.work_len - 1, 4, 3, 3, n, CURATOR_LIST_TOO_SHORT);
+        both(&x, bad, 1, x.work_len, 4, 3, 3, n, CURATOR_DIMENSION_MISMATCH);
+        both(&x, bad, 2, x.work_len, 4, 3, 3, n, CURATOR_NON_FINITE_INPUT);
+        both(&x, query, 2, x.work_len, 4, 3, 4, n, CURATOR_ANSWER_TOO_SHORT);
+        both(&x, query, 2, x.work_len, 4, 4, 3, n, CURATOR_ANSWER_TOO_SHORT);
+        both(&x, query, 2, x.work_len, SIZE_MAX, 4, 4, n, CURATOR_ANSWER_TOO_SHORT);
+        both(&x, query, 2, x.work_len, 4, 4, 4, n, n < 3 ? CURATOR_ANSWER_TOO_SHORT : 0);
+        both(&x, query, 2, x.work_len, 0, 0, 0, n, n < 3 ? CURATOR_ANSWER_TOO_SHORT : 0);
+    }
+
+    CHECK(search_filtered(&x, &a, query, "a", 4) == 0);
+    CHECK(a.answer[CURATOR_HITS] == 2 && a.answer[CURATOR_OPENED] == 5 && a.answer[CURATOR_WHOLE] == 1);
+    CHECK(a.ids[0] == 7 && bits_of(a.distances[0]) == 0x00000000u);
+    CHECK(a.ids[1] == 9 && bits_of(a.distances[1]) == 0x3ECCCCCCu);
+    CHECK(is_marked(a.ids, 2, HITS, 4) && is_marked(a.distances, 2, HITS, 4) && is_marked(a.answer, 3, 3 + SURPLUS, sizeof(size_t)));
+    CHECK(search(&x, &a, query, 2) == 0);
+    CHECK(a.answer[CURATOR_HITS] == 2 && a.answer[CURATOR_OPENED] == 5 && a.answer[CURATOR_WHOLE] == 1);
+    CHECK(a.ids[0] == 7 && a.ids[1] == 9 && is_marked(a.ids, 2, HITS, 4));
+    CHECK(search_filtered(&x, &a, query, "", 4) == 0);
+    CHECK(a.answer[CURATOR_HITS] == 0 && a.answer[CURATOR_OPENED] == 1 && a.answer[CURATOR_WHOLE] == 1);
+    CHECK(unchanged(&x, &c));
+
+    /* the root's first child is not above it */
+    x.numbers[2 * x.v + x.e + 6 * x.m] = 0;
+    both(&x, query, 2, x.work_len, 4, 4, 4, 3, CURATOR_DAMAGED);
+    both(&x, query, 2, x.work_len, 4, 4, 4, 2, CURATOR_ANSWER_TOO_SHORT);
+    CHECK(surplus_untouched(&x));
+    forget(&c);
+    drop(&x);
+
+    static const struct { size_t ef, hits, opened, whole; } budgets[] = {{0, 0, 0, 0}, {2, 1, 2, 0}, {4, 2, 4, 0}, {5, 2, 5, 1}};
+    for (size_t i = 0; i < 4; i++) {
+        example(&x, budgets[i].ef, 1);
+        CHECK(search_filtered(&x, &a, query, "a", 4) == 0);
+        CHECK(a.answer[CURATOR_HITS] == budgets[i].hits && a.answer[CURATOR_OPENED] == budgets[i].opened && a.answer[CURATOR_WHOLE] == budgets[i].whole);
+        drop(&x);
+    }
+}
+
+int main(void) {
+    test_new();
+    test_state();
+    test_add();
+    test_build();
+    test_search();
+    return report();
+}

@@ -1,0 +1,111 @@
+/* The Curator index as C functions over lists that the caller lends. Link target/staticlib/libcurator_c.a, which `rt staticlib curator_c` writes.
+
+   Every list is a pointer and a count of elements. A list may be longer than asked; the surplus is untouched. No pointer is NULL, also where the
+   count is 0, and each is aligned for its type. A list that a call writes (one whose pointer is not const) shares no place with any other list
+   of that call. Threads may search one index at the same time, each with its own work and answer lists.
+
+   Each function returns 0 where the call is answered, otherwise the number of its refusal. A refused call leaves the state, the store and the answer
+   lists as they were, but for the parts that CURATOR_NODES_FULL names. The work list holds nothing between calls.
+
+   The contracts are in crates/curator_c/src/lib.rt; the definitions that they cite begin in crates/curator_c/specs/Results.antt. */
+#ifndef CURATOR_H
+#define CURATOR_H
+
+#include <stddef.h>
+#include <stdint.h>
+
+#ifdef __cplusplus
+extern "C" {
+#endif
+
+/* The state: twelve numbers, in this order. */
+#define CURATOR_STATE 12
+enum {
+    CURATOR_DIMENSION,        /* D, 1 to 128 */
+    CURATOR_BRANCHING_FACTOR, /* B, 1 to 64 */
+    CURATOR_MAX_LEAF_SIZE,    /* 0 to 4,096 */
+    CURATOR_EF_SEARCH,        /* 0 to 65,537 */
+    CURATOR_BEAM_WIDTH,       /* 0 to 65,535; kept, read by no build or search */
+    CURATOR_VECTORS,          /* V, 1 to 4,096 */
+    CURATOR_ENTRIES,          /* E, 0 to 16,384 */
+    CURATOR_NODES,            /* M, 1 to 65,537 */
+    CURATOR_VECTORS_HELD,
+    CURATOR_ENTRIES_HELD,
+    CURATOR_NODES_HELD,
+    CURATOR_BUILT             /* 0 or 1 */
+};
+
+/* What an answered search puts into the answer list: three numbers, in this order. */
+#define CURATOR_ANSWER 3
+enum {
+    CURATOR_HITS,   /* how many places of ids and distances are filled */
+    CURATOR_OPENED, /* how many nodes were opened */
+    CURATOR_WHOLE   /* 1 where the walk ended because no node waited, 0 where ef_search cut it */
+};
+
+/* The sizes of the lists of the store, and of the work list, by D, B, V, E and M. */
+#define CURATOR_FLOATS_SIZE(d, b, v, m) ((d) * ((v) + (m) + (b)))
+#define CURATOR_NUMBERS_SIZE(v, e, m) (2 * (v) + 2 * (e) + 7 * (m))
+#define CURATOR_HASHES_SIZE(e, m) ((e) + 4 * (m))
+#define CURATOR_WORK_SIZE(v, e, m) (3 * (m) + 3 * ((v) < (e) ? (e) : (v)))
+
+/* What is returned. Where several cases hold, the earliest in the call's order is returned:
+   new 1, 2, 4; add 4, 3, 5, 7, 8, 9, 10, 11; build 4, 3, then 0 for a built index, then 12, 15, 13; search 4, 3, 6, 7, 8, 14, 15. */
+enum {
+    CURATOR_OK = 0,
+    CURATOR_INVALID_DIMENSION = 1,
+    CURATOR_INVALID_CONFIG = 2,      /* another setting or capacity outside its limits */
+    CURATOR_LIST_TOO_SHORT = 3,      /* a list of the store, or the work list */
+    CURATOR_INVALID_STATE = 4,       /* no sound state in the list; new: no room for one */
+    CURATOR_ALREADY_BUILT = 5,
+    CURATOR_NOT_BUILT = 6,
+    CURATOR_DIMENSION_MISMATCH = 7,  /* vector_len or query_len is not D */
+    CURATOR_NON_FINITE_INPUT = 8,    /* a component is infinite or NaN */
+    CURATOR_LABEL_LENGTHS = 9,       /* the lengths do not sum to bytes_len */
+    CURATOR_VECTORS_FULL = 10,
+    CURATOR_ENTRIES_FULL = 11,
+    CURATOR_EMPTY_INDEX = 12,
+    CURATOR_NODES_FULL = 13,         /* the tree has more than M nodes; leaves anything in centroids, centres, the six
+                                        numbers of each node, child links, leaf orders, filters and work */
+    CURATOR_ANSWER_TOO_SHORT = 14,   /* ids or distances shorter than k, or the answer list shorter than 3 */
+    CURATOR_DAMAGED = 15             /* the store is not what a build left */
+};
+
+/* An index that holds nothing: its state in the first twelve places of the state list. The lists of the store may hold anything. */
+uint32_t curator_new(size_t dimension, size_t branching_factor, size_t max_leaf_size, size_t ef_search, size_t beam_width,
+                     size_t vectors, size_t entries, size_t nodes,
+                     size_t *state, size_t state_len);
+
+/* Adds a vector under a document id, with labels: lengths cuts them from bytes, so a label has at most 255 bytes. */
+uint32_t curator_add(size_t *state, size_t state_len,
+                     float *floats, size_t floats_len, uint32_t *numbers, size_t numbers_len, uint64_t *hashes, size_t hashes_len,
+                     uint32_t doc_id, const float *vector, size_t vector_len,
+                     const uint8_t *lengths, size_t lengths_len, const uint8_t *bytes, size_t bytes_len);
+
+/* Makes the tree of what is held. A built index succeeds unchanged. */
+uint32_t curator_build(size_t *state, size_t state_len,
+                       float *floats, size_t floats_len, uint32_t *numbers, size_t numbers_len, uint64_t *hashes, size_t hashes_len,
+                       uint32_t *work, size_t work_len);
+
+/* The nearest k documents that have a vector with the label: ids and distances of the hits, nearest first, and the three numbers of the answer. */
+uint32_t curator_search_filtered(const size_t *state, size_t state_len,
+                                 const float *floats, size_t floats_len, const uint32_t *numbers, size_t numbers_len,
+                                 const uint64_t *hashes, size_t hashes_len,
+                                 uint32_t *work, size_t work_len, const float *query, size_t query_len,
+                                 const uint8_t *label, size_t label_len, size_t k,
+                                 uint32_t *ids, size_t ids_len, float *distances, size_t distances_len,
+                                 size_t *answer, size_t answer_len);
+
+/* The nearest k documents. */
+uint32_t curator_search(const size_t *state, size_t state_len,
+                        const float *floats, size_t floats_len, const uint32_t *numbers, size_t numbers_len,
+                        const uint64_t *hashes, size_t hashes_len,
+                        uint32_t *work, size_t work_len, const float *query, size_t query_len, size_t k,
+                        uint32_t *ids, size_t ids_len, float *distances, size_t distances_len,
+                        size_t *answer, size_t answer_len);
+
+#ifdef __cplusplus
+}
+#endif
+
+#endif

@@ -1,0 +1,2 @@
+//! Stand-in for thiserror: the derive macro alone.
+pub use derives::Error;

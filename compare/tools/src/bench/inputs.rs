@@ -1,0 +1,33 @@
+//! The inputs of the benchmark: the same for both sides.
+use crate::case::{Case, Doc, Query};
+use crate::ours::Shape;
+use crate::random::Random;
+
+pub const DIMENSION: usize = 64;
+pub const LABELS: usize = 20;
+pub const K: usize = 5;
+pub const QUERIES: usize = 200;
+
+fn label(i: usize) -> String {
+    format!("label:{}", i % LABELS)
+}
+
+fn vector(random: &mut Random) -> Vec<f32> {
+    (0..DIMENSION).map(|_| random.unit()).collect()
+}
+
+/// n vectors with `each` different labels of 20; the usual settings but for `ef`.
+pub fn case(n: usize, each: usize, ef: usize) -> Case {
+    let mut random = Random::new(2026);
+    let docs: Vec<Doc> = (0..n)
+        .map(|i| {
+            let first = random.below(LABELS);
+            let labels = (0..each).map(|j| label(first + j * LABELS / each)).collect();
+            Doc { id: i as u32, vector: vector(&mut random), labels }
+        })
+        .collect();
+    let queries = (0..QUERIES).map(|i| Query { vector: vector(&mut random), label: Some(label(i)), k: K }).collect();
+    let shape =
+        Shape { dimension: DIMENSION, branching: 16, leaf_size: 128, ef, beam: 4, vectors: n, entries: n * each, nodes: (n / 2).max(32) };
+    Case { shape, docs, queries }
+}

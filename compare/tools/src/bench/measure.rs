@@ -1,0 +1,179 @@
+//! Times of both sides in one process. The sides take turns, a block of calls each; a row has the median of each block.
+use super::inputs::K;
+use crate::case::{Case, Query};
+use crate::check::search::{same_hits, search};
+use crate::ffi::{Asked, Filled};
+use crate::ours::{Lists, Ours};
+use crate::theirs;
+use original::curator::CuratorIndex;
+use std::hint::black_box;
+use std::time::Instant;
+
+/// What is called.
+#[derive(Clone, Copy, Debug, PartialEq)]
+pub enum Call {
+    Build,
+    Filtered,
+    Search,
+}
+
+impl Call {
+    pub fn name(self) -> &'static str {
+        match self {
+            Call::Build => "build",
+            Call::Filtered => "search_filtered",
+            Call::Search => "search",
+        }
+    }
+}
+
+/// The medians of each block, in microseconds.
+#[derive(Clone, Default)]
+pub struct Times {
+    pub ours: Vec<f64>,
+    pub theirs: Vec<f64>,
+}
+
+pub fn median(mut list: Vec<f64>) -> f64 {
+    list.sort_by(f64::total_cmp);
+    list[list.len() / 2]
+}
+
+impl Times {
+    /// The original's time over ours in each pair of blocks that stood side by side, from the lowest to the highest.
+    fn ratios(&self) -> Vec<f64> {
+        let mut ratios: Vec<f64> = self.theirs.iter().zip(&self.ours).map(|(t, o)| t / o).collect();
+        ratios.sort_by(f64::total_cmp);
+        ratios
+    }
+
+    /// The median ratio.
+    pub fn ratio(&self) -> f64 {
+        median(self.ratios())
+    }
+
+    /// Between which ratios the middle half lies.
+    pub fn middle(&self) -> (f64, f64) {
+        let ratios = self.ratios();
+        let quarter = ratios.len() / 4;
+        (ratios[quarter], ratios[ratios.len() - 1 - quarter])
+    }
+}
+
+/// By the clock, for short calls: the median leaves out those that were interrupted.
+fn microseconds(call: impl FnOnce()) -> f64 {
+    let start = Instant::now();
+    call();
+    start.elapsed().as_secs_f64() * 1e6
+}
+
+#[repr(C)]
+struct Spec {
+    seconds: i64,
+    nanoseconds: i64,
+}
+
+extern "C" {
+    fn clock_gettime(clock: i32, spec: *mut Spec) -> i32;
+}
+
+/// The processor time of this thread, in microseconds.
+fn processor_time() -> f64 {
+    const THREAD: i32 = 3;
+    let mut spec = Spec { seconds: 0, nanoseconds: 0 };
+    assert_eq!(unsafe { clock_gettime(THREAD, &mut spec) }, 0);
+    spec.seconds as f64 * 1e6 + spec.nanoseconds as f64 / 1e3
+}
+
+/// By processor time, for calls so long that every one may be interrupted.
+fn processor_microseconds(call: impl FnOnce()) -> f64 {
+    let start = processor_time();
+    call();
+    processor_time() - start
+}
+
+/// Our index with everything added.
+pub fn filled(case: &Case) -> Ours {
+    let mut ours = Ours::new(case.shape, Lists::new(case.shape, 0, 0)).expect("new");
+    for doc in &case.docs {
+        ours.add(doc.id, &doc.vector, &doc.labels).expect("add");
+    }
+    ours
+}
+
+fn build_ours(fresh: &Ours) -> f64 {
+    let mut ours = fresh.clone();
+    processor_microseconds(|| ours.build().expect("build"))
+}
+
+fn build_theirs(case: &Case) -> f64 {
+    let mut theirs = theirs::filled(case);
+    processor_microseconds(|| theirs.build().expect("build"))
+}
+
+/// Builds: `rounds` blocks of `size` calls each.
+pub fn builds(case: &Case, rounds: usize, size: usize) -> Times {
+    let fresh = filled(case);
+    let mut times = Times::default();
+    for _ in 0..rounds {
+        times.ours.push(median((0..size).map(|_| build_ours(&fresh)).collect()));
+        times.theirs.push(median((0..size).map(|_| build_theirs(case)).collect()));
+    }
+    times
+}
+
+fn search_ours(ours: &mut Ours, query: &[f32], label: Option<&str>) -> f64 {
+    let (mut ids, mut distances, mut answer) = ([0; K], [0.0; K], [0; 3]);
+    let asked = Asked { query, label: label.map(str::as_bytes), k: K };
+    let mut code = 0;
+    let time = microseconds(|| {
+        let filled = Filled { ids: &mut ids, distances: &mut distances, answer: &mut answer };
+        code = ours.search(asked, filled);
+    });
+    assert_eq!(code, 0);
+    black_box((ids, distances, answer));
+    time
+}
+
+fn search_theirs(theirs: &CuratorIndex, query: &[f32], label: Option<&str>) -> f64 {
+    microseconds(|| {
+        let hits = match label {
+            Some(label) => theirs.search_filtered(query, K, label),
+            None => theirs.search(query, K),
+        };
+        drop(black_box(hits.expect("search")));
+    })
+}
+
+/// Both sides must answer every query alike.
+fn compare_answers(case: &Case, call: Call, ours: &mut Ours, theirs: &CuratorIndex) {
+    for query in &case.queries {
+        let label = query.label.clone().filter(|_| call == Call::Filtered);
+        let query = Query { label, ..query.clone() };
+        let found = search(ours, &query).expect("search");
+        assert!(same_hits(&found.hits, &theirs::search(theirs, &query)), "the answers differ");
+    }
+}
+
+/// Searches: `rounds` blocks; in each every query is searched once.
+pub fn searches(case: &Case, call: Call, rounds: usize) -> Times {
+    let mut ours = filled(case);
+    ours.build().expect("build");
+    let theirs = theirs::built(case);
+    compare_answers(case, call, &mut ours, &theirs);
+    let label = |i: usize| case.queries[i].label.as_deref().filter(|_| call == Call::Filtered);
+    let each = || case.queries.iter().enumerate().map(|(i, query)| (&query.vector[..], label(i)));
+    let mut times = Times::default();
+    for _ in 0..rounds {
+        times.ours.push(median(each().map(|(q, l)| search_ours(&mut ours, q, l)).collect()));
+        times.theirs.push(median(each().map(|(q, l)| search_theirs(&theirs, q, l)).collect()));
+    }
+    times
+}
+
+pub fn measure(case: &Case, call: Call, rounds: usize) -> Times {
+    match call {
+        Call::Build => builds(case, rounds, if case.docs.len() > 1000 { 3 } else { 15 }),
+        _ => searches(case, call, rounds),
+    }
+}

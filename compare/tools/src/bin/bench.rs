@@ -1,0 +1,79 @@
+//! bench ROUNDS SVG: prints the tables in Markdown and writes the plot.
+use tools::bench::inputs::case;
+use tools::bench::measure::{measure, median, Call, Times};
+use tools::bench::page::{table, Row};
+use tools::bench::plot::{svg, Diagram, Line};
+
+const USUAL_EF: usize = 256;
+const GROWTH: &str = "Up to n 128 the root is the only leaf. A search opens at most `ef_search` nodes; at n 4,096 the tree has fewer than 300, so from there on \
+nothing grows with `ef_search`. A filtered search of ours checks every entry of a leaf that it opens, as 01 has it; the Rust looks one hash up in the leaf's map. \
+The Rust's build looks for the leaf of every label entry anew.";
+const CALLS: [Call; 3] = [Call::Build, Call::Filtered, Call::Search];
+
+/// The rows that document the speed.
+fn main_rows(rounds: usize) -> Vec<Row> {
+    let mut rows = Vec::new();
+    for (n, each) in [(4096, 1), (4096, 4), (256, 1), (256, 4)] {
+        let case = case(n, each, USUAL_EF);
+        for call in CALLS {
+            let words = vec![call.name().into(), n.to_string(), each.to_string()];
+            rows.push(Row { words, times: measure(&case, call, rounds) });
+        }
+    }
+    rows
+}
+
+/// One call at each of some sizes.
+fn growth(call: Call, rounds: usize, sizes: &[(usize, usize)]) -> Vec<Times> {
+    sizes.iter().map(|&(n, ef)| measure(&case(n, 1, ef), call, rounds)).collect()
+}
+
+fn rows(call: Call, xs: &[usize], times: &[Times]) -> Vec<Row> {
+    let row = |(x, times): (&usize, &Times)| Row { words: vec![call.name().into(), x.to_string()], times: times.clone() };
+    xs.iter().zip(times).map(row).collect()
+}
+
+/// The two lines of a call.
+fn lines(call: Call, xs: &[usize], times: &[Times]) -> Vec<Line> {
+    let colour = match call {
+        Call::Build => "#c0392b",
+        Call::Filtered => "#2471a3",
+        Call::Search => "#1e8449",
+    };
+    let points = |side: fn(&Times) -> &Vec<f64>| -> Vec<(f64, f64)> {
+        xs.iter().zip(times).map(|(&x, t)| (x as f64, median(side(t).clone()))).collect()
+    };
+    vec![
+        Line { name: format!("{}, ours", call.name()), colour, dashed: false, points: points(|t| &t.ours) },
+        Line { name: format!("{}, Rust", call.name()), colour, dashed: true, points: points(|t| &t.theirs) },
+    ]
+}
+
+/// The tables and the diagram of some calls over one size that changes.
+fn grown(calls: &[Call], rounds: usize, xs: &[usize], size: impl Fn(usize) -> (usize, usize), axis: &str) -> (Vec<Row>, Diagram) {
+    let sizes: Vec<(usize, usize)> = xs.iter().map(|&x| size(x)).collect();
+    let (mut table, mut all) = (Vec::new(), Vec::new());
+    for &call in calls {
+        let times = growth(call, rounds, &sizes);
+        table.extend(rows(call, xs, &times));
+        all.extend(lines(call, xs, &times));
+    }
+    let diagram = Diagram { title: format!("Time in µs by {axis}"), axis: axis.into(), lines: all };
+    (table, diagram)
+}
+
+fn main() {
+    let words: Vec<String> = std::env::args().collect();
+    let rounds: usize = words.get(1).map_or(21, |word| word.parse().expect("a number of rounds"));
+    let path = words.get(2).map_or("benchmarks.svg", |word| word);
+    println!("## Times\n\n{}", table(&["call", "n", "labels a vector"], &main_rows(rounds)));
+    let sizes = [64, 128, 256, 512, 1024, 2048, 4096];
+    let (by_n, first) = grown(&CALLS, rounds / 2 + 1, &sizes, |n| (n, USUAL_EF), "n");
+    println!("## How cost grows\n\n![Times by n and by ef_search](benchmarks.svg)\n");
+    println!("{GROWTH}\n");
+    println!("By n, one label a vector:\n\n{}", table(&["call", "n"], &by_n));
+    let efs = [1, 4, 16, 64, 256, 1024];
+    let (by_ef, second) = grown(&CALLS[1..], rounds / 2 + 1, &efs, |ef| (4096, ef), "ef_search");
+    println!("By ef_search, n 4,096, one label a vector:\n\n{}", table(&["call", "ef_search"], &by_ef));
+    std::fs::write(path, svg(&[first, second])).expect("the plot");
+}

@@ -1,0 +1,47 @@
+//! compare SEED COUNT: generated indexes through the static library against the original, the model and brute force.
+use tools::case::Case;
+use tools::check::case::{check, Tally};
+use tools::check::shrink::shrink;
+use tools::generate::index::{case, fit, WHOLE};
+use tools::model::tree::Tree;
+use tools::random::Random;
+
+fn report(number: usize, case: &Case, why: &str) {
+    println!("index {number} failed: {why}");
+    let small = shrink(case);
+    println!("smallest input: {:?}", small.shape);
+    for doc in &small.docs {
+        println!("  {doc:?}");
+    }
+    println!("  {:?}", small.queries);
+}
+
+fn summary(tally: &Tally) {
+    println!("searches: {} ({} whole, {} cut)", tally.searches, tally.whole, tally.cut);
+    println!("  ids and distances equal to the original's: {}", tally.whole_domain);
+    println!("  distances, and ids at unshared distances: {}", tally.distances);
+    println!("  outside the domain of equality: {}", tally.outside);
+    println!("  equal to the brute-force first k: {}", tally.brute);
+    println!("builds refused for want of nodes: {}", tally.too_many);
+}
+
+fn main() {
+    let words: Vec<String> = std::env::args().collect();
+    let number = |i: usize, usual: u64| words.get(i).map_or(usual, |w| w.parse().expect("a number"));
+    let (seed, count) = (number(1, 1), number(2, 1000) as usize);
+    let mut tally = Tally::default();
+    let mut failed = 0;
+    for i in 0..count {
+        let mut random = Random::of_case(seed, i);
+        let mut one = case(&mut random, WHOLE);
+        let tree = Tree::build(&one);
+        fit(&mut random, &mut one, tree.nodes.len());
+        if let Err(why) = check(&one, &tree, &mut tally) {
+            failed += 1;
+            report(i, &one, &why);
+        }
+    }
+    summary(&tally);
+    println!("{} passed, {} failed", count - failed, failed);
+    std::process::exit(i32::from(failed > 0));
+}

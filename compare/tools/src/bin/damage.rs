@@ -1,0 +1,58 @@
+//! damage SEED COUNT: calls on damaged indexes, their lists between guard pages, against the model.
+use std::collections::BTreeMap;
+use tools::damage::check::{self, Ended};
+use tools::damage::random_calls::{added, damaged, vector};
+use tools::damage::short::{short_answer, short_state};
+use tools::ffi::Asked;
+use tools::ours::Ours;
+use tools::random::Random;
+
+/// How often each call ended with each number, and of these with a NaN.
+type Codes = BTreeMap<(&'static str, u32), (usize, usize)>;
+
+/// Every call on one damaged index.
+fn calls(random: &mut Random, ours: &Ours, labels: &[String], codes: &mut Codes) -> Result<(), String> {
+    let dimension = ours.state[0];
+    let mut note = |name, end: Ended| {
+        let times = codes.entry((name, end.code)).or_default();
+        times.0 += 1;
+        times.1 += usize::from(end.nan);
+    };
+    note("add", check::add(ours, &added(random, dimension))?);
+    note("build", check::build(ours)?);
+    for _ in 0..4 {
+        let query = vector(random, dimension);
+        let k = random.below(70);
+        let places = if random.one_in(20) { random.below(k + 1) } else { k + random.below(3) };
+        let all = Asked { query: &query, label: None, k };
+        note("search", check::search(ours, all, places)?);
+        let label = Some(random.of(labels).as_bytes());
+        note("search_filtered", check::search(ours, Asked { label, ..all }, places)?);
+    }
+    let query = vector(random, dimension);
+    let asked = Asked { query: &query, label: None, k: random.below(5) };
+    short_state(ours, &added(random, dimension), asked, random.below(12))?;
+    short_answer(ours, asked, random.below(3))
+}
+
+fn main() {
+    let words: Vec<String> = std::env::args().collect();
+    let number = |i: usize, usual: u64| words.get(i).map_or(usual, |w| w.parse().expect("a number"));
+    let (seed, count) = (number(1, 1), number(2, 1000) as usize);
+    let mut codes = Codes::new();
+    let mut failed = 0;
+    for i in 0..count {
+        let mut random = Random::of_case(seed, i);
+        let (ours, labels) = damaged(&mut random);
+        if let Err(why) = calls(&mut random, &ours, &labels, &mut codes) {
+            failed += 1;
+            println!("index {i} failed: {why}");
+        }
+    }
+    for ((name, code), (times, nans)) in &codes {
+        let end = if *code == 0 { "answered".into() } else { format!("refused {code}") };
+        println!("{name}: {end} {times} times, {nans} with a NaN");
+    }
+    println!("{} passed, {} failed", count - failed, failed);
+    std::process::exit(i32::from(failed > 0));
+}

@@ -1,0 +1,6 @@
+//! The checks of one case: the store after a build, each search against the model, the original and brute force.
+pub mod case;
+pub mod domain;
+pub mod layout;
+pub mod search;
+pub mod shrink;

@@ -1,0 +1,159 @@
+//! Each call on a damaged index against the model: always an answer or a refusal, and nothing else changed.
+use super::calls::{self, Left, OLD};
+use crate::check::layout::{expected, same_added, same_bits, same_store};
+use crate::ffi::{Added, Asked};
+use crate::model::label::hash_bytes;
+use crate::model::number::normalized;
+use crate::model::refusal::{self, Lent, State};
+use crate::model::search::answer;
+use crate::model::store::View;
+use crate::model::tree::{Stored, Tree};
+use crate::ours::{Answer, Lists, Ours};
+
+/// How a call ended: the number that it returned, and whether a NaN came out as a distance or in a centroid.
+#[derive(Clone, Copy)]
+pub struct Ended {
+    pub code: u32,
+    pub nan: bool,
+}
+
+type Checked = Result<Ended, String>;
+
+fn ended(code: u32) -> Checked {
+    Ok(Ended { code, nan: false })
+}
+
+fn same_lists(a: &Lists, b: &Lists) -> bool {
+    same_bits(&a.floats, &b.floats) && a.numbers == b.numbers && a.hashes == b.hashes
+}
+
+/// Whether the answer lists hold an answer, and behind it what they held; none: only what they held.
+fn holds(left: &Left, answer: Option<&Answer>) -> bool {
+    let hits: &[(u32, f32)] = answer.map_or(&[], |a| &a.hits);
+    let numbers = answer.map_or([OLD.2; 3], |a| [a.hits.len(), a.opened, usize::from(a.whole)]);
+    let id = |i: usize| hits.get(i).map_or(OLD.0, |hit| hit.0);
+    let bits = |i: usize| hits.get(i).map_or(OLD.1, |hit| hit.1).to_bits();
+    left.answer == numbers
+        && left.ids.iter().enumerate().all(|(i, &x)| x == id(i))
+        && left.distances.iter().enumerate().all(|(i, x)| x.to_bits() == bits(i))
+}
+
+/// The code, and for an answer the hits, that document 01 defines.
+pub fn search_result(ours: &Ours, asked: Asked, places: usize) -> (u32, Option<Answer>) {
+    let state = State::of(&ours.state);
+    if let Some(number) = refusal::search(&state, Lent::of(&ours.lists), asked, places) {
+        return (number, None);
+    }
+    let store = ours.lists.lend();
+    match (View { state, store }).walk(asked.query, asked.label.map(hash_bytes)) {
+        Ok(walk) => (0, Some(answer(&walk, asked.k))),
+        Err(_) => (15, None),
+    }
+}
+
+pub fn search(ours: &Ours, asked: Asked, places: usize) -> Checked {
+    let (code, answer) = search_result(ours, asked, places);
+    let left = calls::search(ours, asked, places)?;
+    let (before, after) = (&ours.lists, &left.ours.lists);
+    let free = if code == 0 || code == 15 { State::of(&ours.state).shape.work() } else { 0 };
+    let kept = left.ours.state == ours.state && same_lists(before, after) && before.work[free..] == after.work[free..];
+    if left.code != code || !holds(&left, answer.as_ref()) {
+        return Err(format!("search: {} {:?}, not {code} {answer:?}", left.code, left.answer));
+    }
+    if !kept {
+        return Err(format!("search {code}: a list changed"));
+    }
+    let nan = answer.is_some_and(|answer| answer.hits.iter().any(|hit| hit.1.is_nan()));
+    Ok(Ended { code, nan })
+}
+
+/// What the lists hold, up to the counts.
+fn stored(state: &State, lists: &Lists) -> Stored {
+    let s = &state.shape;
+    let d = s.dimension;
+    let owners = &lists.numbers[s.vectors..s.vectors + state.entries];
+    Stored {
+        ids: lists.numbers[..state.vectors].to_vec(),
+        vectors: (0..state.vectors).map(|i| lists.floats[i * d..i * d + d].to_vec()).collect(),
+        owners: owners.iter().map(|&x| x as usize).collect(),
+        hashes: lists.hashes[..state.entries].to_vec(),
+    }
+}
+
+/// A build that no row before 15 refuses, of an index that is not built.
+fn check_made(ours: &Ours, left: &Left) -> Checked {
+    let state = State::of(&ours.state);
+    let shape = &state.shape;
+    let held = stored(&state, &ours.lists);
+    let (before, after) = (&ours.lists, &left.ours.lists);
+    if held.owners.iter().any(|&owner| owner >= state.vectors) {
+        let free = shape.work();
+        let kept = same_lists(before, after) && before.work[free..] == after.work[free..];
+        return if kept { ended(15) } else { Err("build 15: a list changed".into()) };
+    }
+    let tree = Tree::over(shape, held);
+    if tree.nodes.len() > shape.nodes {
+        return if same_added(shape, before, after) { ended(13) } else { Err("build 13: a list changed".into()) };
+    }
+    if !same_store(shape, &expected(&tree, shape, before.clone(), true), after) {
+        return Err("build: the store differs from the model".into());
+    }
+    if left.ours.state[10..] != [tree.nodes.len(), 1] {
+        return Err("build: nodes or the built flag".into());
+    }
+    let nan = tree.nodes.iter().any(|node| node.centroid.iter().any(|x| x.is_nan()));
+    Ok(Ended { code: 0, nan })
+}
+
+pub fn build(ours: &Ours) -> Checked {
+    let left = calls::build(ours)?;
+    let state = State::of(&ours.state);
+    let end = match refusal::build(&state, Lent::of(&ours.lists)) {
+        None if state.built == 0 => check_made(ours, &left)?,
+        refused => {
+            if !same_lists(&ours.lists, &left.ours.lists) || ours.lists.work != left.ours.lists.work {
+                return Err("build: a list changed".into());
+            }
+            ended(refused.unwrap_or(0))?
+        }
+    };
+    let code = end.code;
+    let changed = usize::from(code == 0) * 2;
+    if left.code != code || left.ours.state[..12 - changed] != ours.state[..12 - changed] {
+        return Err(format!("build: {}, not {code}, or the state", left.code));
+    }
+    Ok(end)
+}
+
+/// The lists after an accepted add.
+fn with_added(state: &State, mut lists: Lists, added: &Added) -> Lists {
+    let s = &state.shape;
+    let at = state.vectors * s.dimension;
+    lists.floats[at..at + s.dimension].copy_from_slice(&normalized(&added.vector));
+    lists.numbers[state.vectors] = added.id;
+    let mut from = 0;
+    for (i, &length) in added.lengths.iter().enumerate() {
+        let end = from + usize::from(length);
+        lists.numbers[s.vectors + state.entries + i] = state.vectors as u32;
+        lists.hashes[state.entries + i] = hash_bytes(&added.bytes[from..end]);
+        from = end;
+    }
+    lists
+}
+
+pub fn add(ours: &Ours, added: &Added) -> Checked {
+    let left = calls::add(ours, added)?;
+    let state = State::of(&ours.state);
+    let refused = refusal::add(&state, Lent::of(&ours.lists), added);
+    let (mut numbers, mut lists) = (ours.state, ours.lists.clone());
+    if refused.is_none() {
+        numbers[8] += 1;
+        numbers[9] += added.lengths.len();
+        lists = with_added(&state, lists, added);
+    }
+    let code = refused.unwrap_or(0);
+    if left.code != code || left.ours.state != numbers || !same_lists(&lists, &left.ours.lists) {
+        return Err(format!("add: {}, not {code}, or the state, or a list", left.code));
+    }
+    ended(code)
+}

@@ -1,0 +1,8 @@
+//! Damaged stores: random numbers in any part of the store and of the state.
+pub mod bare;
+pub mod calls;
+pub mod check;
+pub mod guard;
+pub mod make;
+pub mod random_calls;
+pub mod short;

@@ -1,0 +1,63 @@
+//! Random arguments of calls, and random damaged indexes.
+use super::make;
+use crate::case::Case;
+use crate::ffi::Added;
+use crate::generate::index::{case, fit, Most};
+use crate::model::tree::Tree;
+use crate::ours::Ours;
+use crate::random::Random;
+
+const SMALL: Most = Most { dimension: 16, vectors: 60, entries: 120 };
+
+/// A component: finite in most cases.
+fn component(random: &mut Random) -> f32 {
+    if random.one_in(200) {
+        return f32::from_bits(0x7F80_0000 | random.bits() as u32);
+    }
+    random.unit()
+}
+
+/// A vector: of the dimension in most cases.
+pub fn vector(random: &mut Random, dimension: usize) -> Vec<f32> {
+    let length = if random.one_in(20) { random.below(130) } else { dimension.min(200) };
+    (0..length).map(|_| component(random)).collect()
+}
+
+/// An add with labels of any bytes; one in ten has lengths that do not fit.
+pub fn added(random: &mut Random, dimension: usize) -> Added {
+    let lengths: Vec<u8> = (0..random.below(4)).map(|_| random.below(256) as u8).collect();
+    let sum: usize = lengths.iter().map(|&length| usize::from(length)).sum();
+    let size = if random.one_in(10) { random.below(300) } else { sum };
+    let bytes = (0..size).map(|_| random.bits() as u8).collect();
+    Added { id: random.bits() as u32, vector: vector(random, dimension), lengths, bytes }
+}
+
+/// Makes one list shorter, now and then.
+fn shorten(random: &mut Random, ours: &mut Ours) {
+    let by = random.from(1, 40);
+    let lists = &mut ours.lists;
+    match random.below(40) {
+        0 => lists.floats.truncate(lists.floats.len().saturating_sub(by)),
+        1 => lists.numbers.truncate(lists.numbers.len().saturating_sub(by)),
+        2 => lists.hashes.truncate(lists.hashes.len().saturating_sub(by)),
+        3 => lists.work.truncate(lists.work.len().saturating_sub(by)),
+        _ => {}
+    }
+}
+
+/// The labels of a case, and one that it has not.
+fn labels(case: &Case) -> Vec<String> {
+    let all = case.docs.iter().flat_map(|doc| doc.labels.clone());
+    all.chain(["none".to_string()]).collect()
+}
+
+/// A damaged index, and labels to search for.
+pub fn damaged(random: &mut Random) -> (Ours, Vec<String>) {
+    let mut case = case(random, SMALL);
+    let nodes = Tree::build(&case).nodes.len();
+    fit(random, &mut case, nodes);
+    case.shape.nodes = case.shape.nodes.max(nodes);
+    let mut ours = make::damaged(random, &case);
+    shorten(random, &mut ours);
+    (ours, labels(&case))
+}

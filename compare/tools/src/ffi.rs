@@ -1,0 +1,112 @@
+//! The functions of the static library over slices. Each returns 0, or document 01's number of the refusal.
+use crate::c;
+use crate::ours::Shape;
+
+/// The store, for the calls that read it.
+#[derive(Clone, Copy)]
+pub struct Store<'a> {
+    pub floats: &'a [f32],
+    pub numbers: &'a [u32],
+    pub hashes: &'a [u64],
+}
+
+/// The store, for the calls that write it.
+pub struct StoreMut<'a> {
+    pub floats: &'a mut [f32],
+    pub numbers: &'a mut [u32],
+    pub hashes: &'a mut [u64],
+}
+
+/// What an add is given. `lengths` cuts the labels from `bytes`.
+#[derive(Clone, Debug)]
+pub struct Added {
+    pub id: u32,
+    pub vector: Vec<f32>,
+    pub lengths: Vec<u8>,
+    pub bytes: Vec<u8>,
+}
+
+/// What a search is given: a label where it is filtered.
+#[derive(Clone, Copy, Debug)]
+pub struct Asked<'a> {
+    pub query: &'a [f32],
+    pub label: Option<&'a [u8]>,
+    pub k: usize,
+}
+
+/// The lists that a search fills: ids, distances, and hit count, opened, whole.
+pub struct Filled<'a> {
+    pub ids: &'a mut [u32],
+    pub distances: &'a mut [f32],
+    pub answer: &'a mut [usize],
+}
+
+pub fn new(shape: Shape, state: &mut [usize]) -> u32 {
+    let s = shape;
+    unsafe {
+        c::curator_new(s.dimension, s.branching, s.leaf_size, s.ef, s.beam, s.vectors, s.entries, s.nodes, state.as_mut_ptr(), state.len())
+    }
+}
+
+pub fn add(state: &mut [usize], store: StoreMut, added: &Added) -> u32 {
+    unsafe {
+        c::curator_add(
+            state.as_mut_ptr(),
+            state.len(),
+            store.floats.as_mut_ptr(),
+            store.floats.len(),
+            store.numbers.as_mut_ptr(),
+            store.numbers.len(),
+            store.hashes.as_mut_ptr(),
+            store.hashes.len(),
+            added.id,
+            added.vector.as_ptr(),
+            added.vector.len(),
+            added.lengths.as_ptr(),
+            added.lengths.len(),
+            added.bytes.as_ptr(),
+            added.bytes.len(),
+        )
+    }
+}
+
+pub fn build(state: &mut [usize], store: StoreMut, work: &mut [u32]) -> u32 {
+    unsafe {
+        c::curator_build(
+            state.as_mut_ptr(),
+            state.len(),
+            store.floats.as_mut_ptr(),
+            store.floats.len(),
+            store.numbers.as_mut_ptr(),
+            store.numbers.len(),
+            store.hashes.as_mut_ptr(),
+            store.hashes.len(),
+            work.as_mut_ptr(),
+            work.len(),
+        )
+    }
+}
+
+#[rustfmt::skip]
+pub fn search(state: &[usize], store: Store, work: &mut [u32], asked: Asked, filled: Filled) -> u32 {
+    let (sp, sl) = (state.as_ptr(), state.len());
+    let (fp, fl) = (store.floats.as_ptr(), store.floats.len());
+    let (np, nl) = (store.numbers.as_ptr(), store.numbers.len());
+    let (hp, hl) = (store.hashes.as_ptr(), store.hashes.len());
+    let (wp, wl) = (work.as_mut_ptr(), work.len());
+    let (qp, ql) = (asked.query.as_ptr(), asked.query.len());
+    let (ip, il) = (filled.ids.as_mut_ptr(), filled.ids.len());
+    let (dp, dl) = (filled.distances.as_mut_ptr(), filled.distances.len());
+    let (ap, al) = (filled.answer.as_mut_ptr(), filled.answer.len());
+    let k = asked.k;
+    match asked.label {
+        Some(x) => unsafe {
+            c::curator_search_filtered(
+                sp, sl, fp, fl, np, nl, hp, hl, wp, wl, qp, ql, x.as_ptr(), x.len(), k, ip, il, dp, dl, ap, al,
+            )
+        },
+        None => unsafe {
+            c::curator_search(sp, sl, fp, fl, np, nl, hp, hl, wp, wl, qp, ql, k, ip, il, dp, dl, ap, al)
+        },
+    }
+}

@@ -1,0 +1,132 @@
+//! Random cases: settings, documents and searches within the limits of document 01.
+use super::labels;
+use super::vectors::Maker;
+use crate::case::{Case, Doc, Query};
+use crate::ours::Shape;
+use crate::random::Random;
+
+/// How large a case may become.
+#[derive(Clone, Copy)]
+pub struct Most {
+    pub dimension: usize,
+    pub vectors: usize,
+    pub entries: usize,
+}
+
+/// The sizes of document 01.
+pub const WHOLE: Most = Most { dimension: 128, vectors: 4096, entries: 16384 };
+
+/// A case; its capacity of nodes is the largest tree's.
+pub fn case(random: &mut Random, most: Most) -> Case {
+    let dimension = dimension(random).min(most.dimension);
+    let n = size(random).min(most.vectors);
+    let maker = Maker::new(random, dimension);
+    let pool = labels::pool(random);
+    let docs = docs(random, &maker, &pool, n, most.entries);
+    let queries = (0..6).map(|_| query(random, &maker, &pool, &docs)).collect();
+    let entries: usize = docs.iter().map(|doc: &Doc| doc.labels.len()).sum();
+    let shape = shape(random, dimension, n, entries, most);
+    Case { shape, docs, queries }
+}
+
+/// Room for nodes: more than needed, just enough, or one too few.
+pub fn fit(random: &mut Random, case: &mut Case, nodes: usize) {
+    case.shape.nodes = match random.below(20) {
+        0 if nodes > 1 => nodes - 1,
+        1..=8 => nodes,
+        9 => case.shape.nodes,
+        _ => nodes + random.below(10).min(65537 - nodes),
+    };
+}
+
+fn dimension(random: &mut Random) -> usize {
+    match random.below(10) {
+        0..=4 => random.from(1, 8),
+        5..=7 => random.from(9, 32),
+        8 => *random.of(&[64, 128]),
+        _ => random.from(33, 128),
+    }
+}
+
+/// The number of vectors: small in most cases.
+fn size(random: &mut Random) -> usize {
+    match random.below(200) {
+        0 if random.one_in(3) => 4096,
+        0 => random.from(1500, 4096),
+        1..=12 => random.from(300, 1500),
+        13..=60 => random.from(40, 300),
+        _ => random.from(1, 40),
+    }
+}
+
+fn docs(random: &mut Random, maker: &Maker, pool: &[String], n: usize, entries: usize) -> Vec<Doc> {
+    let repeats = random.one_in(4);
+    let ids = ids(random, n);
+    let most = random.from(0, 5).min(entries / n);
+    ids.into_iter().map(|id| Doc { id, vector: maker.vector(random), labels: labels::some(random, pool, most, repeats) }).collect()
+}
+
+/// Document ids: in order, spread and different, or from a few.
+fn ids(random: &mut Random, n: usize) -> Vec<u32> {
+    match random.below(4) {
+        0 => (0..n as u32).collect(),
+        1 => (0..n as u32).map(|i| u32::MAX - i).collect(),
+        2 => {
+            let factor = random.bits() as u32 | 1;
+            (0..n as u32).map(|i| i.wrapping_mul(factor)).collect()
+        }
+        _ => {
+            let few = random.from(1, n + 3);
+            (0..n).map(|_| random.below(few) as u32).collect()
+        }
+    }
+}
+
+fn query(random: &mut Random, maker: &Maker, pool: &[String], docs: &[Doc]) -> Query {
+    let vector = match random.below(3) {
+        0 => random.of(docs).vector.clone(),
+        _ => maker.vector(random),
+    };
+    let label = match random.below(7) {
+        0..=2 => None,
+        3 => Some("absent".into()),
+        _ => Some(random.of(pool).clone()),
+    };
+    let k = match random.below(5) {
+        0 => random.below(3),
+        1 => docs.len() + random.below(3),
+        2 => 5,
+        _ => random.from(0, docs.len()),
+    };
+    Query { vector, label, k }
+}
+
+fn shape(random: &mut Random, dimension: usize, n: usize, entries: usize, most: Most) -> Shape {
+    let branching = match random.below(3) {
+        0 => *random.of(&[1, 2, 3, 4, 16, 64]),
+        1 => random.from(2, 9),
+        _ => random.from(1, 64),
+    };
+    let leaf_size = match random.below(4) {
+        0 => random.from(0, 3),
+        1 => random.from(0, n).min(4096),
+        2 => random.from(1, 20),
+        _ => *random.of(&[128, 4096, 16, 8]),
+    };
+    let ef = match random.below(4) {
+        0 => random.from(0, 6),
+        1 => random.from(0, n + 20),
+        2 => 65537,
+        _ => 256,
+    };
+    Shape {
+        dimension,
+        branching,
+        leaf_size,
+        ef,
+        beam: random.below(65536),
+        vectors: random.from(n, (n + 5).min(most.vectors)),
+        entries: random.from(entries, (entries + 5).min(most.entries)),
+        nodes: 16 * n + 1,
+    }
+}

@@ -1,0 +1,4 @@
+//! Random cases.
+pub mod index;
+pub mod labels;
+pub mod vectors;

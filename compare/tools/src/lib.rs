@@ -1,0 +1,13 @@
+//! What the tools share.
+pub mod bench;
+mod c;
+pub mod case;
+pub mod check;
+pub mod damage;
+pub mod echo;
+pub mod ffi;
+pub mod generate;
+pub mod model;
+pub mod ours;
+pub mod random;
+pub mod theirs;

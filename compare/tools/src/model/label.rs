@@ -1,0 +1,32 @@
+//! 'Label hash' and 'Filter' of document 01.
+
+/// FNV-1a, 64 bits.
+pub fn hash_bytes(label: &[u8]) -> u64 {
+    let step = |h: u64, byte: &u8| (h ^ u64::from(*byte)).wrapping_mul(0x100_0000_01b3);
+    label.iter().fold(0xcbf2_9ce4_8422_2325, step)
+}
+
+pub fn hash(label: &str) -> u64 {
+    hash_bytes(label.as_bytes())
+}
+
+/// 256 bits in four words.
+#[derive(Clone, Default, Debug, PartialEq)]
+pub struct Filter(pub [u64; 4]);
+
+/// The two bits of a hash.
+fn bits(hash: u64) -> [u64; 2] {
+    [hash % 256, ((hash >> 32) * 0x9e37_79b9) % 256]
+}
+
+impl Filter {
+    pub fn insert(&mut self, hash: u64) {
+        for bit in bits(hash) {
+            self.0[(bit / 64) as usize] |= 1 << (bit % 64);
+        }
+    }
+
+    pub fn denies(&self, hash: u64) -> bool {
+        bits(hash).iter().any(|bit| self.0[(bit / 64) as usize] >> (bit % 64) & 1 == 0)
+    }
+}

@@ -1,0 +1,129 @@
+//! A search over the numbers of a store, whatever they are ('Search' and 'Search's 15' of document 01).
+use super::label::Filter;
+use super::number::{distance, normalized};
+use super::refusal::State;
+use super::search::Walk;
+use crate::ffi::Store;
+
+/// The store is damaged: refusal 15.
+pub struct Damaged;
+
+/// A store with its state.
+pub struct View<'a> {
+    pub state: State,
+    pub store: Store<'a>,
+}
+
+impl View<'_> {
+    fn number(&self, at: usize) -> usize {
+        self.store.numbers[at] as usize
+    }
+
+    /// The vector, or the centroid behind the vectors, by its number.
+    fn vector(&self, i: usize) -> &[f32] {
+        let d = self.state.shape.dimension;
+        &self.store.floats[i * d..i * d + d]
+    }
+
+    /// The list whose start and count stand at a place; it counts from `base` on, where `held` are held.
+    fn list(&self, at: usize, base: usize, held: usize) -> Result<Vec<usize>, Damaged> {
+        let (start, count) = (self.number(at), self.number(at + 1));
+        if count == 0 {
+            return Ok(Vec::new());
+        }
+        if start + count > held {
+            return Err(Damaged);
+        }
+        Ok((0..count).map(|i| self.number(base + start + i)).collect())
+    }
+
+    fn denies(&self, node: usize, wanted: Option<u64>) -> bool {
+        let at = self.state.shape.entries + 4 * node;
+        let words = &self.store.hashes[at..at + 4];
+        let filter = Filter([words[0], words[1], words[2], words[3]]);
+        wanted.is_some_and(|hash| filter.denies(hash))
+    }
+
+    /// The children of a node.
+    fn children(&self, node: usize) -> Result<Vec<usize>, Damaged> {
+        let s = &self.state.shape;
+        let table = 2 * s.vectors + s.entries;
+        self.list(table + 6 * node, table + 6 * s.nodes, self.state.nodes)
+    }
+
+    /// The vectors that a leaf gives.
+    fn given(&self, node: usize, wanted: Option<u64>) -> Result<Vec<usize>, Damaged> {
+        let s = &self.state.shape;
+        let at = 2 * s.vectors + s.entries + 6 * node;
+        let Some(hash) = wanted else {
+            let list = self.list(at + 2, s.vectors + s.entries, self.state.vectors)?;
+            return below(list, self.state.vectors);
+        };
+        let order = 2 * s.vectors + s.entries + 7 * s.nodes;
+        let entries = below(self.list(at + 4, order, self.state.entries)?, self.state.entries)?;
+        let owners = entries.iter().map(|&entry| self.number(s.vectors + entry)).collect();
+        let owners = below(owners, self.state.vectors)?;
+        let with = |&(entry, _): &(usize, usize)| self.store.hashes[entry] == hash;
+        Ok(entries.into_iter().zip(owners).filter(with).map(|pair| pair.1).collect())
+    }
+
+    fn near(&self, query: &[f32], node: usize) -> (f32, usize) {
+        (distance(query, self.vector(self.state.shape.vectors + node)), node)
+    }
+
+    /// Pushes the children of a node.
+    fn push(
+        &self,
+        query: &[f32],
+        parent: usize,
+        children: Vec<usize>,
+        pushed: &mut [bool],
+        waiting: &mut Vec<(f32, usize)>,
+    ) -> Result<(), Damaged> {
+        for child in children {
+            if child <= parent || child >= self.state.nodes || pushed[child] {
+                return Err(Damaged);
+            }
+            pushed[child] = true;
+            waiting.push(self.near(query, child));
+        }
+        Ok(())
+    }
+
+    pub fn walk(&self, query: &[f32], wanted: Option<u64>) -> Result<Walk, Damaged> {
+        let q = normalized(query);
+        let most = if wanted.is_some() { self.state.entries } else { self.state.vectors };
+        let mut pushed = vec![false; self.state.nodes];
+        pushed[0] = true;
+        let mut waiting = vec![self.near(&q, 0)];
+        let mut walk = Walk { raw: Vec::new(), opened: 0, whole: true };
+        while !waiting.is_empty() {
+            if walk.opened == self.state.shape.ef {
+                walk.whole = false;
+                break;
+            }
+            let node = super::search::take_least(&mut waiting).expect("a node waits");
+            walk.opened += 1;
+            if self.denies(node, wanted) {
+                continue;
+            }
+            let children = self.children(node)?;
+            if children.is_empty() {
+                let hit = |v: usize| (self.store.numbers[v], distance(&q, self.vector(v)), v);
+                walk.raw.extend(self.given(node, wanted)?.into_iter().map(hit));
+            }
+            if walk.raw.len() > most {
+                return Err(Damaged);
+            }
+            self.push(&q, node, children, &mut pushed, &mut waiting)?;
+        }
+        Ok(walk)
+    }
+}
+
+fn below(list: Vec<usize>, bound: usize) -> Result<Vec<usize>, Damaged> {
+    if list.iter().all(|&x| x < bound) {
+        return Ok(list);
+    }
+    Err(Damaged)
+}

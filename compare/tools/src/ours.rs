@@ -1,0 +1,125 @@
+//! An index of ours with its lists, called through the static library.
+use crate::ffi::{self, Added, Asked, Filled, Store, StoreMut};
+
+/// Settings and capacities, in the order of the state.
+#[derive(Clone, Copy, Debug)]
+pub struct Shape {
+    pub dimension: usize,
+    pub branching: usize,
+    pub leaf_size: usize,
+    pub ef: usize,
+    pub beam: usize,
+    pub vectors: usize,
+    pub entries: usize,
+    pub nodes: usize,
+}
+
+impl Shape {
+    pub fn floats(&self) -> usize {
+        self.dimension * (self.vectors + self.nodes + self.branching)
+    }
+
+    pub fn numbers(&self) -> usize {
+        2 * self.vectors + 2 * self.entries + 7 * self.nodes
+    }
+
+    pub fn hashes(&self) -> usize {
+        self.entries + 4 * self.nodes
+    }
+
+    pub fn work(&self) -> usize {
+        3 * self.nodes + 3 * self.vectors.max(self.entries)
+    }
+}
+
+/// The lists that are lent: the store, and the work list.
+#[derive(Clone)]
+pub struct Lists {
+    pub floats: Vec<f32>,
+    pub numbers: Vec<u32>,
+    pub hashes: Vec<u64>,
+    pub work: Vec<u32>,
+}
+
+impl Lists {
+    /// Lists that are longer than needed by `surplus` places and filled with `junk`.
+    pub fn new(shape: Shape, junk: u32, surplus: usize) -> Lists {
+        let wide = u64::from(junk) << 32 | u64::from(junk);
+        Lists {
+            floats: vec![f32::from_bits(junk); shape.floats() + surplus],
+            numbers: vec![junk; shape.numbers() + surplus],
+            hashes: vec![wide; shape.hashes() + surplus],
+            work: vec![junk; shape.work() + surplus],
+        }
+    }
+
+    /// The store, to be read.
+    pub fn lend(&self) -> Store<'_> {
+        Store { floats: &self.floats, numbers: &self.numbers, hashes: &self.hashes }
+    }
+
+    /// The store and the work list.
+    pub fn lend_mut(&mut self) -> (StoreMut<'_>, &mut [u32]) {
+        let store = StoreMut { floats: &mut self.floats, numbers: &mut self.numbers, hashes: &mut self.hashes };
+        (store, &mut self.work)
+    }
+}
+
+/// What a search answers.
+#[derive(Clone, Debug)]
+pub struct Answer {
+    pub hits: Vec<(u32, f32)>,
+    pub opened: usize,
+    pub whole: bool,
+}
+
+/// The state of an index and its lists.
+#[derive(Clone)]
+pub struct Ours {
+    pub state: [usize; 12],
+    pub lists: Lists,
+}
+
+impl Ours {
+    /// An empty index over lists.
+    pub fn new(shape: Shape, lists: Lists) -> Result<Ours, u32> {
+        let mut state = [0; 12];
+        done(ffi::new(shape, &mut state)).map(|()| Ours { state, lists })
+    }
+
+    /// The settings and capacities of the state.
+    pub fn shape(&self) -> Shape {
+        let [dimension, branching, leaf_size, ef, beam, vectors, entries, nodes, ..] = self.state;
+        Shape { dimension, branching, leaf_size, ef, beam, vectors, entries, nodes }
+    }
+
+    /// Adds a vector with its labels.
+    pub fn add(&mut self, id: u32, vector: &[f32], labels: &[String]) -> Result<(), u32> {
+        let added = Added {
+            id,
+            vector: vector.to_vec(),
+            lengths: labels.iter().map(|label| label.len() as u8).collect(),
+            bytes: labels.concat().into_bytes(),
+        };
+        done(ffi::add(&mut self.state, self.lists.lend_mut().0, &added))
+    }
+
+    pub fn build(&mut self) -> Result<(), u32> {
+        let (store, work) = self.lists.lend_mut();
+        done(ffi::build(&mut self.state, store, work))
+    }
+
+    pub fn search(&mut self, asked: Asked, filled: Filled) -> u32 {
+        let lists = &mut self.lists;
+        let store = Store { floats: &lists.floats, numbers: &lists.numbers, hashes: &lists.hashes };
+        ffi::search(&self.state, store, &mut lists.work, asked, filled)
+    }
+}
+
+/// A returned number: 0 is an answer, any other a refusal.
+pub fn done(code: u32) -> Result<(), u32> {
+    if code == 0 {
+        return Ok(());
+    }
+    Err(code)
+}

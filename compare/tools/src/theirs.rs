@@ -1,0 +1,32 @@
+//! The original, built from a case.
+use crate::case::{Case, Query};
+use original::curator::{CuratorIndex, CuratorParams};
+
+/// The original's index, not yet built.
+pub fn filled(case: &Case) -> CuratorIndex {
+    let params = CuratorParams {
+        branching_factor: case.shape.branching,
+        max_leaf_size: case.shape.leaf_size,
+        ef_search: case.shape.ef,
+        beam_width: case.shape.beam,
+    };
+    let mut index = CuratorIndex::new(case.shape.dimension, params).expect("new");
+    for doc in &case.docs {
+        index.add(doc.id, doc.vector.clone(), doc.labels.clone()).expect("add");
+    }
+    index
+}
+
+pub fn built(case: &Case) -> CuratorIndex {
+    let mut index = filled(case);
+    index.build().expect("build");
+    index
+}
+
+pub fn search(index: &CuratorIndex, query: &Query) -> Vec<(u32, f32)> {
+    let found = match &query.label {
+        Some(label) => index.search_filtered(&query.vector, query.k, label),
+        None => index.search(&query.vector, query.k),
+    };
+    found.expect("search")
+}

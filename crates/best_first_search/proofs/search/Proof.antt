@@ -1,0 +1,190 @@
+-- `search` meets its contract: the walk's hits, in their queue, and the first k of them. Assumes nothing.
+use Rattle.best_first_search.proofs.Searching.{damaged-search, ended-search, ended-queue}
+use Rattle.best_first_walk.specs.Walks.{hitsPart, WalkEnds}
+use Rattle.best_first_walk.specs.declared.Walked.{Walked}
+use Rattle.best_first_walk.specs.declared.Walked.the-variants as walked
+use Rattle.hit_queue.specs.Hits.{Takes}
+use Rattle.hit_queue.specs.HitsLaws.{view-most}
+use Rattle.walk.specs.LentLaws.{lent-is, works-trans, works-sets}
+use Rattle.walk.specs.Search.{lent, Works}
+use Rattle.walk.specs.StoreView.{storeView}
+use Rattle.walk.specs.Walk.{View, walk}
+use Rattle.store.specs.Store.{hitsAt, workSize}
+use Rattle.lists.specs.Parts.{length-part, lent-part}
+use borrow.Author.Needs.{needs}
+use lib.ListN.{length, take, drop}
+use lib.Seq.{sets}
+use mathlib.Core.Bool.{Bool}
+use mathlib.Core.List.{List, _++_}
+use mathlib.Core.Path.{_≡_, sym, ap, subst, _∙_}
+use native.Mathlib.Omega.{arith}
+use Prim.Native.Nat.{ℕ, _-_, _*_, _≤_, max}
+use Rattle.best_first_search.proofs.search.Statement.{statement}
+use Rattle.best_first_search.proofs.search.Tie as tie
+
+-- the places: entry, the walk ended, it ended with hits, and the first k are taken
+abbrev entry : tie.After-best-first-walk → tie.Start
+entry w = w .before .before .before .before .before .before .before .before .before .before .before
+
+abbrev from : tie.After-walked → tie.After-best-first-walk
+from h = h .before .before .before .before
+
+abbrev hits : tie.After-take-hits → tie.After-walked
+hits t = t .before .before .before .before .before
+
+abbrev view : tie.Start → View
+view e = storeView (e .args .shape) (e .args .counts) (lent (e .args .floats .now) (e .args .numbers .now) (e .args .hashes .now)) (e .args .query .now) (e .args .wanted)
+
+-- the work list after the walk, and the hits' part of it
+abbrev work : tie.After-best-first-walk → List ℕ
+work w = w .best-first-walk .last .1 .1 .1 .1 .1 .1 .0
+
+ends : (w : tie.After-best-first-walk) (r : Walked) → w .best-first-walk .result ≡ r
+    → WalkEnds (entry w .args .shape) (walk (view (entry w)) (entry w .args .ef-search)) r (work w)
+ends w r is =
+    subst (λ (r : Walked). WalkEnds (entry w .args .shape) (walk (view (entry w)) (entry w .args .ef-search)) r (work w)) is (w .best-first-walk .ensures .ends)
+
+size : (w : tie.After-best-first-walk) → workSize (entry w .args .shape) ≤ length (work w)
+size w = omega (arith, entry w .pre .1 .1 .1 .0 .size, w .best-first-walk .ensures .works .size)
+
+hits-start : (w : tie.After-best-first-walk) → w .before .before .before .hits-at .result ≡ hitsAt (entry w .args .shape)
+hits-start w = w .before .before .before .hits-at .ensures
+
+hits-end : (w : tie.After-best-first-walk) → w .before .before .work-size .result ≡ workSize (entry w .args .shape)
+hits-end w = w .before .before .work-size .ensures
+
+abbrev lentHits : tie.After-best-first-walk → List ℕ
+lentHits w = take (w .before .before .work-size .result - w .before .before .before .hits-at .result) (drop (w .before .before .before .hits-at .result) (work w))
+
+lent-hits : (w : tie.After-best-first-walk) → lentHits w ≡ hitsPart (entry w .args .shape) (work w)
+lent-hits w =
+    let s = entry w .args .shape in
+    lent-is (work w) (w .before .before .before .hits-at .result) (w .before .before .work-size .result) (hitsAt s) (3 * max (s .vectors) (s .entries)) (hits-start w) (hits-end w)
+
+-- how the walk ended: hits, opened nodes, whole or cut
+abbrev found : tie.After-walked → ℕ
+found h = h .walked .given .0 .0
+
+abbrev opened : tie.After-walked → ℕ
+opened h = h .walked .given .0 .1 .0
+
+abbrev whole : tie.After-walked → Bool
+whole h = h .walked .given .0 .1 .1 .0
+
+ended : (h : tie.After-walked) → WalkEnds (entry (from h) .args .shape) (walk (view (entry (from h))) (entry (from h) .args .ef-search)) (walked.Ended (found h) (opened h) (whole h)) (work (from h))
+ended h = ends (from h) (walked.Ended (found h) (opened h) (whole h)) (h .walked .given .1)
+
+-- the hits' part as it came back
+abbrev back : tie.After-take-hits → List ℕ
+back t = t .take-hits .last .0
+
+back-length : (t : tie.After-take-hits) → length (back t) ≡ 3 * max (entry (from (hits t)) .args .shape .vectors) (entry (from (hits t)) .args .shape .entries)
+back-length t =
+    let w = from (hits t) in
+    let s = entry w .args .shape in
+    t .take-hits .kept .0 ∙ ap length (lent-hits w) ∙ length-part (hitsAt s) (3 * max (s .vectors) (s .entries)) (work w) (size w)
+
+abbrev after : tie.After-take-hits → List ℕ
+after t = let w = from (hits t) in
+    take (w .before .before .before .hits-at .result) (work w)
+    ++ (back t ++ drop (w .before .before .work-size .result - w .before .before .before .hits-at .result) (drop (w .before .before .before .hits-at .result) (work w)))
+
+after-is : (t : tie.After-take-hits) → after t ≡ sets (work (from (hits t))) (hitsAt (entry (from (hits t)) .args .shape)) (back t)
+after-is t =
+    let w = from (hits t) in
+    lent-part (work w) (w .before .before .before .hits-at .result) (w .before .before .work-size .result) (back t)
+    (omega (arith, hits-start w, hits-end w)) (omega (arith, hits-end w, size w)) (omega (arith, back-length t, hits-start w, hits-end w))
+    ∙ ap (λ (at : ℕ). sets (work w) at (back t)) (hits-start w)
+
+hits-at-requires : tie.Need-hits-at-requires
+hits-at-requires c κs = search needs
+
+work-size-requires : tie.Need-work-size-requires
+work-size-requires c κs = search needs
+
+best-first-walk-requires : tie.Need-best-first-walk-requires
+best-first-walk-requires c κs = search needs
+
+enum-told : tie.Need-enum-told
+enum-told c = search needs
+
+enum-known-walked : tie.Need-enum-known-walked
+enum-known-walked c = search needs
+
+mul-take-hits : tie.Need-mul-take-hits
+mul-take-hits c = search needs
+
+sub-take-hits : tie.Need-sub-take-hits
+sub-take-hits c = search needs
+
+part-take-hits-start : tie.Need-part-take-hits-start
+part-take-hits-start c = search needs
+
+part-take-hits-end : tie.Need-part-take-hits-end
+part-take-hits-end c = omega (arith, hits-end (from (c .before)), size (from (c .before)))
+
+take-hits-requires : tie.Need-take-hits-requires
+take-hits-requires c κs =
+    let h = c .before .before .before .before in
+    let w = from h in
+    let a = entry w .args in
+    let pre = entry w .pre in
+    ended-queue (a .shape) (a .counts) (a .wanted) (view (entry w)) (a .ef-search) (a .k) (found h) (opened h) (whole h) (work w) (lentHits w) (a .ids .now) (a .distances .now)
+    (view-most (a .shape) (a .counts) (a .floats .now) (a .numbers .now) (a .hashes .now) (a .query .now) (a .wanted)) (pre .1 .0 .vectors) (pre .1 .0 .entries) (size w) (lent-hits w)
+    (pre .1 .1 .1 .1 .0) (pre .1 .1 .1 .1 .1) (ended h)
+
+same-length : tie.Need-same-length
+same-length c = search needs
+
+returns : tie.Need-returns
+returns c =
+    let w = c .before .before .before .before in
+    let a = entry w .args in
+    record {
+      ends = damaged-search (a .shape) (walk (view (entry w)) (a .ef-search)) (a .k) (work w) (a .ids .now) (a .distances .now) (ends w walked.Damaged (c .enum-told .given .1));
+      works = w .best-first-walk .ensures .works;
+    }
+
+same-length-2 : tie.Need-same-length-2
+same-length-2 c = search needs
+
+same-length-3 : tie.Need-same-length-3
+same-length-3 c = search needs
+
+same-length-4 : tie.Need-same-length-4
+same-length-4 c = search needs
+
+returns-2 : tie.Need-returns-2
+returns-2 c =
+    let t = c .before .before .before .before .before .before in
+    let h = hits t in
+    let w = from h in
+    let a = entry w .args in
+    let last = t .take-hits .last in
+    record {
+      ends = ended-search (a .shape) (walk (view (entry w)) (a .ef-search)) (a .k) (found h) (opened h) (whole h) (work w) (a .ids .now) _ (back t) (a .distances .now) _ (t .take-hits .result) (ended h)
+          (subst (λ (heap : List ℕ). Takes heap (found h) (a .k) (a .ids .now) (a .distances .now) (t .take-hits .result) (back t) (last .1 .1 .1 .0) (last .1 .1 .1 .1 .0)) (lent-hits w) (t .take-hits .ensures));
+      works = works-trans (a .shape) (a .work .now) (work w) (after t) (w .best-first-walk .ensures .works)
+          (subst (Works (a .shape) (work w)) (sym (after-is t)) (works-sets (a .shape) (work w) (back t) (hitsAt (a .shape)) (omega (arith, back-length t))));
+    }
+
+pub search-spec : {M : Type 1} → statement M
+search-spec =
+    tie.close
+    (tie.spec
+    hits-at-requires
+    work-size-requires
+    best-first-walk-requires
+    enum-told
+    enum-known-walked
+    mul-take-hits
+    sub-take-hits
+    part-take-hits-start
+    part-take-hits-end
+    take-hits-requires
+    same-length
+    returns
+    same-length-2
+    same-length-3
+    same-length-4
+    returns-2)

@@ -1,0 +1,239 @@
+-- How the work list goes with the progress of a walk, step by step. Assumes nothing.
+use Prim.Native.Nat.{ℕ, _+_, _-_, _*_, _%_, _^_, _≤_, _<_, max}
+use native.Mathlib.Nat.{le-refl}
+use native.Mathlib.Omega.{arith}
+use mathlib.Core.Path.{_≡_, refl, sym, ap, ap₂, _∙_, subst}
+use mathlib.Core.Logic.{_⊎_, inl, inr, _≢_}
+use mathlib.Core.Bool.{Bool, cond}
+use mathlib.Core.List.{List, [], _∷_, _++_}
+use lib.Ieee.{Float}
+use lib.ListN.{length, getD, take, drop, set, replicate, length-set, length-append, length-replicate, getD-replicate, length-map}
+use lib.Seq.{drop-drop, take-set-le, getD-drop, getD-set-same, getD-set-other, drop-set-lt, sets, length-sets}
+use Rattle.lists.specs.Lists.{part, isIn}
+use Rattle.lists.specs.Counting.{isIn-nil, isIn-here, isIn-later}
+use Rattle.lists.specs.Parts.{length-part, getD-sets-before, getD-sets-in, take-sets, part-sets-same, lent-part}
+use Rattle.lists.specs.Partition.{count, hit, hit-same, count-cons, count-Memᴰ, perm-length, count-perm, count-append}
+use Rattle.order.specs.declared.Record.{Record}
+use Rattle.order.specs.Sorted.{sort, insert}
+use Rattle.order.specs.SortedLaws.{length-sort, insert-nil, sort-nil, sort-append-cong}
+use Rattle.order.specs.Records.{value, records, Heap}
+use Rattle.order.specs.RecordsLaws.{value-is, records-zero, records-same, length-records, heap-none, same-or-not}
+use Rattle.order.specs.Queue.{Pushed, Popped}
+use Rattle.store.specs.declared.Shape.{Shape}
+use Rattle.store.specs.Store.{Limits, vectorAt, marksAt, hitsAt, workSize}
+use Rattle.distance.specs.Distance.{distance}
+use Rattle.distance.specs.TotalOrder.{keyOf}
+use Rattle.walk.specs.StoreView.{storeView}
+use Rattle.walk.specs.declared.Wanted.{Wanted}
+use Rattle.walk.specs.declared.Counts.{Counts}
+use Rattle.walk.specs.Walk.{View, waitingNode, nodeNumber, Progress, hits}
+use Rattle.walk.specs.WalkLaws.{openedOne, pushedOne, withHits, Once, numbersOf}
+use Rattle.walk.specs.Search.{lent, Works}
+use Rattle.best_first_walk.specs.Walks.{hitsPart, Represents, Begins, PushedNode}
+use Rattle.walk.specs.LentLaws.{works-trans, works-sets}
+
+-- ---- lists
+
+module _ {A : Type 0} where
+  pub drop-more : (n m : ℕ) (a b : List A) → n ≤ m → drop n a ≡ drop n b → drop m a ≡ drop m b
+  drop-more n m a b h e =
+      let split : n + (m - n) ≡ m = omega arith in
+      ap (λ (k : ℕ). drop k a) (sym split) ∙ sym (drop-drop (m - n) n a) ∙ ap (drop (m - n)) e ∙ drop-drop (m - n) n b ∙ ap (λ (k : ℕ). drop k b) split
+
+  pub getD-behind : (n i : ℕ) (a b : List A) (d : A) → n ≤ i → drop n a ≡ drop n b → getD a i d ≡ getD b i d
+  getD-behind n i a b d h e =
+      let split : n + (i - n) ≡ i = omega arith in
+      ap (λ (k : ℕ). getD a k d) (sym split) ∙ sym (getD-drop n a (i - n) d) ∙ ap (λ (t : List A). getD t (i - n) d) e ∙ getD-drop n b (i - n) d
+      ∙ ap (λ (k : ℕ). getD b k d) split
+
+  pub part-behind : (n at c : ℕ) (a b : List A) → n ≤ at → drop n a ≡ drop n b → part at c a ≡ part at c b
+  part-behind n at c a b h e = ap (take c) (drop-more n at a b h e)
+
+-- ---- a node is marked and pushed
+
+pub marked-queue : (s : Shape) (work : List ℕ) (waiting child at : ℕ) → waiting < s .nodes → at ≡ marksAt s → Heap (records 2 waiting work)
+    → Heap (records 2 waiting (set work (at + child) 1))
+marked-queue s work waiting child at room e h =
+    let kept : records 2 waiting (set work (at + child) 1) ≡ records 2 waiting work =
+    records-same 2 waiting (set work (at + child) 1) work (le-refl 2) (take-set-le (waiting * 2) work (at + child) 1 (let t : waiting * 2 ≤ at + child = omega arith in t)) in
+    subst Heap (sym kept) h
+
+pub pushed-node : (s : Shape) (work work′ : List ℕ) (waiting child at : ℕ) (r : Record) → waiting < s .nodes → r .rest ≡ child → at ≡ marksAt s
+    → Pushed 2 waiting (set work (at + child) 1) r work′ → PushedNode s work waiting child (r .key) work′
+pushed-node s work work′ waiting child at r room e is q =
+    let p : Pushed 2 waiting (set work (marksAt s + child) 1) r work′ = subst (λ (n : ℕ). Pushed 2 waiting (set work (n + child) 1) r work′) is q in
+    let kept : records 2 waiting (set work (marksAt s + child) 1) ≡ records 2 waiting work =
+    records-same 2 waiting (set work (marksAt s + child) 1) work (le-refl 2) (take-set-le (waiting * 2) work (marksAt s + child) 1 (let t : waiting * 2 ≤ marksAt s + child = omega arith in t)) in
+    record {
+      queue = p .heap;
+      sorted = p .sorted ∙ ap₂ insert (value-is r ∙ ap (λ (n : ℕ). r .key * 2 ^ 64 + n) e) (ap sort kept);
+      behind = drop-more ((waiting + 1) * 2) (marksAt s) work′ (set work (marksAt s + child) 1) (omega arith) (p .behind);
+      size = p .size ∙ length-set work (marksAt s + child) 1;
+    }
+
+-- the mark of each node after one more
+mark-one : (i c : ℕ) (l : List ℕ) → i ≡ c → _≡_ {A = ℕ} (cond (isIn i (c ∷ l)) 1 0) 1
+mark-one i c l e = ap {B = ℕ} (λ (b : Bool). cond b 1 0) (ap (λ (j : ℕ). isIn j (c ∷ l)) e ∙ isIn-here c l)
+
+-- A represented progress with a child pushed
+module _ (s : Shape) (c : Counts) (view : View) (limits : Limits s) (nodes : c .nodes ≤ s .nodes) where
+  pub represents-pushed : (p : Progress) (work work′ : List ℕ) (waiting found child : ℕ) → child < c .nodes → Represents s c p work waiting found
+      → PushedNode s work waiting child (view .key child) work′ → Represents s c (pushedOne view child p) work′ (waiting + 1) found
+  represents-pushed p work work′ waiting found child below r q =
+      let hits-same : hitsPart s work′ ≡ hitsPart s work =
+      part-behind (hitsAt s) (hitsAt s) (3 * max (s .vectors) (s .entries)) work′ work (le-refl (hitsAt s))
+      (drop-more (marksAt s) (hitsAt s) work′ (set work (marksAt s + child) 1) (omega arith) (q .behind)
+      ∙ drop-set-lt (hitsAt s) work (marksAt s + child) 1 (omega arith)) in
+      record {
+        size = omega (arith, q .size, r .size);
+        queue = q .queue;
+        waits = q .sorted ∙ ap (insert (waitingNode view child)) (r .waits);
+        marks = λ i h. getD-behind (marksAt s) (marksAt s + i) work′ (set work (marksAt s + child) 1) 0 (omega arith) (q .behind) ∙ one i h (same-or-not i child);
+        hit-queue = subst (λ (l : List ℕ). Heap (records 3 found l)) (sym hits-same) (r .hit-queue);
+        hits = ap (λ (l : List ℕ). sort (records 3 found l)) hits-same ∙ r .hits;
+      }
+    where
+      one : (i : ℕ) → i < c .nodes → (i ≡ child) ⊎ (i ≢ child) → getD (set work (marksAt s + child) 1) (marksAt s + i) 0 ≡ cond (isIn i (child ∷ p .pushed)) 1 0
+      one i h (inl e) =
+          ap (λ (j : ℕ). getD (set work (marksAt s + child) 1) (marksAt s + j) 0) e
+          ∙ getD-set-same work (marksAt s + child) 1 0 (omega (arith, r .size)) ∙ sym (mark-one i child (p .pushed) e)
+      one i h (inr n) =
+          getD-set-other work (marksAt s + child) (marksAt s + i) 1 0 (λ e. n (omega arith)) ∙ r .marks i h
+          ∙ ap {B = ℕ} (λ (b : Bool). cond b 1 0) (sym (isIn-later i child (p .pushed) n))
+
+-- ---- the least node is taken
+
+-- as many wait as there are nodes at most, and one fewer where another can be pushed
+pub waiting-length : (p : Progress) (n : ℕ) → Once n p → length (p .waiting) + length (p .opened) ≡ length (p .pushed)
+waiting-length p n o =
+    let all = perm-length (count-perm (p .opened ++ numbersOf (p .waiting)) (p .pushed) (λ x. count-append x (p .opened) (numbersOf (p .waiting)) ∙ o .counted x)) in
+    omega (arith, all, length-append (p .opened) (numbersOf (p .waiting)), length-map (p .waiting) nodeNumber)
+
+module _ (s : Shape) (c : Counts) (p : Progress) (work : List ℕ) (waiting found : ℕ) (r : Represents s c p work waiting found) where
+  pub represents-length : length (p .waiting) ≡ waiting
+  represents-length = ap length (sym (r .waits)) ∙ length-sort (records 2 waiting work) ∙ length-records 2 waiting work
+
+  -- the record that was popped is the least, and the others wait on
+  pub popped-waits : (work′ : List ℕ) (least : Record) → Popped 2 waiting work least work′ → p .waiting ≡ value least ∷ sort (records 2 (waiting - 1) work′)
+  popped-waits work′ least q = sym (r .waits) ∙ q .sorted
+
+  pub represents-opened : (work′ : List ℕ) (least : Record) → c .nodes ≤ s .nodes → waiting ≤ s .nodes → Popped 2 waiting work least work′
+      → Represents s c (openedOne (value least) (sort (records 2 (waiting - 1) work′)) p) work′ (waiting - 1) found
+  represents-opened work′ least nodes few q =
+      let hits-same : hitsPart s work′ ≡ hitsPart s work =
+      part-behind (waiting * 2) (hitsAt s) (3 * max (s .vectors) (s .entries)) work′ work (omega arith) (q .behind) in
+      record {
+        size = omega (arith, q .size, r .size);
+        queue = q .heap;
+        waits = refl;
+        marks = λ i h. getD-behind (waiting * 2) (marksAt s + i) work′ work 0 (omega arith) (q .behind) ∙ r .marks i h;
+        hit-queue = subst (λ (l : List ℕ). Heap (records 3 found l)) (sym hits-same) (r .hit-queue);
+        hits = ap (λ (l : List ℕ). sort (records 3 found l)) hits-same ∙ r .hits;
+      }
+
+-- the number of a popped node
+pub popped-number : (least : Record) → least .rest < 2 ^ 32 → nodeNumber (value least) ≡ least .rest
+popped-number least h = ap nodeNumber (value-is least) ∙ (let t : (least .key * 2 ^ 64 + least .rest) % 2 ^ 64 ≡ least .rest = omega arith in t)
+
+-- the least node is below the count
+pub least-below : (p : Progress) (n least : ℕ) (rest : List ℕ) → Once n p → p .waiting ≡ least ∷ rest → nodeNumber least < n
+least-below p n least rest o e =
+    let i = nodeNumber least in
+    let waits : count i (numbersOf (p .waiting)) ≡ hit i i + count i (numbersOf rest) = ap (λ (l : List ℕ). count i (numbersOf l)) e ∙ count-cons i i (numbersOf rest) in
+    o .below i (count-Memᴰ i (p .pushed) (omega (arith, o .counted i, waits, hit-same i i refl)))
+
+-- ---- hits are added
+
+-- the work list with another hits' part
+module _ (s : Shape) (c : Counts) (p : Progress) (work ys : List ℕ) (waiting found : ℕ) (r : Represents s c p work waiting found)
+    (long : length ys ≡ 3 * max (s .vectors) (s .entries)) where
+  room : hitsAt s + length ys ≤ length work
+  room = omega (arith, r .size, long)
+
+  pub hits-in : hitsPart s (sets work (hitsAt s) ys) ≡ ys
+  hits-in = ap (λ (n : ℕ). part (hitsAt s) n (sets work (hitsAt s) ys)) (sym long) ∙ part-sets-same work (hitsAt s) ys room
+
+  pub represents-hits : (new : List ℕ) (total : ℕ) → c .nodes ≤ s .nodes → waiting ≤ s .nodes → Heap (records 3 total ys)
+      → sort (records 3 total ys) ≡ sort (new ++ records 3 found (hitsPart s work))
+      → Represents s c (withHits new p) (sets work (hitsAt s) ys) waiting total
+  represents-hits new total nodes few heap sorted =
+      let front : records 2 waiting (sets work (hitsAt s) ys) ≡ records 2 waiting work =
+      records-same 2 waiting (sets work (hitsAt s) ys) work (le-refl 2) (take-sets (waiting * 2) work (hitsAt s) ys (let t : waiting * 2 ≤ hitsAt s = omega arith in t)) in
+      record {
+        size = omega (arith, length-sets work (hitsAt s) ys, r .size);
+        queue = subst Heap (sym front) (r .queue);
+        waits = ap sort front ∙ r .waits;
+        marks = λ i h. getD-sets-before work (hitsAt s) ys (marksAt s + i) 0 (let t : marksAt s + i < hitsAt s = omega arith in t) ∙ r .marks i h;
+        hit-queue = subst (λ (l : List ℕ). Heap (records 3 total l)) (sym hits-in) heap;
+        hits = ap (λ (l : List ℕ). sort (records 3 total l)) hits-in ∙ sorted ∙ sort-append-cong new new (records 3 found (hitsPart s work)) (p .found) refl (r .hits);
+      }
+
+-- ---- what the work list keeps
+
+pub works-pushed : (s : Shape) (work work′ : List ℕ) (waiting child key : ℕ) → child < s .nodes → PushedNode s work waiting child key work′ → Works s work work′
+works-pushed s work work′ waiting child key below q = record {
+  surplus = drop-more (marksAt s) (workSize s) work′ (set work (marksAt s + child) 1) (omega arith) (q .behind)
+      ∙ drop-set-lt (workSize s) work (marksAt s + child) 1 (omega arith);
+  size = q .size;
+}
+
+pub works-popped : (s : Shape) (work work′ : List ℕ) (waiting : ℕ) (r : Record) → waiting ≤ s .nodes → Popped 2 waiting work r work′ → Works s work work′
+works-popped s work work′ waiting r few q = record {
+  surplus = drop-more (waiting * 2) (workSize s) work′ work (omega arith) (q .behind);
+  size = q .size;
+}
+
+-- ---- the beginning
+
+-- no node is marked
+pub cleared : (s : Shape) (c : Counts) (work : List ℕ) → c .nodes ≤ s .nodes → workSize s ≤ length work
+    → Represents s c (record { waiting = []; pushed = []; opened = []; found = [] }) (sets work (marksAt s) (replicate (c .nodes) 0)) 0 0
+cleared s c work nodes size =
+    let w : List ℕ = sets work (marksAt s) (replicate (c .nodes) 0) in
+    let n : length {A = ℕ} (replicate (c .nodes) 0) ≡ c .nodes = length-replicate (c .nodes) 0 in
+    record {
+      size = omega (arith, length-sets work (marksAt s) (replicate (c .nodes) 0), size);
+      queue = heap-none 2 w;
+      waits = ap sort (records-zero 2 w) ∙ sort-nil;
+      marks = λ i h.
+          getD-sets-in work (marksAt s) (replicate (c .nodes) 0) i 0 (subst (λ (k : ℕ). i < k) (sym n) h) (omega (arith, n, size))
+          ∙ getD-replicate (c .nodes) i 0 0 h ∙ ap {B = ℕ} (λ (b : Bool). cond b 1 0) (sym (isIn-nil i));
+      hit-queue = heap-none 3 (hitsPart s w);
+      hits = ap sort (records-zero 3 (hitsPart s w));
+    }
+
+pub begins : (s : Shape) (c : Counts) (view : View) (work work′ : List ℕ) → Limits s → c .nodes ≤ s .nodes → 1 ≤ c .nodes → workSize s ≤ length work
+    → PushedNode s (sets work (marksAt s) (replicate (c .nodes) 0)) 0 0 (view .key 0) work′ → Begins s c view work work′
+begins s c view work work′ limits nodes some size q =
+    let w : List ℕ = sets work (marksAt s) (replicate (c .nodes) 0) in
+    let n : length {A = ℕ} (replicate (c .nodes) 0) ≡ c .nodes = length-replicate (c .nodes) 0 in
+    let first = represents-pushed s c view limits nodes (record { waiting = []; pushed = []; opened = []; found = [] }) w work′ 0 0 0 some (cleared s c work nodes size) q in
+    record {
+      start = record {
+        size = first .size;
+        queue = first .queue;
+        waits = first .waits ∙ insert-nil (waitingNode view 0);
+        marks = first .marks;
+        hit-queue = first .hit-queue;
+        hits = first .hits;
+      };
+      works = works-trans s work w work′ (works-sets s work (replicate (c .nodes) 0) (marksAt s) (omega (arith, n)))
+          (works-pushed s w work′ 0 0 (view .key 0) (omega arith) q);
+    }
+
+-- the work list once its marks came back cleared
+pub cleared-is : (s : Shape) (c : Counts) (work ys : List ℕ) (a e : ℕ) → c .nodes ≤ s .nodes → workSize s ≤ length work → a ≡ marksAt s → e ≡ a + c .nodes
+    → ys ≡ replicate (length (take (e - a) (drop a work))) 0 → take a work ++ (ys ++ drop (e - a) (drop a work)) ≡ sets work (marksAt s) (replicate (c .nodes) 0)
+cleared-is s c work ys a e nodes size p q is =
+    let n : e - a ≡ c .nodes = omega arith in
+    let long : length (take (e - a) (drop a work)) ≡ c .nodes =
+    ap (λ (k : ℕ). length (take k (drop a work))) n ∙ length-part a (c .nodes) work (let t : a + c .nodes ≤ length work = omega arith in t) in
+    let zeros : ys ≡ replicate (c .nodes) 0 = is ∙ ap {B = List ℕ} (λ (k : ℕ). replicate k 0) long in
+    let count : length ys ≡ e - a = ap length zeros ∙ length-replicate (c .nodes) 0 ∙ sym n in
+    lent-part work a e ys (omega arith) (omega arith) count ∙ ap₂ (sets work) p zeros
+
+-- the key of a node's centroid
+pub view-key : (s : Shape) (c : Counts) (floats : List Float) (numbers hashes : List ℕ) (query : List Float) (wanted : Wanted) (i at key : ℕ) → at ≡ s .vectors + i
+    → key ≡ keyOf (distance query (vectorAt (s .dimension) floats at)) → key ≡ storeView s c (lent floats numbers hashes) query wanted .key i
+unfolding storeView
+view-key s c floats numbers hashes query wanted i at key p e = e ∙ ap (λ (n : ℕ). keyOf (distance query (vectorAt (s .dimension) floats n))) p

@@ -1,0 +1,709 @@
+-- `best_first_walk` meets its contract: both loops keep what `Walking` says, and each way out is one of its ends. The measures are the budget and the
+-- children that are left. Assumes nothing.
+use Rattle.best_first_walk.proofs.Walking.{Waits, Opens, Pushes, childTest, children-shown, waits-from, next-child, no-child, fresh-is, waits-start, few-wait, opens, opens-below, found-length, opens-damage, leaf-damage, leaf-hits, pushes-start, pushes-end, child-damage, child-low, child-room, child-pushed, ends-damaged, ends-whole, ends-cut}
+use Rattle.best_first_walk.proofs.Steps.{view-key}
+use Rattle.best_first_walk.specs.Walks.{hitsPart, PushedNode}
+use Rattle.best_first_walk.specs.WalksLaws.{hits-room}
+use Rattle.hit_queue.specs.Hits.{AddHits, Gathers, passes, has, newHits, hitOfListed, mostOf}
+use Rattle.hit_queue.specs.HitsLaws.{view-most, list-shown}
+use Rattle.hit_queue.specs.declared.Added.{Added}
+use Rattle.hit_queue.specs.declared.Added.the-variants as added
+use Rattle.walk.specs.declared.look.Look.{Look}
+use Rattle.walk.specs.declared.look.Look.the-variants as look
+use Rattle.walk.specs.LentLaws.{lent-is, vector-within, works-trans, works-sets}
+use Rattle.walk.specs.Search.{lent, WorkLent, Works, Looks}
+use Rattle.walk.specs.StoreView.{allPass, storeView}
+use Rattle.walk.specs.StoreViewLaws.{store-children-below}
+use Rattle.walk.specs.Walk.{View, hits, damage, shown}
+use Rattle.walk.specs.WalkLaws.{ChildrenBelow}
+use Rattle.store.specs.Store.{marksAt, hitsAt, workSize}
+use Rattle.lists.specs.Lists.{part}
+use Rattle.lists.specs.Parts.{length-part, lent-part}
+use borrow.Author.Needs.{needs}
+use borrow.Author.Tests.{not-true, not-false}
+use lib.Dec.{eqb}
+use lib.ListN.{length, getD, take, drop}
+use lib.Seq.{sets}
+use mathlib.Core.Bool.{Bool, true, false, _&&_, cond}
+use mathlib.Core.List.{List, _∷_, _++_}
+use mathlib.Core.Path.{_≡_, refl, sym, ap, subst, _∙_}
+use native.Mathlib.Omega.{arith}
+use Prim.Native.Nat.{ℕ, _+_, _-_, _*_, _≤_, _<_, max}
+use Rattle.best_first_walk.proofs.best_first_walk.Statement.{statement}
+use Rattle.best_first_walk.proofs.best_first_walk.Tie as tie
+
+abbrev Inv-loop : tie.InvT-loop
+Inv-loop shape counts ef-search floats numbers hashes work₀ query wanted nodes marks-at hits-at hits-end waiting₀ opened found node start count j₀ work waiting j =
+    (j ≤ count)
+    × (start + count ≤ length numbers)
+    × Pushes shape counts (storeView shape counts (lent floats numbers hashes) query wanted) ef-search work₀ node (drop j (part start count numbers)) work waiting found opened
+
+abbrev μ-loop : tie.MeasureT-loop
+μ-loop shape counts ef-search floats numbers hashes work₀ query wanted nodes marks-at hits-at hits-end waiting₀ opened found node start count j₀ work waiting j = count - j
+
+abbrev Inv-walk : tie.InvT-walk
+Inv-walk shape counts ef-search floats numbers hashes work₀ query wanted nodes marks-at hits-at hits-end waiting₀ opened₀ found₀ work waiting opened found =
+    Waits shape counts (storeView shape counts (lent floats numbers hashes) query wanted) ef-search work₀ work waiting found opened
+
+abbrev μ-walk : tie.MeasureT-walk
+μ-walk shape counts ef-search floats numbers hashes work₀ query wanted nodes marks-at hits-at hits-end waiting₀ opened₀ found₀ work waiting opened found = ef-search - opened
+
+-- ---- the places, each with the way back to the one before
+
+abbrev Entry : Type 0
+Entry = tie.Start Inv-loop μ-loop Inv-walk μ-walk
+
+-- the root is pushed
+abbrev Begun : Type 0
+Begun = tie.After-begin Inv-loop μ-loop Inv-walk μ-walk
+
+abbrev entry : Begun → Entry
+entry b = b .before .before .before .before .before .before .before .before .before .before
+
+-- a turn of the walk's loop
+abbrev Turn : Type 0
+Turn = tie.At-walk Inv-loop μ-loop Inv-walk μ-walk
+
+abbrev begun : Turn → Begun
+begun t = t .before .before .before
+
+-- the least node is taken
+abbrev Least : Type 0
+Least = tie.After-pop Inv-loop μ-loop Inv-walk μ-walk
+
+abbrev turn : Least → Turn
+turn p = p .before .before .before .before
+
+-- it is opened
+abbrev Opened : Type 0
+Opened = tie.After-look-at Inv-loop μ-loop Inv-walk μ-walk
+
+abbrev least : Opened → Least
+least o = o .before .before .before
+
+-- it is a leaf
+abbrev Leaf : Type 0
+Leaf = tie.After-shown Inv-loop μ-loop Inv-walk μ-walk
+
+abbrev leaf : Leaf → Opened
+leaf l = l .before .before
+
+-- its hits are added
+abbrev Hits : Type 0
+Hits = tie.After-add-hits Inv-loop μ-loop Inv-walk μ-walk
+
+abbrev from : Hits → Leaf
+from h = h .before .before .before
+
+-- it is an inner node
+abbrev Inner : Type 0
+Inner = tie.After-shown2 Inv-loop μ-loop Inv-walk μ-walk
+
+abbrev inner : Inner → Opened
+inner i = i .before .before
+
+-- a turn of the children's loop
+abbrev Child : Type 0
+Child = tie.At-loop Inv-loop μ-loop Inv-walk μ-walk
+
+abbrev parent : Child → Inner
+parent k = k .before .before
+
+-- its number is read
+abbrev Read : Type 0
+Read = tie.After-wide Inv-loop μ-loop Inv-walk μ-walk
+
+abbrev child : Read → Child
+child r = r .before .before .before
+
+-- it is asked whether it is fresh
+abbrev Asked : Type 0
+Asked = tie.After-fresh-child Inv-loop μ-loop Inv-walk μ-walk
+
+abbrev read : Asked → Read
+read a = a .before .before
+
+-- ---- what is known at each
+
+abbrev view : Entry → View
+view e = storeView (e .args .shape) (e .args .counts) (lent (e .args .floats .now) (e .args .numbers .now) (e .args .hashes .now)) (e .args .query .now) (e .args .wanted)
+
+below : (e : Entry) → ChildrenBelow (view e) (e .args .counts .nodes)
+below e = store-children-below (e .args .shape) (e .args .counts) (lent (e .args .floats .now) (e .args .numbers .now) (e .args .hashes .now)) (e .args .query .now) (e .args .wanted)
+
+lends : (e : Entry) → WorkLent (e .args .shape) (e .args .counts) (e .args .work .now)
+lends e = e .pre .1 .1 .1
+
+-- the work list with the root in it
+abbrev first : Begun → List ℕ
+first b = b .begin .last .1 .1 .1 .0
+
+first-works : (b : Begun) → Works (entry b .args .shape) (entry b .args .work .now) (first b)
+first-works b = let e = entry b in b .begin .ensures (e .args .numbers .now) (e .args .hashes .now) (e .args .wanted) .works
+
+-- the parts of the work list
+marks : (b : Begun) → b .before .before .before .before .marks-at .result ≡ marksAt (entry b .args .shape)
+marks b = b .before .before .before .before .marks-at .ensures
+
+hits-start : (b : Begun) → b .before .before .before .hits-at .result ≡ hitsAt (entry b .args .shape)
+hits-start b = b .before .before .before .hits-at .ensures
+
+hits-end : (b : Begun) → b .before .before .work-size .result ≡ workSize (entry b .args .shape)
+hits-end b = b .before .before .work-size .ensures
+
+few : (t : Turn) → t .walk .waiting ≤ entry (begun t) .args .shape .nodes
+few t =
+    let e = entry (begun t) in
+    let w = lends e in
+    few-wait (e .args .shape) (e .args .counts) (view e) (e .args .ef-search) (first (begun t)) (w .limits) (w .nodes) (w .some) (below e) (t .walk .work) (t .walk .waiting) (t .walk .hits) (t .walk .opened) (t .walk .inv)
+
+ended-works : (t : Turn) → Works (entry (begun t) .args .shape) (entry (begun t) .args .work .now) (t .walk .work)
+ended-works t = works-trans (entry (begun t) .args .shape) (entry (begun t) .args .work .now) (first (begun t)) (t .walk .work) (first-works (begun t)) (t .walk .inv .1 .works)
+
+-- the least node, and the work list without it
+abbrev node : Least → ℕ
+node p = p .pop .result .rest
+
+abbrev work : Least → List ℕ
+work p = p .pop .last .0
+
+node-low : (p : Least) → node p < entry (begun (turn p)) .args .counts .nodes
+node-low p =
+    let t = turn p in
+    let e = entry (begun t) in
+    let w = lends e in
+    opens-below (e .args .shape) (e .args .counts) (view e) (e .args .ef-search) (first (begun t)) (w .limits) (w .nodes) (w .some) (below e) (t .walk .work) (work p) (t .walk .waiting) (t .walk .hits) (t .walk .opened) (p .pop .result) (t .walk .inv) (p .pop .ensures)
+
+opened : (p : Least) → Opens (entry (begun (turn p)) .args .shape) (entry (begun (turn p)) .args .counts) (view (entry (begun (turn p)))) (entry (begun (turn p)) .args .ef-search)
+    (first (begun (turn p))) (node p) (work p) (turn p .walk .waiting - 1) (turn p .walk .hits) (turn p .walk .opened + 1)
+opened p =
+    let t = turn p in
+    let e = entry (begun t) in
+    let w = lends e in
+    opens (e .args .shape) (e .args .counts) (view e) (e .args .ef-search) (first (begun t)) (w .limits) (w .nodes) (w .some) (below e) (t .walk .work) (work p) (t .walk .waiting) (t .walk .hits) (t .walk .opened) (p .pop .result) (t .walk .inv) (p .before .before .if2 .left) (p .pop .ensures)
+
+opened-works : (p : Least) → Works (entry (begun (turn p)) .args .shape) (entry (begun (turn p)) .args .work .now) (work p)
+opened-works p = let e = entry (begun (turn p)) in works-trans (e .args .shape) (e .args .work .now) (first (begun (turn p))) (work p) (first-works (begun (turn p))) (opened p .1 .works)
+
+-- what the node shows
+abbrev Shows : Opened → Look → Type 0
+Shows o r = let e = entry (begun (turn (least o))) in Looks (e .args .shape) (e .args .counts) (e .args .numbers .now) (e .args .hashes .now) (e .args .wanted) (node (least o)) r
+
+shows : (o : Opened) (r : Look) → o .look-at .result ≡ r → Shows o r
+shows o r is = subst (Shows o) is (o .look-at .ensures)
+
+-- ---- a leaf
+
+abbrev at-leaf : Leaf → Entry
+at-leaf l = entry (begun (turn (least (leaf l))))
+
+abbrev test : Entry → ℕ → Bool
+test e = passes (e .args .shape) (e .args .counts) (e .args .numbers .now) (e .args .wanted)
+
+abbrev wants : Entry → ℕ → Bool
+wants e = has (e .args .hashes .now) (e .args .wanted)
+
+abbrev hit : Entry → ℕ → ℕ
+hit e = hitOfListed (e .args .shape) (e .args .counts) (e .args .floats .now) (e .args .numbers .now) (e .args .hashes .now) (e .args .query .now) (e .args .wanted)
+
+most : (e : Entry) → view e .most ≡ mostOf (e .args .counts) (e .args .wanted)
+most e = view-most (e .args .shape) (e .args .counts) (e .args .floats .now) (e .args .numbers .now) (e .args .hashes .now) (e .args .query .now) (e .args .wanted)
+
+abbrev list : Leaf → List ℕ
+list l = part (l .shown .given .0 .0 .start) (l .shown .given .0 .0 .count) (at-leaf l .args .numbers .now)
+
+list-room : (l : Leaf) → l .shown .given .0 .0 .start + l .shown .given .0 .0 .count ≤ length (at-leaf l .args .numbers .now)
+list-room l = shows (leaf l) (look.Leaf (l .shown .given .0 .0)) (l .shown .given .1) .0
+
+list-is : (l : Leaf) → shown (view (at-leaf l)) (node (least (leaf l)))
+    ≡ cond (allPass (test (at-leaf l)) (list l)) (hits (newHits (wants (at-leaf l)) (hit (at-leaf l)) (list l))) damage
+list-is l =
+    let e = at-leaf l in
+    shows (leaf l) (look.Leaf (l .shown .given .0 .0)) (l .shown .given .1) .1 (e .args .floats .now) (e .args .query .now)
+    ∙ list-shown (e .args .shape) (e .args .counts) (e .args .floats .now) (e .args .numbers .now) (e .args .hashes .now) (e .args .query .now) (e .args .wanted) (list l)
+
+-- the hits' part, as it is lent
+abbrev lentHits : Least → List ℕ
+lentHits p = let b = begun (turn p) in take (b .before .before .work-size .result - b .before .before .before .hits-at .result) (drop (b .before .before .before .hits-at .result) (work p))
+
+lent-hits : (p : Least) → lentHits p ≡ hitsPart (entry (begun (turn p)) .args .shape) (work p)
+lent-hits p =
+    let b = begun (turn p) in
+    let s = entry b .args .shape in
+    lent-is (work p) (b .before .before .before .hits-at .result) (b .before .before .work-size .result) (hitsAt s) (3 * max (s .vectors) (s .entries)) (hits-start b) (hits-end b)
+
+work-room : (p : Least) → workSize (entry (begun (turn p)) .args .shape) ≤ length (work p)
+work-room p = opened p .1 .holds .size
+
+-- and as it came back
+abbrev back : Hits → List ℕ
+back h = h .add-hits .last .1 .1 .1 .1 .1 .0
+
+abbrev at-hits : Hits → Least
+at-hits h = least (leaf (from h))
+
+abbrev after : Hits → List ℕ
+after h = let p = at-hits h in
+    let b = begun (turn p) in
+    take (b .before .before .before .hits-at .result) (work p)
+    ++ (back h ++ drop (b .before .before .work-size .result - b .before .before .before .hits-at .result) (drop (b .before .before .before .hits-at .result) (work p)))
+
+back-length : (h : Hits) → length (back h) ≡ 3 * max (at-leaf (from h) .args .shape .vectors) (at-leaf (from h) .args .shape .entries)
+back-length h =
+    let p = at-hits h in
+    let s = at-leaf (from h) .args .shape in
+    h .add-hits .kept .1 .1 .1 .1 .1 .0 ∙ ap length (lent-hits p) ∙ length-part (hitsAt s) (3 * max (s .vectors) (s .entries)) (work p) (work-room p)
+
+after-is : (h : Hits) → after h ≡ sets (work (at-hits h)) (hitsAt (at-leaf (from h) .args .shape)) (back h)
+after-is h =
+    let p = at-hits h in
+    let b = begun (turn p) in
+    lent-part (work p) (b .before .before .before .hits-at .result) (b .before .before .work-size .result) (back h)
+    (omega (arith, hits-start b, hits-end b)) (omega (arith, hits-end b, work-room p)) (omega (arith, back-length h, hits-start b, hits-end b))
+    ∙ ap (λ (at : ℕ). sets (work p) at (back h)) (hits-start b)
+
+after-works : (h : Hits) → Works (at-leaf (from h) .args .shape) (at-leaf (from h) .args .work .now) (after h)
+after-works h =
+    let p = at-hits h in
+    let e = at-leaf (from h) in
+    works-trans (e .args .shape) (e .args .work .now) (work p) (after h) (opened-works p)
+    (subst (Works (e .args .shape) (work p)) (sym (after-is h)) (works-sets (e .args .shape) (work p) (back h) (hitsAt (e .args .shape)) (omega (arith, back-length h))))
+
+-- what the leaf gave
+abbrev Gave : Hits → ℕ → List ℕ → Added → Type 0
+Gave h n heap r = let e = at-leaf (from h) in Gathers (test e) (wants e) (hit e) n (list (from h)) (turn (at-hits h) .walk .hits) heap r (back h)
+
+gave : (h : Hits) (r : Added) → h .add-hits .result ≡ r → Gave h (view (at-leaf (from h)) .most) (hitsPart (at-leaf (from h) .args .shape) (work (at-hits h))) r
+gave h r is =
+    let e = at-leaf (from h) in
+    let p = at-hits h in
+    subst (λ (heap : List ℕ). Gave h (view e .most) heap r) (lent-hits p)
+    (subst (λ (n : ℕ). Gave h n (lentHits p) r) (sym (most e))
+    (subst (Gave h (mostOf (e .args .counts) (e .args .wanted)) (lentHits p)) is (h .add-hits .ensures)))
+
+-- ---- an inner node
+
+abbrev at-inner : Inner → Entry
+at-inner i = entry (begun (turn (least (inner i))))
+
+abbrev children : Inner → List ℕ
+children i = part (i .shown2 .given .0 .0 .start) (i .shown2 .given .0 .0 .count) (at-inner i .args .numbers .now)
+
+-- the children that are still to be pushed
+abbrev Left : Child → List ℕ → Type 0
+Left k left =
+    let i = parent k in
+    let p = least (inner i) in
+    let e = at-inner i in
+    Pushes (e .args .shape) (e .args .counts) (view e) (e .args .ef-search) (work p) (node p) left (k .loop .work) (k .loop .waiting) (turn p .walk .hits) (turn p .walk .opened + 1)
+
+child-works : (k : Child) → Works (at-inner (parent k) .args .shape) (at-inner (parent k) .args .work .now) (k .loop .work)
+child-works k =
+    let p = least (inner (parent k)) in
+    let e = at-inner (parent k) in
+    works-trans (e .args .shape) (e .args .work .now) (work p) (k .loop .work) (opened-works p) (k .loop .inv .2 .1 .works)
+
+-- the next of them
+abbrev number : Read → ℕ
+number r = r .wide .result
+
+abbrev behind : Read → List ℕ
+behind r = drop (child r .loop .j + 1) (children (parent (child r)))
+
+next : (r : Read) → Left (child r) (number r ∷ behind r)
+next r =
+    let k = child r in
+    let i = parent k in
+    subst (Left k)
+    (next-child (at-inner i .args .numbers .now) (i .shown2 .given .0 .0 .start) (i .shown2 .given .0 .0 .count) (k .loop .j) (number r) (r .before .before .loop-test .taken) (k .loop .inv .1) (r .wide .ensures .0))
+    (k .loop .inv .2)
+
+-- whether it is fresh
+fresh : (a : Asked) (b : Bool) → a .fresh-child .result ≡ b
+    → (childTest (at-inner (parent (child (read a))) .args .counts) (node (least (inner (parent (child (read a)))))) (number (read a))
+    && eqb (getD (child (read a) .loop .work) (marksAt (at-inner (parent (child (read a))) .args .shape) + number (read a)) 0) 0) ≡ b
+fresh a b is =
+    let k = child (read a) in
+    let p = least (inner (parent k)) in
+    let e = at-inner (parent k) in
+    fresh-is (e .args .shape) (e .args .counts) (k .loop .work) (node p) (number (read a)) _ (a .fresh-child .result) b (marks (begun (turn p))) (a .fresh-child .ensures) is
+
+low : (a : Asked) → a .fresh-child .result ≡ true → number (read a) < at-inner (parent (child (read a))) .args .counts .nodes
+low a is =
+    let k = child (read a) in
+    let p = least (inner (parent k)) in
+    let e = at-inner (parent k) in
+    let w = lends e in
+    child-low (e .args .shape) (e .args .counts) (view e) (e .args .ef-search) (work p) (w .limits) (w .nodes) (w .some) (below e) (node p) (number (read a)) (behind (read a)) (k .loop .work) (k .loop .waiting) (turn p .walk .hits) (turn p .walk .opened + 1) (next (read a)) (fresh a true is)
+
+room : (a : Asked) → a .fresh-child .result ≡ true → child (read a) .loop .waiting < at-inner (parent (child (read a))) .args .shape .nodes
+room a is =
+    let k = child (read a) in
+    let p = least (inner (parent k)) in
+    let e = at-inner (parent k) in
+    let w = lends e in
+    child-room (e .args .shape) (e .args .counts) (view e) (e .args .ef-search) (work p) (w .limits) (w .nodes) (w .some) (below e) (node p) (number (read a)) (behind (read a)) (k .loop .work) (k .loop .waiting) (turn p .walk .hits) (turn p .walk .opened + 1) (next (read a)) (fresh a true is)
+
+-- ---- the needs, in the order of the code
+
+marks-at-requires : tie.Need-marks-at-requires Inv-loop μ-loop Inv-walk μ-walk
+marks-at-requires c κs = search needs
+
+hits-at-requires : tie.Need-hits-at-requires Inv-loop μ-loop Inv-walk μ-walk
+hits-at-requires c κs = search needs
+
+work-size-requires : tie.Need-work-size-requires Inv-loop μ-loop Inv-walk μ-walk
+work-size-requires c κs = search needs
+
+begin-requires : tie.Need-begin-requires Inv-loop μ-loop Inv-walk μ-walk
+begin-requires c κs = search needs
+
+walk-holds : tie.Need-walk-holds Inv-loop μ-loop Inv-walk μ-walk
+walk-holds c =
+    let b = c .before .before in
+    let e = entry b in
+    let w = lends e in
+    waits-start (e .args .shape) (e .args .counts) (view e) (e .args .ef-search) (first b) (w .limits) (w .nodes) (w .some) (below e) (e .args .work .now) (b .begin .ensures (e .args .numbers .now) (e .args .hashes .now) (e .args .wanted))
+
+pop-requires : tie.Need-pop-requires Inv-loop μ-loop Inv-walk μ-walk
+pop-requires c κs =
+    let t = c .before .before .before in
+    record {
+      narrow = omega arith;
+      wide = omega arith;
+      some = omega (arith, c .before .before .if1 .left);
+      room = omega (arith, few t, t .walk .inv .1 .holds .size);
+      heap = t .walk .inv .1 .holds .queue;
+    }
+
+sub-waiting : tie.Need-sub-waiting Inv-loop μ-loop Inv-walk μ-walk
+sub-waiting c = search needs
+
+add-opened : tie.Need-add-opened Inv-loop μ-loop Inv-walk μ-walk
+add-opened c =
+    let p = c .before .before in
+    omega (arith, turn p .walk .inv .1 .budget, p .before .before .if2 .left, entry (begun (turn p)) .fits .ef-search)
+
+look-at-requires : tie.Need-look-at-requires Inv-loop μ-loop Inv-walk μ-walk
+look-at-requires c κs =
+    let p = c .before .before in
+    let e = entry (begun (turn p)) in
+    (e .pre .1 .0, (e .pre .1 .1 .0, node-low p))
+
+enum-told : tie.Need-enum-told Inv-loop μ-loop Inv-walk μ-walk
+enum-told c = search needs
+
+enum-known-shown : tie.Need-enum-known-shown Inv-loop μ-loop Inv-walk μ-walk
+enum-known-shown c = search needs
+
+mul-add-hits : tie.Need-mul-add-hits Inv-loop μ-loop Inv-walk μ-walk
+mul-add-hits c =
+    let l = c .before in
+    let p = least (leaf l) in
+    let limits = lends (at-leaf l) .limits in
+    omega (arith, hits-start (begun (turn p)), hits-end (begun (turn p)), limits .nodes-high, limits .vectors-high, limits .entries-high, work-room p)
+
+sub-add-hits : tie.Need-sub-add-hits Inv-loop μ-loop Inv-walk μ-walk
+sub-add-hits c =
+    let p = least (leaf (c .before)) in
+    omega (arith, hits-start (begun (turn p)), hits-end (begun (turn p)), work-room p)
+
+part-add-hits-start : tie.Need-part-add-hits-start Inv-loop μ-loop Inv-walk μ-walk
+part-add-hits-start c =
+    let p = least (leaf (c .before)) in
+    omega (arith, hits-start (begun (turn p)), hits-end (begun (turn p)), work-room p)
+
+part-add-hits-end : tie.Need-part-add-hits-end Inv-loop μ-loop Inv-walk μ-walk
+part-add-hits-end c =
+    let p = least (leaf (c .before)) in
+    omega (arith, hits-start (begun (turn p)), hits-end (begun (turn p)), work-room p)
+
+add-hits-requires : tie.Need-add-hits-requires Inv-loop μ-loop Inv-walk μ-walk
+add-hits-requires c κs =
+    let l = c .before .before in
+    let p = least (leaf l) in
+    let e = at-leaf l in
+    let w = lends e in
+    let block = l .shown .given .0 .0 in
+    let found = found-length (e .args .shape) (e .args .counts) (view e) (e .args .ef-search) (first (begun (turn p))) (w .limits) (w .nodes) (w .some) (below e) (opened p .0) (work p) (turn p .walk .waiting - 1) (turn p .walk .hits) (opened p .1 .holds) in (
+      e .pre .0,
+      (
+        e .pre .1 .0,
+        (
+          e .pre .1 .1 .0,
+          subst (λ (heap : List ℕ). AddHits (e .args .counts) (e .args .numbers .now) heap (turn p .walk .hits) (e .args .wanted) (block .start) (block .count)) (sym (lent-hits p))
+              (record {
+                block = list-room l;
+                hits = record {
+                  few = omega (arith, opened p .1 .few, found, most e);
+                  room = hits-room (e .args .shape) (e .args .counts) (e .args .wanted) (work p) (e .pre .1 .0 .vectors) (e .pre .1 .0 .entries) (work-room p);
+                  queue = opened p .1 .holds .hit-queue;
+                };
+              }),
+        ),
+      ),
+    )
+
+enum-told-2 : tie.Need-enum-told-2 Inv-loop μ-loop Inv-walk μ-walk
+enum-told-2 c = search needs
+
+enum-known-added : tie.Need-enum-known-added Inv-loop μ-loop Inv-walk μ-walk
+enum-known-added c = search needs
+
+walk-less : tie.Need-walk-less Inv-loop μ-loop Inv-walk μ-walk
+walk-less c = search needs
+
+walk-again : tie.Need-walk-again Inv-loop μ-loop Inv-walk μ-walk
+walk-again c =
+    let h = c .before .before .before .before .before in
+    let p = at-hits h in
+    let e = at-leaf (from h) in
+    let w = lends e in
+    let given = c .before .added .given in
+    subst (λ (now : List ℕ). Waits (e .args .shape) (e .args .counts) (view e) (e .args .ef-search) (first (begun (turn p))) now (turn p .walk .waiting - 1) (given .0 .0) (turn p .walk .opened + 1)) (sym (after-is h))
+    (leaf-hits (e .args .shape) (e .args .counts) (view e) (e .args .ef-search) (first (begun (turn p))) (w .limits) (w .nodes) (w .some) (below e) (node p) (work p) (back h) (turn p .walk .waiting - 1) (turn p .walk .hits) (turn p .walk .opened + 1) (given .0 .0)
+    (test e) (wants e) (hit e) (list (from h)) (omega (arith, few (turn p))) (opened p) (list-is (from h)) (back-length h) (gave h (added.Hits (given .0 .0)) (given .1)))
+
+enum-known-shown-2 : tie.Need-enum-known-shown-2 Inv-loop μ-loop Inv-walk μ-walk
+enum-known-shown-2 c = search needs
+
+loop-holds : tie.Need-loop-holds Inv-loop μ-loop Inv-walk μ-walk
+loop-holds c =
+    let i = c .before in
+    let p = least (inner i) in
+    let e = at-inner i in
+    let w = lends e in
+    let shown = shows (inner i) (look.Inner (i .shown2 .given .0 .0)) (i .shown2 .given .1) in (
+      omega arith,
+      shown .0,
+      pushes-start (e .args .shape) (e .args .counts) (view e) (e .args .ef-search) (first (begun (turn p))) (w .limits) (w .nodes) (w .some) (below e) (node p) (work p) (turn p .walk .waiting - 1) (turn p .walk .hits) (turn p .walk .opened + 1) (children i)
+          (opened p) (shown .1 (e .args .floats .now) (e .args .query .now) ∙ children-shown (e .args .shape) (e .args .counts) (e .args .floats .now) (e .args .numbers .now) (e .args .hashes .now) (node p) (children i)),
+    )
+
+walk-less-2 : tie.Need-walk-less-2 Inv-loop μ-loop Inv-walk μ-walk
+walk-less-2 c = search needs
+
+walk-again-2 : tie.Need-walk-again-2 Inv-loop μ-loop Inv-walk μ-walk
+walk-again-2 c =
+    let k = c .before in
+    let i = parent k in
+    let p = least (inner i) in
+    let e = at-inner i in
+    let w = lends e in
+    let block = i .shown2 .given .0 .0 in
+    waits-from (e .args .shape) (e .args .counts) (view e) (e .args .ef-search) (first (begun (turn p))) (work p) (k .loop .work) (k .loop .waiting) (turn p .walk .hits) (turn p .walk .opened + 1) (opened p .1 .works)
+    (pushes-end (e .args .shape) (e .args .counts) (view e) (e .args .ef-search) (work p) (w .limits) (w .nodes) (w .some) (below e) (node p) (k .loop .work) (k .loop .waiting) (turn p .walk .hits) (turn p .walk .opened + 1)
+    (subst (Left k) (no-child (e .args .numbers .now) (block .start) (block .count) (k .loop .j) (c .loop-test .left) (k .loop .inv .1)) (k .loop .inv .2)))
+
+add-wide : tie.Need-add-wide Inv-loop μ-loop Inv-walk μ-walk
+add-wide c =
+    omega (arith, c .before .loop .inv .1, c .loop-test .taken, at-inner (parent (c .before)) .good)
+
+mul-wide : tie.Need-mul-wide Inv-loop μ-loop Inv-walk μ-walk
+mul-wide c =
+    omega (arith, c .before .loop .inv .1, c .loop-test .taken, at-inner (parent (c .before)) .good)
+
+shared-slice-read-wide : tie.Need-shared-slice-read-wide Inv-loop μ-loop Inv-walk μ-walk
+shared-slice-read-wide c = search needs
+
+wide-requires : tie.Need-wide-requires Inv-loop μ-loop Inv-walk μ-walk
+wide-requires c κs = search needs
+
+fresh-child-requires : tie.Need-fresh-child-requires Inv-loop μ-loop Inv-walk μ-walk
+fresh-child-requires c κs =
+    let k = child (c .before) in
+    let e = at-inner (parent k) in
+    omega (arith, marks (begun (turn (least (inner (parent k))))), lends e .nodes, k .loop .inv .2 .1 .holds .size)
+
+add-distance-key : tie.Need-add-distance-key Inv-loop μ-loop Inv-walk μ-walk
+add-distance-key c =
+    let r = read (c .before .before) in
+    omega (arith, r .wide .ensures .1, lends (at-inner (parent (child r))) .limits .vectors-high)
+
+distance-key-requires : tie.Need-distance-key-requires Inv-loop μ-loop Inv-walk μ-walk
+distance-key-requires c κs =
+    let a = c .before .before in
+    let e = at-inner (parent (child (read a))) in
+    vector-within (e .args .shape) (e .args .floats .now) (e .args .shape .vectors + number (read a)) (e .args .shape .vectors + e .args .shape .nodes) (e .pre .0 .limits) (e .pre .0 .size)
+    (omega (arith, low a (not-false _ (c .before .if3 .left)), lends e .nodes)) (omega arith)
+
+push-node-requires : tie.Need-push-node-requires Inv-loop μ-loop Inv-walk μ-walk
+push-node-requires c κs =
+    let a = c .before .before .before .before in
+    let k = child (read a) in
+    let e = at-inner (parent k) in
+    let yes : a .fresh-child .result ≡ true = not-false _ (c .before .before .before .if3 .left) in
+    record {
+      size = k .loop .inv .2 .1 .holds .size;
+      limits = lends e .limits;
+      below = omega (arith, low a yes, lends e .nodes);
+      room = room a yes;
+      queue = k .loop .inv .2 .1 .holds .queue;
+    }
+
+-- the child is pushed
+abbrev Pushed : Type 0
+Pushed = tie.After-push-node Inv-loop μ-loop Inv-walk μ-walk
+
+abbrev asked : Pushed → Asked
+asked q = q .before .before .before .before .before
+
+is-fresh : (q : Pushed) → asked q .fresh-child .result ≡ true
+is-fresh q = not-false _ (q .before .before .before .before .if3 .left)
+
+add-waiting : tie.Need-add-waiting Inv-loop μ-loop Inv-walk μ-walk
+add-waiting c =
+    let q = c .before .before in
+    omega (arith, room (asked q) (is-fresh q), lends (at-inner (parent (child (read (asked q))))) .limits .nodes-high)
+
+add-j : tie.Need-add-j Inv-loop μ-loop Inv-walk μ-walk
+add-j c = search needs
+
+loop-less : tie.Need-loop-less Inv-loop μ-loop Inv-walk μ-walk
+loop-less c = search needs
+
+loop-again : tie.Need-loop-again Inv-loop μ-loop Inv-walk μ-walk
+loop-again c =
+    let q = c .before .before in
+    let a = asked q in
+    let r = read a in
+    let k = child r in
+    let p = least (inner (parent k)) in
+    let e = at-inner (parent k) in
+    let w = lends e in
+    let key = view-key (e .args .shape) (e .args .counts) (e .args .floats .now) (e .args .numbers .now) (e .args .hashes .now) (e .args .query .now) (e .args .wanted) (number r) _ _ refl (q .before .before .distance-key .ensures) in (
+      omega (arith, r .before .before .loop-test .taken),
+      k .loop .inv .1,
+      child-pushed (e .args .shape) (e .args .counts) (view e) (e .args .ef-search) (work p) (w .limits) (w .nodes) (w .some) (below e) (node p) (number r) (behind r) (k .loop .work) (k .loop .waiting) (turn p .walk .hits) (turn p .walk .opened + 1) (next r) (fresh a true (is-fresh q)) _
+          (subst (λ (key : ℕ). PushedNode (e .args .shape) (k .loop .work) (k .loop .waiting) (number r) key (q .push-node .last .1 .0)) key (q .push-node .ensures)),
+    )
+
+same-length : tie.Need-same-length Inv-loop μ-loop Inv-walk μ-walk
+same-length c = ended-works (c .before) .size
+
+returns : tie.Need-returns Inv-loop μ-loop Inv-walk μ-walk
+returns c =
+    let t = c .before in
+    let e = entry (begun t) in
+    let w = lends e in
+    record {
+      ends = ends-whole (e .args .shape) (e .args .counts) (view e) (e .args .ef-search) (first (begun t)) (w .limits) (w .nodes) (w .some) (below e) (t .walk .work) (t .walk .waiting) (t .walk .hits) (t .walk .opened) (c .if1 .taken) (t .walk .inv);
+      works = ended-works t;
+    }
+
+same-length-2 : tie.Need-same-length-2 Inv-loop μ-loop Inv-walk μ-walk
+same-length-2 c = ended-works (c .before .before) .size
+
+returns-2 : tie.Need-returns-2 Inv-loop μ-loop Inv-walk μ-walk
+returns-2 c =
+    let t = c .before .before in
+    let e = entry (begun t) in
+    let w = lends e in
+    record {
+      ends = ends-cut (e .args .shape) (e .args .counts) (view e) (e .args .ef-search) (first (begun t)) (w .limits) (w .nodes) (w .some) (below e) (t .walk .work) (t .walk .waiting) (t .walk .hits) (t .walk .opened) (c .before .if1 .left) (c .if2 .taken) (t .walk .inv);
+      works = ended-works t;
+    }
+
+same-length-3 : tie.Need-same-length-3 Inv-loop μ-loop Inv-walk μ-walk
+same-length-3 c = opened-works (least (c .before .before)) .size
+
+returns-3 : tie.Need-returns-3 Inv-loop μ-loop Inv-walk μ-walk
+returns-3 c =
+    let o = c .before .before in
+    let p = least o in
+    let e = entry (begun (turn p)) in
+    let w = lends e in
+    record {
+      ends = ends-damaged (e .args .shape) (e .args .counts) (view e) (e .args .ef-search) (first (begun (turn p))) (w .limits) (w .nodes) (w .some) (below e) _
+          (opens-damage (e .args .shape) (e .args .counts) (view e) (e .args .ef-search) (first (begun (turn p))) (w .limits) (w .nodes) (w .some) (below e) (node p) (work p) (turn p .walk .waiting - 1) (turn p .walk .hits) (turn p .walk .opened + 1) (opened p)
+          (shows o look.Damaged (c .enum-told .given .1) (e .args .floats .now) (e .args .query .now)));
+      works = opened-works p;
+    }
+
+same-length-4 : tie.Need-same-length-4 Inv-loop μ-loop Inv-walk μ-walk
+same-length-4 c = after-works (c .before .before .before .before) .size
+
+returns-4 : tie.Need-returns-4 Inv-loop μ-loop Inv-walk μ-walk
+returns-4 c =
+    let h = c .before .before .before .before in
+    let p = at-hits h in
+    let e = at-leaf (from h) in
+    let w = lends e in
+    record {
+      ends = ends-damaged (e .args .shape) (e .args .counts) (view e) (e .args .ef-search) (first (begun (turn p))) (w .limits) (w .nodes) (w .some) (below e) _
+          (leaf-damage (e .args .shape) (e .args .counts) (view e) (e .args .ef-search) (first (begun (turn p))) (w .limits) (w .nodes) (w .some) (below e) (node p) (work p) (turn p .walk .waiting - 1) (turn p .walk .hits) (turn p .walk .opened + 1)
+          (test e) (wants e) (hit e) (list (from h)) (opened p) (list-is (from h)) (gave h added.Damaged (c .enum-told2 .given .1)));
+      works = after-works h;
+    }
+
+same-length-5 : tie.Need-same-length-5 Inv-loop μ-loop Inv-walk μ-walk
+same-length-5 c = child-works (child (read (c .before))) .size
+
+returns-5 : tie.Need-returns-5 Inv-loop μ-loop Inv-walk μ-walk
+returns-5 c =
+    let a = c .before in
+    let r = read a in
+    let k = child r in
+    let p = least (inner (parent k)) in
+    let e = at-inner (parent k) in
+    let w = lends e in
+    record {
+      ends = ends-damaged (e .args .shape) (e .args .counts) (view e) (e .args .ef-search) (first (begun (turn p))) (w .limits) (w .nodes) (w .some) (below e) _
+          (child-damage (e .args .shape) (e .args .counts) (view e) (e .args .ef-search) (work p) (w .limits) (w .nodes) (w .some) (below e) (node p) (number r) (behind r) (k .loop .work) (k .loop .waiting) (turn p .walk .hits) (turn p .walk .opened + 1) (next r) (fresh a false (not-true _ (c .if3 .taken))));
+      works = child-works k;
+    }
+
+pub best-first-walk-spec : {M : Type 1} → statement M
+best-first-walk-spec =
+    tie.close
+    (tie.spec
+    Inv-loop
+    μ-loop
+    Inv-walk
+    μ-walk
+    marks-at-requires
+    hits-at-requires
+    work-size-requires
+    begin-requires
+    walk-holds
+    pop-requires
+    sub-waiting
+    add-opened
+    look-at-requires
+    enum-told
+    enum-known-shown
+    mul-add-hits
+    sub-add-hits
+    part-add-hits-start
+    part-add-hits-end
+    add-hits-requires
+    enum-told-2
+    enum-known-added
+    walk-less
+    walk-again
+    enum-known-shown-2
+    loop-holds
+    walk-less-2
+    walk-again-2
+    add-wide
+    mul-wide
+    shared-slice-read-wide
+    wide-requires
+    fresh-child-requires
+    add-distance-key
+    distance-key-requires
+    push-node-requires
+    add-waiting
+    add-j
+    loop-less
+    loop-again
+    same-length
+    returns
+    same-length-2
+    returns-2
+    same-length-3
+    returns-3
+    same-length-4
+    returns-4
+    same-length-5
+    returns-5)

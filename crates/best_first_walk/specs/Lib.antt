@@ -1,0 +1,3 @@
+-- The contracts of the walk.
+pub mod Walks
+pub mod WalksLaws

@@ -1,0 +1,184 @@
+// The best-first walk over a lent store, whatever numbers stand in it (document 01, 'Search').
+use hit_queue::Added;
+use hit_queue::add_hits;
+use hit_queue::distance_key;
+use order::Record;
+use order::pop;
+use order::push;
+use store::Shape;
+use walk::Counts;
+use walk::Wanted;
+use walk::look::Look;
+use walk::look::look_at;
+use walk::look::wide;
+ghost use mathlib.Core.Path.{_≡_};
+ghost use mathlib.Core.Bool.{_&&_};
+ghost use Prim.Native.Nat.{_+_, _*_, _<_, _≤_};
+ghost use lib.Dec.{ltb, eqb};
+ghost use lib.ListN.{length, getD, replicate};
+ghost use Rattle.walk.specs.Search.{FloatsLent, NumbersLent, HashesLent, WorkLent};
+ghost use Rattle.best_first_walk.specs.Walks.{BeginsAny, PushNode, PushedNode, Walks};
+
+// How a walk ended: with hits in their queue, or at damage. It is whole if no node waited.
+pub enum Walked {
+    Ended {
+        hits: usize,
+        opened: usize,
+        whole: bool,
+    },
+    Damaged,
+}
+
+// Clears a list.
+fn clear(marks: &mut [u32])
+    ensures { λ _. ⌜ now (marks .exit) ≡ replicate (length (now (marks .entry))) 0 ⌝ }
+{
+    let mut i = 0;
+    while i < marks.len() {
+        marks[i] = 0;
+        i += 1;
+    }
+}
+
+// Whether a child is above its parent, below the node count and not pushed before.
+fn fresh_child(work: &[u32], marks_at: usize, nodes: usize, parent: usize, child: usize) -> bool
+    requires { ⌜ «marks_at» + nodes ≤ length (now work) ⌝ }
+    ensures { λ r. ⌜ r ≡ ((ltb parent child && ltb child nodes) && eqb (getD (now (work .entry)) («marks_at» + child) 0) 0) ⌝ }
+{
+    if child <= parent {
+        return false;
+    }
+    if nodes <= child {
+        return false;
+    }
+    work[marks_at + child] == 0
+}
+
+// Marks a node as pushed, and puts it with its distance's key into the queue of waiting nodes.
+fn push_node(shape: Shape, work: &mut [u32], waiting: usize, child: usize, key: u32)
+    requires { ⌜ PushNode shape (now work) waiting child ⌝ }
+    ensures { λ _. ⌜ PushedNode shape (now (work .entry)) waiting child key (now (work .exit)) ⌝ }
+{
+    let at = shape.marks_at() + child;
+    work[at] = 1;
+    push(
+        work,
+        waiting,
+        2,
+        Record {
+            key,
+            rest: child as u64,
+        },
+    );
+}
+
+// Begins a walk: no node is marked, and the root is pushed.
+fn begin(shape: Shape, counts: Counts, floats: &[f32], work: &mut [u32], query: &[f32])
+    requires { ⌜ FloatsLent shape (now floats) ⌝ }
+    requires { ⌜ WorkLent shape counts (now work) ⌝ }
+    ensures { λ _. ⌜ BeginsAny shape counts (now (floats .entry)) (now (query .entry)) (now (work .entry)) (now (work .exit)) ⌝ }
+{
+    let start = shape.marks_at();
+    let end = start + counts.nodes;
+    clear(&mut work[start..end]);
+    let key = distance_key(floats, query, shape.dimension, shape.vectors);
+    push_node(shape, work, 0, 0, key);
+}
+
+// The walk: the least waiting node is taken and opened, until none waits, or `ef_search` nodes are opened, or the store is damaged.
+pub fn best_first_walk(
+    shape: Shape,
+    counts: Counts,
+    ef_search: usize,
+    floats: &[f32],
+    numbers: &[u32],
+    hashes: &[u64],
+    work: &mut [u32],
+    query: &[f32],
+    wanted: Wanted,
+) -> Walked
+    requires { ⌜ FloatsLent shape (now floats) ⌝ }
+    requires { ⌜ NumbersLent shape counts (now numbers) ⌝ }
+    requires { ⌜ HashesLent shape (now hashes) ⌝ }
+    requires { ⌜ WorkLent shape counts (now work) ⌝ }
+    ensures { λ r. ⌜ Walks shape counts «ef_search» (now (floats .entry)) (now (numbers .entry)) (now (hashes .entry)) (now (query .entry)) wanted (now (work .entry)) r (now (work .exit)) ⌝ }
+{
+    let nodes = counts.nodes;
+    let marks_at = shape.marks_at();
+    let hits_at = shape.hits_at();
+    let hits_end = shape.work_size();
+    begin(shape, counts, floats, work, query);
+    let mut waiting = 1;
+    let mut opened = 0;
+    let mut hits = 0;
+    let end: Walked;
+    'walk: loop {
+        if waiting == 0 {
+            end = Walked::Ended {
+                hits,
+                opened,
+                whole: true,
+            };
+            break 'walk;
+        }
+        if opened == ef_search {
+            end = Walked::Ended {
+                hits,
+                opened,
+                whole: false,
+            };
+            break 'walk;
+        }
+        let least = pop(work, waiting, 2);
+        waiting -= 1;
+        opened += 1;
+        let node = least.rest as usize;
+        let shown = look_at(shape, counts, numbers, hashes, wanted, node);
+        match shown {
+            Look::Damaged => {
+                end = Walked::Damaged;
+                break 'walk;
+            }
+            Look::Leaf(list) => {
+                let added = add_hits(
+                    shape,
+                    counts,
+                    floats,
+                    numbers,
+                    hashes,
+                    &mut work[hits_at..hits_end],
+                    hits,
+                    query,
+                    wanted,
+                    list,
+                );
+                match added {
+                    Added::Damaged => {
+                        end = Walked::Damaged;
+                        break 'walk;
+                    }
+                    Added::Hits(total) => {
+                        hits = total;
+                    }
+                }
+            }
+            Look::Inner(children) => {
+                let start = children.start;
+                let count = children.count;
+                let mut j = 0;
+                while j < count {
+                    let child = wide(numbers[start + j]);
+                    if !fresh_child(work, marks_at, nodes, node, child) {
+                        end = Walked::Damaged;
+                        break 'walk;
+                    }
+                    let key = distance_key(floats, query, shape.dimension, shape.vectors + child);
+                    push_node(shape, work, waiting, child, key);
+                    waiting += 1;
+                    j += 1;
+                }
+            }
+        }
+    }
+    end
+}

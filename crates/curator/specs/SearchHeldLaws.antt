@@ -1,0 +1,92 @@
+-- 'Parts past the counts held are never read', of both searches: stores that agree on what is held, whatever else stands in them and in the work
+-- lists, give the same answer and the same answer lists. The walk over them is the same (crates/walk, HeldLaws).
+use Prim.Native.Nat.{ℕ, _^_, _≤_, _<_}
+use mathlib.Core.Bool.{Bool, true, not, _||_}
+use mathlib.Core.List.{List, [], _∷_}
+use mathlib.Core.Path.{_≡_, refl, sym, ap, _∙_, subst}
+use native.Mathlib.Omega.{arith}
+use borrow.Author.Tests.{not-false, ltb-true}
+use lib.Dec.{eqb, ltb}
+use lib.ListN.{length}
+use Rattle.distance.specs.Normalized.{normalized, normalized-is}
+use Rattle.distance.specs.Vector.{allFinite}
+use Rattle.store.specs.Store.{Store}
+use Rattle.walk.specs.HeldLaws.{SameHeld, same-held}
+use Rattle.walk.specs.Walk.{State, damaged, going}
+use Rattle.curator.specs.declared.Check.{Check}
+use Rattle.curator.specs.declared.Check.the-variants.{Fine, Refused}
+use Rattle.curator.specs.declared.CuratorIndex.{CuratorIndex}
+use Rattle.curator.specs.declared.refusal.Refusal.the-variants as Refusal′
+use Rattle.curator.specs.declared.refusal.StateRefusal.the-variants.{NotBuilt}
+use Rattle.curator.specs.declared.refusal.InputRefusal.the-variants.{DimensionMismatch, NonFiniteInput, AnswerTooShort}
+use Rattle.curator.specs.declared.refusal.StoreRefusal.the-variants.{ListTooShort}
+use Rattle.curator.specs.Calls.{lengthsOf}
+use Rattle.curator.specs.Limits.{builtAllowed, stateSound, indexShape}
+use Rattle.curator.specs.RowLaws.{fine-none}
+use Rattle.curator.specs.Rows.{row, firstOf, stateRow, listsShort, searchRows}
+use Rattle.curator.specs.SearchRowLaws.{walkFor, walkOf, earlyRows, search-check-rows}
+use Rattle.curator.specs.Searches.{SearchCall, SearchEnd, wantedOf, searchCheck, Walked, WalkedTo, SearchesBy, Searches}
+use Rattle.curator.specs.StateLaws.{and-all, sound-facts}
+
+-- two ends of a search with the same answer and the same answer lists; the work lists are free
+pub record SameEnd (a b : SearchEnd) : Type 0 where
+  pub answer : a .answer ≡ b .answer
+  pub ids : a .ids ≡ b .ids
+  pub distances : a .distances ≡ b .distances
+
+-- ---- the rows
+
+rowsBy : CuratorIndex → SearchCall → Bool → Check
+rowsBy index call short =
+    firstOf
+    (stateRow (stateSound index) ∷ row short (Refusal′.Store ListTooShort) ∷ row (not (index .built)) (Refusal′.State NotBuilt)
+    ∷ row (not (eqb (length (call .query)) (index .dimension))) (Refusal′.Input DimensionMismatch)
+    ∷ row (not (allFinite (call .query))) (Refusal′.Input NonFiniteInput)
+    ∷ row (ltb (length (call .ids)) (call .k) || ltb (length (call .distances)) (call .k)) (Refusal′.Input AnswerTooShort)
+    ∷ [])
+
+check-by : (index : CuratorIndex) (store : Store) (work : List ℕ) (call : SearchCall)
+    → searchCheck index store work call ≡ rowsBy index call (listsShort (indexShape index) (lengthsOf store work))
+unfolding searchCheck searchRows rowsBy
+check-by index store work call = refl
+
+-- an accepted search is of an index with a node
+some-node : (index : CuratorIndex) (store : Store) (work : List ℕ) (call : SearchCall) → searchCheck index store work call ≡ Fine
+    → (0 < index .counts .nodes) × (index .counts .nodes ≤ 2 ^ 64)
+unfolding searchRows builtAllowed
+some-node index store work call f =
+    let (sound, (_, (built, _))) = fine-none (earlyRows index store work call) (sym (search-check-rows index store work call) ∙ f) in
+    let facts = sound-facts index (not-false _ sound) in
+    let allowed = subst (λ (b : Bool). builtAllowed b (index .counts) ≡ true) (not-false (index .built) built) (facts .built) in
+    let (_, nodes) = and-all (ltb 0 (index .counts .vectors)) (ltb 0 (index .counts .nodes)) allowed in
+    (ltb-true 0 (index .counts .nodes) nodes, omega (arith, facts .nodes, facts .limits .nodes-high))
+
+-- ---- the law
+
+module _ (index : CuratorIndex) (call : SearchCall) (work other : List ℕ) (a b : SearchEnd) where
+  ended : (state : State) → WalkedTo state index work call a → WalkedTo state index other call b → SameEnd a b
+  unfolding WalkedTo
+  ended damaged x y = record { answer = x .answer ∙ sym (y .answer); ids = x .ids ∙ sym (y .ids); distances = x .distances ∙ sym (y .distances) }
+  ended (going p) x y = record { answer = x .answer ∙ sym (y .answer); ids = x .ids ∙ sym (y .ids); distances = x .distances ∙ sym (y .distances) }
+
+  -- by the walk for the normalised query
+  walked-of : (store : Store) (work : List ℕ) (end : SearchEnd) → Walked index store work call end → WalkedTo (walkOf index store call) index work call end
+  walked-of store work end w =
+      subst (λ (q : List _). WalkedTo (walkFor index store call q) index work call end) (normalized-is (call .query) (w .query) (w .normalized)) (w .walked)
+
+  pub searches-same : (s t : Store) → listsShort (indexShape index) (lengthsOf s work) ≡ listsShort (indexShape index) (lengthsOf t other)
+      → SameHeld (indexShape index) (index .counts) s t → Searches index s work call a → Searches index t other call b → SameEnd a b
+  unfolding Searches SearchesBy
+  searches-same s t short same x y = by (searchCheck index s work call) refl x (subst (λ (c : Check). SearchesBy c index t other call b) (sym check) y)
+    where
+      check : searchCheck index s work call ≡ searchCheck index t other call
+      check = check-by index s work call ∙ ap (rowsBy index call) short ∙ sym (check-by index t other call)
+
+      by : (c : Check) → searchCheck index s work call ≡ c → SearchesBy c index s work call a → SearchesBy c index t other call b → SameEnd a b
+      by Fine f w v =
+          let (some, fits) = some-node index s work call f in
+          let walks = same-held (indexShape index) (index .counts) s t same (normalized (call .query)) (wantedOf (call .asked)) some fits (index .params .«ef_search») in
+          ended (walkOf index s call) (walked-of s work a w)
+          (subst (λ (state : State). WalkedTo state index other call b) (sym walks) (walked-of t other b v))
+      by (Refused r) f u v =
+          record { answer = u .answer ∙ sym (v .answer); ids = u .ids ∙ sym (v .ids); distances = u .distances ∙ sym (v .distances) }

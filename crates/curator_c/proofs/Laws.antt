@@ -1,0 +1,122 @@
+-- Each result, from what is known where its function returns: by what the list holds.
+use Prim.Native.Nat.{ℕ, _≤_, _<_}
+use mathlib.Core.List.{List}
+use mathlib.Core.Path.{_≡_, refl, sym, subst}
+use borrow.Author.Tests.{lt-ltb, le-ltb}
+use lib.Ieee.{Float}
+use lib.ListN.{length}
+use lib.Seq.{sets}
+use Rattle.store.specs.Store.{Store}
+use Rattle.curator.specs.declared.Changed.{Changed}
+use Rattle.curator.specs.declared.Changed.the-variants as Changed′
+use Rattle.curator.specs.declared.CuratorIndex.{CuratorIndex}
+use Rattle.curator.specs.declared.Found.{Found}
+use Rattle.curator.specs.declared.Found.the-variants as Found′
+use Rattle.curator.specs.declared.refusal.Refusal.{Refusal}
+use Rattle.curator.specs.Outcome.{number, foundNumber, foundValues}
+use Rattle.curator.specs.Changes.{AddCall, Adds, Builds}
+use Rattle.curator.specs.Searches.{SearchCall, SearchEnd, Searches}
+use Rattle.curator_c.specs.declared.state.Held.{Held}
+use Rattle.curator_c.specs.declared.state.Held.the-variants.{State, Nothing}
+use Rattle.curator_c.specs.State.{places, stateList, stateIn}
+use Rattle.curator_c.specs.Results.{invalid, storable, Returns, AddsIn, AddResult, BuildsIn, BuildResult, hitsAsked, withHits, asking, ended, SearchesIn, SearchResult}
+use Rattle.curator_c.specs.ResultLaws.{storable-held}
+
+-- ---- an answer and the state list
+
+pub returns-refused : (list : List ℕ) (answer : Changed) (r : Refusal) (n : ℕ)
+    → answer ≡ Changed′.Refused r → n ≡ number r → Returns (storable list answer) list n list
+unfolding storable
+returns-refused list answer r n e h = subst (λ (a : Changed). Returns (storable list a) list n list) (sym e) (record { number = h; list = refl })
+
+pub returns-short : (list : List ℕ) (answer : Changed) (index : CuratorIndex)
+    → answer ≡ Changed′.Index index → length list < places → Returns (storable list answer) list 4 list
+unfolding storable
+returns-short list answer index e h =
+    let short : storable list answer ≡ Changed′.Refused invalid = rw (e, lt-ltb (length list) places h) refl in
+    subst (λ (a : Changed). Returns a list 4 list) (sym short) (record { number = refl; list = refl })
+
+pub returns-kept : (list : List ℕ) (answer : Changed) (index : CuratorIndex) (list′ : List ℕ)
+    → answer ≡ Changed′.Index index → places ≤ length list → list′ ≡ sets list 0 (stateList index) → Returns (storable list answer) list 0 list′
+unfolding storable
+returns-kept list answer index list′ e h s =
+    let kept : storable list answer ≡ Changed′.Index index = rw (e, le-ltb (length list) places h) refl in
+    subst (λ (a : Changed). Returns a list 0 list′) (sym kept) (record { number = refl; list = s })
+
+-- ---- add
+
+pub add-nothing : (list : List ℕ) (store : Store) (call : AddCall) → stateIn list ≡ Nothing → AddResult list store call 4 list store
+unfolding AddsIn
+add-nothing list store call e =
+    record {
+      answer = Changed′.Refused invalid;
+      adds = subst (λ (held : Held). AddsIn held store call (Changed′.Refused invalid) store) (sym e) (refl, refl);
+      returns = record { number = refl; list = refl };
+    }
+
+pub add-held : (list : List ℕ) (index : CuratorIndex) (store : Store) (call : AddCall) (answer : Changed) (n : ℕ) (list′ : List ℕ) (store′ : Store)
+    → stateIn list ≡ State index → Adds index store call answer store′ → Returns (storable list answer) list n list′
+    → AddResult list store call n list′ store′
+unfolding AddsIn
+add-held list index store call answer n list′ store′ e adds returns =
+    record {
+      answer = answer;
+      adds = subst (λ (held : Held). AddsIn held store call answer store′) (sym e) adds;
+      returns = subst (λ (a : Changed). Returns a list n list′) (storable-held list index answer e) returns;
+    }
+
+-- ---- build
+
+pub build-nothing : (list : List ℕ) (store : Store) (work : List ℕ) → stateIn list ≡ Nothing → BuildResult list store work 4 list store work
+unfolding BuildsIn
+build-nothing list store work e =
+    record {
+      answer = Changed′.Refused invalid;
+      builds = subst (λ (held : Held). BuildsIn held store work (Changed′.Refused invalid) store work) (sym e) (refl, refl, refl);
+      returns = record { number = refl; list = refl };
+    }
+
+pub build-held : (list : List ℕ) (index : CuratorIndex) (store : Store) (work : List ℕ) (answer : Changed) (n : ℕ) (list′ : List ℕ) (store′ : Store) (work′ : List ℕ)
+    → stateIn list ≡ State index → Builds index store work answer store′ work′ → Returns (storable list answer) list n list′
+    → BuildResult list store work n list′ store′ work′
+unfolding BuildsIn
+build-held list index store work answer n list′ store′ work′ e builds returns =
+    record {
+      answer = answer;
+      builds = subst (λ (held : Held). BuildsIn held store work answer store′ work′) (sym e) builds;
+      returns = subst (λ (a : Changed). Returns a list n list′) (storable-held list index answer e) returns;
+    }
+
+-- ---- the searches
+
+pub search-nothing : (list : List ℕ) (store : Store) (work : List ℕ) (call : SearchCall) (values : List ℕ)
+    → stateIn list ≡ Nothing → SearchResult list store work call values 4 work (call .ids) (call .distances) values
+unfolding SearchesIn
+search-nothing list store work call values e =
+    record {
+      found = Found′.Refused invalid;
+      searches =
+          subst (λ (held : Held). SearchesIn held store work (asking values call) (ended (Found′.Refused invalid) work (call .ids) (call .distances)))
+          (sym e)
+          (record { answer = refl; work = refl; ids = refl; distances = refl });
+      number = refl;
+      values = refl;
+    }
+
+-- the search for the hits that are asked for
+pub asked : (index : CuratorIndex) (store : Store) (work values : List ℕ) (call : SearchCall) (end : SearchEnd) (hits : ℕ)
+    → hits ≡ hitsAsked (length values) (length (call .ids)) (call .k) → Searches index store work (withHits hits call) end
+    → Searches index store work (asking values call) end
+asked index store work values call end hits e searches = subst (λ (k : ℕ). Searches index store work (withHits k call) end) e searches
+
+pub search-held : (list : List ℕ) (index : CuratorIndex) (store : Store) (work : List ℕ) (call : SearchCall) (values : List ℕ) (found : Found) (n : ℕ) (work′ ids′ : List ℕ) (distances′ : List Float) (values′ : List ℕ)
+    → stateIn list ≡ State index → Searches index store work (asking values call) (ended found work′ ids′ distances′) → n ≡ foundNumber found
+    → values′ ≡ sets values 0 (foundValues found) → SearchResult list store work call values n work′ ids′ distances′ values′
+unfolding SearchesIn
+search-held list index store work call values found n work′ ids′ distances′ values′ e searches number told =
+    record {
+      found = found;
+      searches = subst (λ (held : Held). SearchesIn held store work (asking values call) (ended found work′ ids′ distances′)) (sym e) searches;
+      number = number;
+      values = told;
+    }

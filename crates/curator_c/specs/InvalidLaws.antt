@@ -1,0 +1,118 @@
+-- 'No sound state in the list is 4': what each call does where the list holds no state, or one that is not sound.
+use Prim.Native.Nat.{ℕ}
+use mathlib.Core.Bool.{Bool, false, not}
+use mathlib.Core.List.{List, []}
+use mathlib.Core.Path.{_≡_, ap, _∙_, subst}
+use lib.Ieee.{Float}
+use lib.ListN.{length}
+use lib.Seq.{sets}
+use Rattle.store.specs.Store.{Store}
+use Rattle.curator.specs.declared.Changed.{Changed}
+use Rattle.curator.specs.declared.Changed.the-variants as Changed′
+use Rattle.curator.specs.declared.Check.{Check}
+use Rattle.curator.specs.declared.Check.the-variants as Check′
+use Rattle.curator.specs.declared.CuratorIndex.{CuratorIndex}
+use Rattle.curator.specs.declared.Found.{Found}
+use Rattle.curator.specs.declared.Found.the-variants as Found′
+use Rattle.curator.specs.Limits.{stateSound}
+use Rattle.curator.specs.Outcome.{foundNumber, foundValues}
+use Rattle.curator.specs.Rows.{stateRow, addRows, buildRows, searchRows}
+use Rattle.curator.specs.RowLaws.{row-stops}
+use Rattle.curator.specs.Calls.{factsOf, lengthsOf}
+use Rattle.curator.specs.Changes.{AddCall, AddsBy, addCheck, Adds, ownersDamaged, tooManyNodes, BuildsBy, buildCheck, Builds, Freed, freeOf}
+use Rattle.curator.specs.Searches.{SearchCall, Untouched, SearchesBy, searchCheck, Searches}
+use Rattle.curator_c.specs.declared.state.Held.{Held}
+use Rattle.curator_c.specs.declared.state.Held.the-variants.{State, Nothing}
+use Rattle.curator_c.specs.State.{stateIn}
+use Rattle.curator_c.specs.Results.{invalid, Returns, AddsIn, AddResult, BuildsIn, BuildResult, asking, ended, SearchesIn, SearchResult}
+
+-- whether a list holds a sound state
+unfoldable pub soundIn : Held → Bool
+unfolding stateSound
+soundIn Nothing = false
+soundIn (State index) = stateSound index
+
+-- row 4 comes first in each call
+add-first : (index : CuratorIndex) (store : Store) (call : AddCall) → stateSound index ≡ false → addCheck index store call ≡ Check′.Refused invalid
+unfolding addCheck
+add-first index store call u =
+    row-stops (stateRow (stateSound index)) (addRows (factsOf index) (lengthsOf store []) (call .vector) (call .lengths) (call .bytes)) (ap not u)
+
+build-first : (index : CuratorIndex) (store : Store) (work : List ℕ) → stateSound index ≡ false → buildCheck index store work ≡ Check′.Refused invalid
+unfolding buildCheck
+build-first index store work u =
+    row-stops (stateRow (stateSound index))
+    (buildRows (factsOf index) (lengthsOf store work) (ownersDamaged index store) (tooManyNodes index store))
+    (ap not u)
+
+search-first : (index : CuratorIndex) (store : Store) (work : List ℕ) (call : SearchCall)
+    → stateSound index ≡ false → searchCheck index store work call ≡ Check′.Refused invalid
+unfolding searchCheck
+search-first index store work call u =
+    row-stops (stateRow (stateSound index))
+    (searchRows (factsOf index) (lengthsOf store work) (call .query) (call .k) (length (call .ids)) (length (call .distances)))
+    (ap not u)
+
+refused-invalid : (answer : Changed) (state : List ℕ) (n : ℕ) (state′ : List ℕ)
+    → answer ≡ Changed′.Refused invalid → Returns answer state n state′ → (n ≡ 4) × (state′ ≡ state)
+refused-invalid answer state n state′ e returns =
+    let r = subst (λ (a : Changed). Returns a state n state′) e returns in
+    (r .number, r .list)
+
+pub add-invalid : (state : List ℕ) (store : Store) (call : AddCall) (n : ℕ) (state′ : List ℕ) (store′ : Store)
+    → soundIn (stateIn state) ≡ false → AddResult state store call n state′ store′ → (n ≡ 4) × (state′ ≡ state) × (store′ ≡ store)
+unfolding soundIn AddsIn Adds AddsBy
+add-invalid state store call n state′ store′ u result =
+    let (refused, kept) = by (stateIn state) u (result .adds) in
+    let (number, list) = refused-invalid (result .answer) state n state′ refused (result .returns) in
+    (number, list, kept)
+  where
+    by : (held : Held) → soundIn held ≡ false → AddsIn held store call (result .answer) store′
+        → (result .answer ≡ Changed′.Refused invalid) × (store′ ≡ store)
+    by Nothing e adds = adds
+    by (State index) e adds =
+        subst (λ (check : Check). AddsBy check index store call (result .answer) store′) (add-first index store call e) adds
+
+same-store : (s t : Store) → s .floats ≡ t .floats → s .numbers ≡ t .numbers → s .hashes ≡ t .hashes → s ≡ t
+same-store s t f n h =
+    ap (λ (l : List Float). record { floats = l; numbers = s .numbers; hashes = s .hashes }) f
+    ∙ ap (λ (l : List ℕ). record { floats = t .floats; numbers = l; hashes = s .hashes }) n
+    ∙ ap (λ (l : List ℕ). record { floats = t .floats; numbers = t .numbers; hashes = l }) h
+
+pub build-invalid : (state : List ℕ) (store : Store) (work : List ℕ) (n : ℕ) (state′ : List ℕ) (store′ : Store) (work′ : List ℕ)
+    → soundIn (stateIn state) ≡ false → BuildResult state store work n state′ store′ work′
+    → (n ≡ 4) × (state′ ≡ state) × (store′ ≡ store) × (work′ ≡ work)
+unfolding soundIn BuildsIn Builds BuildsBy Freed freeOf
+build-invalid state store work n state′ store′ work′ u result =
+    let (refused, kept, free) = by (stateIn state) u (result .builds) in
+    let (number, list) = refused-invalid (result .answer) state n state′ refused (result .returns) in
+    (number, list, kept, free)
+  where
+    by : (held : Held) → soundIn held ≡ false → BuildsIn held store work (result .answer) store′ work′
+        → (result .answer ≡ Changed′.Refused invalid) × (store′ ≡ store) × (work′ ≡ work)
+    by Nothing e builds = builds
+    by (State index) e builds =
+        let (refused, left) =
+        subst (λ (check : Check). BuildsBy check index store work (result .answer) store′ work′) (build-first index store work e) builds in
+        (refused, same-store store′ store (left .floats) (left .numbers) (left .hashes), left .work)
+
+pub search-invalid : (state : List ℕ) (store : Store) (work : List ℕ) (call : SearchCall) (answer : List ℕ) (n : ℕ) (work′ ids′ : List ℕ) (distances′ : List Float) (answer′ : List ℕ)
+    → soundIn (stateIn state) ≡ false → SearchResult state store work call answer n work′ ids′ distances′ answer′
+    → (n ≡ 4) × (work′ ≡ work) × (ids′ ≡ call .ids) × (distances′ ≡ call .distances) × (answer′ ≡ answer)
+unfolding soundIn SearchesIn Searches SearchesBy
+search-invalid state store work call answer n work′ ids′ distances′ answer′ u result =
+    let left = by (stateIn state) u (result .searches) in (
+      result .number ∙ ap foundNumber (left .answer),
+      left .work,
+      left .ids,
+      left .distances,
+      result .values ∙ ap (λ (f : Found). sets answer 0 (foundValues f)) (left .answer),
+    )
+  where
+    by : (held : Held) → soundIn held ≡ false → SearchesIn held store work (asking answer call) (ended (result .found) work′ ids′ distances′)
+        → Untouched work (asking answer call) (Found′.Refused invalid) (ended (result .found) work′ ids′ distances′)
+    by Nothing e searches = searches
+    by (State index) e searches =
+        subst (λ (check : Check). SearchesBy check index store work (asking answer call) (ended (result .found) work′ ids′ distances′))
+        (search-first index store work (asking answer call) e)
+        searches

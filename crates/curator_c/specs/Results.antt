@@ -1,0 +1,116 @@
+-- What each exported function returns and leaves, by the result of the index's own call on the state that the list holds.
+use Prim.Native.Nat.{ℕ, _+_}
+use mathlib.Core.Bool.{cond}
+use mathlib.Core.List.{List}
+use mathlib.Core.Path.{_≡_}
+use lib.Dec.{ltb}
+use lib.Ieee.{Float}
+use lib.ListN.{length}
+use lib.Seq.{sets}
+use Rattle.store.specs.Store.{Store}
+use Rattle.curator.specs.declared.Capacities.{Capacities}
+use Rattle.curator.specs.declared.Changed.{Changed}
+use Rattle.curator.specs.declared.Changed.the-variants as Changed′
+use Rattle.curator.specs.declared.CuratorParams.{CuratorParams}
+use Rattle.curator.specs.declared.Found.{Found}
+use Rattle.curator.specs.declared.Found.the-variants as Found′
+use Rattle.curator.specs.declared.refusal.Refusal.{Refusal}
+use Rattle.curator.specs.declared.refusal.Refusal.the-variants as Refusal′
+use Rattle.curator.specs.declared.refusal.StateRefusal.the-variants.{InvalidState}
+use Rattle.curator.specs.Outcome.{changedNumber, foundNumber, foundValues}
+use Rattle.curator.specs.Changes.{created, AddCall, Adds, Builds}
+use Rattle.curator.specs.Searches.{SearchCall, SearchEnd, Untouched, Searches}
+use Rattle.curator_c.specs.declared.state.Held.{Held}
+use Rattle.curator_c.specs.declared.state.Held.the-variants.{State, Nothing}
+use Rattle.curator_c.specs.State.{places, stateList, stateIn}
+
+-- row 4: no state in the list, or one that is not sound
+abbrev pub invalid : Refusal
+invalid = Refusal′.State InvalidState
+
+-- ---- new, add and build
+
+-- the state list after an answer: the new state in its first places; a refused call leaves it
+abbrev pub stored : List ℕ → Changed → List ℕ
+stored state (Changed′.Index index) = sets state 0 (stateList index)
+stored state (Changed′.Refused r) = state
+
+-- what is returned for an answer, and what it leaves of the state list
+pub record Returns (answer : Changed) (state : List ℕ) (returned : ℕ) (state′ : List ℕ) : Type 0 where
+  pub number : returned ≡ changedNumber answer
+  pub list : state′ ≡ stored state answer
+
+-- an answer where the list has room for a state; otherwise, row 4 for a new state
+unfoldable pub storable : List ℕ → Changed → Changed
+storable state (Changed′.Index index) = cond (ltb (length state) places) (Changed′.Refused invalid) (Changed′.Index index)
+storable state (Changed′.Refused r) = Changed′.Refused r
+
+-- the whole result of `curator_new`: 1, 2, then 4 where the list cannot hold a state
+unfoldable pub NewResult : ℕ → CuratorParams → Capacities → List ℕ → ℕ → List ℕ → Type 0
+unfolding storable created
+NewResult dimension params capacities state returned state′ = Returns (storable state (created dimension params capacities)) state returned state′
+
+-- an add to the state that a list holds
+unfoldable pub AddsIn : Held → Store → AddCall → Changed → Store → Type 0
+unfolding Adds
+AddsIn Nothing store call answer store′ = (answer ≡ Changed′.Refused invalid) × (store′ ≡ store)
+AddsIn (State index) store call answer store′ = Adds index store call answer store′
+
+-- the whole result of `curator_add`: state list, store and call at entry; what is returned, state list and store at exit
+pub record AddResult (state : List ℕ) (store : Store) (call : AddCall) (returned : ℕ) (state′ : List ℕ) (store′ : Store) : Type 0 where
+  pub answer : Changed
+  pub adds : AddsIn (stateIn state) store call answer store′
+  pub returns : Returns answer state returned state′
+
+-- a build of the state that a list holds
+unfoldable pub BuildsIn : Held → Store → List ℕ → Changed → Store → List ℕ → Type 0
+unfolding Builds
+BuildsIn Nothing store work answer store′ work′ = (answer ≡ Changed′.Refused invalid) × (store′ ≡ store) × (work′ ≡ work)
+BuildsIn (State index) store work answer store′ work′ = Builds index store work answer store′ work′
+
+-- the whole result of `curator_build`
+pub record BuildResult (state : List ℕ) (store : Store) (lent : List ℕ) (returned : ℕ) (state′ : List ℕ) (store′ : Store) (lent′ : List ℕ) : Type 0 where
+  pub answer : Changed
+  pub builds : BuildsIn (stateIn state) store lent answer store′ lent′
+  pub returns : Returns answer state returned state′
+
+-- ---- the searches
+
+-- The list that takes hit count, opened, and whole or cut is an answer list too. Where it has fewer than three places, the search is one for more
+-- hits than `ids` has places: row 14 refuses it, unless a row before 14 does (`short-answer` and `long-answer` of ResultLaws).
+abbrev pub hitsAsked : ℕ → ℕ → ℕ → ℕ
+hitsAsked answer ids k = cond (ltb answer 3) (ids + 1) k
+
+abbrev pub withHits : ℕ → SearchCall → SearchCall
+withHits hits call =
+    record { query = call .query; asked = call .asked; k = hits; ids = call .ids; distances = call .distances }
+
+abbrev pub asking : List ℕ → SearchCall → SearchCall
+asking answer call = withHits (hitsAsked (length answer) (length (call .ids)) (call .k)) call
+
+-- a search in the state that a list holds
+unfoldable pub SearchesIn : Held → Store → List ℕ → SearchCall → SearchEnd → Type 0
+unfolding Searches
+SearchesIn Nothing store work call end = Untouched work call (Found′.Refused invalid) end
+SearchesIn (State index) store work call end = Searches index store work call end
+
+-- what a search leaves: its answer, the work list and the two lists of hits
+abbrev pub ended : Found → List ℕ → List ℕ → List Float → SearchEnd
+ended found work ids distances = record { answer = found; work = work; ids = ids; distances = distances }
+
+-- The whole result of both searches: state list, store, work, call and answer list at entry; what is returned, and work, ids, distances and answer
+-- list, at exit. A refused call has no values, so it leaves the answer list.
+pub record SearchResult (state : List ℕ) (store : Store) (lent : List ℕ) (call : SearchCall) (answer : List ℕ) (returned : ℕ) (lent′ ids′ : List ℕ) (distances′ : List Float) (answer′ : List ℕ) : Type 0 where
+  pub found : Found
+  pub searches : SearchesIn (stateIn state) store lent (asking answer call) (ended found lent′ ids′ distances′)
+  pub number : returned ≡ foundNumber found
+  pub values : answer′ ≡ sets answer 0 (foundValues found)
+
+-- ---- the settings that `curator_new` is handed
+
+abbrev pub paramsOf : ℕ → ℕ → ℕ → ℕ → CuratorParams
+paramsOf branching leaf ef beam =
+    record { «branching_factor» = branching; «max_leaf_size» = leaf; «ef_search» = ef; «beam_width» = beam }
+
+abbrev pub capacitiesOf : ℕ → ℕ → ℕ → Capacities
+capacitiesOf vectors entries nodes = record { vectors = vectors; entries = entries; nodes = nodes }

@@ -1,0 +1,29 @@
+-- What some lists hold, computed.
+use mathlib.Core.Bool.{true}
+use mathlib.Core.List.{[], _∷_}
+use mathlib.Core.Path.{_≡_, refl}
+use Rattle.curator_c.specs.declared.state.Held.the-variants.{State, Nothing}
+use Rattle.curator_c.specs.State.{stateIn}
+
+-- the state of document 01's worked example, built, with a number more in the list
+built-example :
+    stateIn (2 ∷ 2 ∷ 1 ∷ 5 ∷ 4 ∷ 128 ∷ 256 ∷ 512 ∷ 3 ∷ 3 ∷ 5 ∷ 1 ∷ 77 ∷ [])
+    ≡ State
+    (record {
+      dimension = 2;
+      params = record { «branching_factor» = 2; «max_leaf_size» = 1; «ef_search» = 5; «beam_width» = 4 };
+      capacities = record { vectors = 128; entries = 256; nodes = 512 };
+      counts = record { vectors = 3; entries = 3; nodes = 5 };
+      built = true;
+    })
+unfolding stateIn
+built-example = refl
+
+-- a flag of 2, and eleven numbers
+flag-2 : stateIn (2 ∷ 2 ∷ 1 ∷ 5 ∷ 4 ∷ 128 ∷ 256 ∷ 512 ∷ 3 ∷ 3 ∷ 5 ∷ 2 ∷ []) ≡ Nothing
+unfolding stateIn
+flag-2 = refl
+
+eleven : stateIn (2 ∷ 2 ∷ 1 ∷ 5 ∷ 4 ∷ 128 ∷ 256 ∷ 512 ∷ 3 ∷ 3 ∷ 0 ∷ []) ≡ Nothing
+unfolding stateIn
+eleven = refl

@@ -1,0 +1,231 @@
+// The index for C and Rust: each function takes the state as a lent list of numbers and returns 0, or document 01's number of the refusal.
+ghost use mathlib.Core.Path.{_≡_};
+ghost use Prim.Native.Nat.{_<_, _≤_, _^_};
+ghost use denote.Ref.{now};
+ghost use lib.ListN.{length};
+ghost use lib.Seq.{sets};
+ghost use Rattle.curator.specs.Lent.{lent, adding};
+ghost use Rattle.curator.specs.Outcome.{foundNumber, foundValues};
+ghost use Rattle.search.specs.Lent.{filtered, unfiltered};
+ghost use Rattle.curator_c.specs.Results.{paramsOf, capacitiesOf, storable, Returns, hitsAsked};
+ghost use Rattle.curator_c.specs.Results.{NewResult, AddResult, BuildResult, SearchResult};
+
+pub mod state;
+
+use curator::Capacities;
+use curator::Changed;
+use curator::CuratorIndex;
+use curator::CuratorParams;
+use curator::Found;
+use state::Held;
+
+// What is returned where the call is answered, and where the list holds no state.
+const ANSWERED: u32 = 0;
+
+const INVALID_STATE: u32 = 4;
+
+// Returns the number of an answer, and keeps its state in the list.
+fn keep(answer: Changed, state: &mut [usize]) -> u32
+    ensures { λ r. ⌜ Returns (storable (now (state .entry)) answer) (now (state .entry)) r (now (state .exit)) ⌝ }
+{
+    match answer {
+        Changed::Refused(refusal) => refusal.number(),
+        Changed::Index(index) => {
+            if state.len() < state::STATE {
+                return INVALID_STATE;
+            }
+            state::write_state(index, state);
+            ANSWERED
+        }
+    }
+}
+
+// An index that holds nothing.
+#[no_mangle]
+pub extern "C" fn curator_new(
+    dimension: usize,
+    branching_factor: usize,
+    max_leaf_size: usize,
+    ef_search: usize,
+    beam_width: usize,
+    vectors: usize,
+    entries: usize,
+    nodes: usize,
+    state: &mut [usize],
+) -> u32
+    ensures { λ r. ⌜ NewResult dimension (paramsOf «branching_factor» «max_leaf_size» «ef_search» «beam_width») (capacitiesOf vectors entries nodes)
+        (now (state .entry))
+        r
+        (now (state .exit)) ⌝ }
+{
+    let params = CuratorParams {
+        branching_factor,
+        max_leaf_size,
+        ef_search,
+        beam_width,
+    };
+    let capacities = Capacities {
+        vectors,
+        entries,
+        nodes,
+    };
+    keep(CuratorIndex::new(dimension, params, capacities), state)
+}
+
+// Adds a vector under a document id, with labels: `lengths` cuts them from `bytes`.
+#[no_mangle]
+pub extern "C" fn curator_add(
+    state: &mut [usize],
+    floats: &mut [f32],
+    numbers: &mut [u32],
+    hashes: &mut [u64],
+    doc_id: u32,
+    vector: &[f32],
+    lengths: &[u8],
+    bytes: &[u8],
+) -> u32
+    ensures { λ r. ⌜ AddResult (now (state .entry)) (lent (floats .entry) (numbers .entry) (hashes .entry))
+        (adding «doc_id» (vector .entry) (lengths .entry) (bytes .entry))
+        r
+        (now (state .exit)) (lent (floats .exit) (numbers .exit) (hashes .exit)) ⌝ }
+{
+    match state::state_in(state) {
+        Held::Nothing => INVALID_STATE,
+        Held::State(index) => keep(
+            index.add(floats, numbers, hashes, doc_id, vector, lengths, bytes),
+            state,
+        ),
+    }
+}
+
+// Makes the tree of what is held, once.
+#[no_mangle]
+pub extern "C" fn curator_build(
+    state: &mut [usize],
+    floats: &mut [f32],
+    numbers: &mut [u32],
+    hashes: &mut [u64],
+    work: &mut [u32],
+) -> u32
+    ensures { λ r. ⌜ BuildResult (now (state .entry)) (lent (floats .entry) (numbers .entry) (hashes .entry)) (now (work .entry))
+        r
+        (now (state .exit)) (lent (floats .exit) (numbers .exit) (hashes .exit)) (now (work .exit)) ⌝ }
+{
+    match state::state_in(state) {
+        Held::Nothing => INVALID_STATE,
+        Held::State(index) => keep(build::build(index, floats, numbers, hashes, work), state),
+    }
+}
+
+// How many hits to ask the search for: k, or more than `ids` has places where the answer list has no room for the answer.
+fn hits_asked(answer: usize, ids: usize, k: usize) -> usize
+    requires { ⌜ ids < 2 ^ 63 ⌝ }
+    ensures { λ r. ⌜ r ≡ hitsAsked answer ids k ⌝ }
+{
+    if answer < 3 { ids + 1 } else { k }
+}
+
+// Returns the number of an answer, and puts its values into the list.
+fn tell(found: Found, answer: &mut [usize]) -> u32
+    requires { ⌜ length (foundValues found) ≤ length (now answer) ⌝ }
+    ensures { λ r. ⌜ r ≡ foundNumber found ⌝ }
+    ensures { λ _. ⌜ now (answer .exit) ≡ sets (now (answer .entry)) 0 (foundValues found) ⌝ }
+{
+    match found {
+        Found::Refused(refusal) => refusal.number(),
+        Found::Hits {
+            count,
+            opened,
+            whole,
+        } => {
+            answer[0] = count;
+            answer[1] = opened;
+            answer[2] = state::flag(whole);
+            ANSWERED
+        }
+    }
+}
+
+// The nearest k documents that have a vector with a label.
+#[no_mangle]
+pub extern "C" fn curator_search_filtered(
+    state: &[usize],
+    floats: &[f32],
+    numbers: &[u32],
+    hashes: &[u64],
+    work: &mut [u32],
+    query: &[f32],
+    label: &[u8],
+    k: usize,
+    ids: &mut [u32],
+    distances: &mut [f32],
+    answer: &mut [usize],
+) -> u32
+    ensures { λ r. ⌜ SearchResult (now (state .entry)) (lent (floats .entry) (numbers .entry) (hashes .entry)) (now (work .entry))
+        (filtered (query .entry) (label .entry) k (ids .entry) (distances .entry)) (now (answer .entry))
+        r
+        (now (work .exit)) (now (ids .exit)) (now (distances .exit)) (now (answer .exit)) ⌝ }
+{
+    match state::state_in(state) {
+        Held::Nothing => INVALID_STATE,
+        Held::State(index) => {
+            let hits = hits_asked(answer.len(), ids.len(), k);
+            tell(
+                search::search_filtered(
+                    index,
+                    floats,
+                    numbers,
+                    hashes,
+                    work,
+                    query,
+                    label,
+                    hits,
+                    ids,
+                    distances,
+                ),
+                answer,
+            )
+        }
+    }
+}
+
+// The nearest k documents.
+#[no_mangle]
+pub extern "C" fn curator_search(
+    state: &[usize],
+    floats: &[f32],
+    numbers: &[u32],
+    hashes: &[u64],
+    work: &mut [u32],
+    query: &[f32],
+    k: usize,
+    ids: &mut [u32],
+    distances: &mut [f32],
+    answer: &mut [usize],
+) -> u32
+    ensures { λ r. ⌜ SearchResult (now (state .entry)) (lent (floats .entry) (numbers .entry) (hashes .entry)) (now (work .entry))
+        (unfiltered (query .entry) k (ids .entry) (distances .entry)) (now (answer .entry))
+        r
+        (now (work .exit)) (now (ids .exit)) (now (distances .exit)) (now (answer .exit)) ⌝ }
+{
+    match state::state_in(state) {
+        Held::Nothing => INVALID_STATE,
+        Held::State(index) => {
+            let hits = hits_asked(answer.len(), ids.len(), k);
+            tell(
+                search::search(
+                    index,
+                    floats,
+                    numbers,
+                    hashes,
+                    work,
+                    query,
+                    hits,
+                    ids,
+                    distances,
+                ),
+                answer,
+            )
+        }
+    }
+}

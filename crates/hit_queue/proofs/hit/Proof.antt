@@ -1,0 +1,43 @@
+-- `hit` meets its contract. Assumes nothing.
+use Rattle.order.specs.RecordsLaws.{value-is}
+use mathlib.Core.Path.{ap₂, _∙_}
+use Prim.Native.Nat.{_+_, _*_, _^_}
+use borrow.Author.Needs.{needs}
+use Rattle.hit_queue.proofs.hit.Statement.{statement}
+use Rattle.hit_queue.proofs.hit.Tie as tie
+
+mul-wide : tie.Need-mul-wide
+mul-wide c = search needs
+
+shared-slice-read-wide : tie.Need-shared-slice-read-wide
+shared-slice-read-wide c = search needs
+
+wide-requires : tie.Need-wide-requires
+wide-requires c κs = search needs
+
+distance-key-requires : tie.Need-distance-key-requires
+distance-key-requires c κs = search needs
+
+mul-t11 : tie.Need-mul-t11
+mul-t11 c = search needs
+
+add-t13 : tie.Need-add-t13
+add-t13 c = search needs
+
+returns : tie.Need-returns
+returns c =
+    let a = c .before .before .before .before .before .before .args in
+    let number = c .before .wide .ensures .0 in
+    value-is _ ∙ ap₂ (λ key document. key * 2 ^ 64 + (document * 2 ^ 32 + a .i)) (c .distance-key .ensures) number
+
+pub hit-spec : {M : Type 1} → statement M
+hit-spec =
+    tie.close
+    (tie.spec
+    mul-wide
+    shared-slice-read-wide
+    wide-requires
+    distance-key-requires
+    mul-t11
+    add-t13
+    returns)

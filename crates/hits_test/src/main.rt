@@ -1,0 +1,139 @@
+// Hit records of a real search: three echoes are added, the index is built and searched, and a list of eight records is filled from the answer. Every place of
+// the list is printed, so that those from the hit count on are seen to keep what they held; then the same for a count that the two lists do not have.
+ghost use Rattle.hit_records.specs.Hits.{Fills};
+use curator::Capacities;
+use curator::Changed;
+use curator::CuratorIndex;
+use curator::CuratorParams;
+use curator::Found;
+use hit_records::Hit;
+use libc::STDOUT_FILENO;
+
+// The number that filling a list gave, and the list.
+struct Filled {
+    number: u32,
+    hits: [Hit; 8],
+}
+
+// Lends a list of records to be filled. It holds a slice of structs, so it is proved by hand; its callers are covered.
+fn fill(hits: [Hit; 8], ids: &[u32], distances: &[f32], count: usize) -> Filled
+    ensures { λ r. ⌜ Fills hits (now (ids .entry)) (now (distances .entry)) count (r .number) (r .hits) ⌝ }
+{
+    let mut hits = hits;
+    let number = hit_records::curator_hits(&mut hits, ids, distances, count);
+    Filled { number, hits }
+}
+
+fn print_record(hit: Hit) {
+    io::print_decimal(STDOUT_FILENO, hit.id as u64);
+    io::write_all(STDOUT_FILENO, b" ");
+    io::print_hex(
+        STDOUT_FILENO,
+        distance::bits::to_bits(hit.distance) as u64,
+        8,
+    );
+    io::write_all(STDOUT_FILENO, b"\n");
+}
+
+// The number, and every place of the list.
+fn print_filled(filled: Filled) {
+    io::print_decimal(STDOUT_FILENO, filled.number as u64);
+    io::write_all(STDOUT_FILENO, b"\n");
+    let hits = filled.hits;
+    let mut i = 0;
+    while i < 8 {
+        print_record(hits[i]);
+        i += 1;
+    }
+}
+
+// A list of eight places that hold something is filled, and printed.
+fn fill_and_print(ids: &[u32], distances: &[f32], count: usize) {
+    let held = Hit {
+        id: 99,
+        distance: 2.0,
+    };
+    print_filled(fill([held; 8], ids, distances, count));
+}
+
+// The index with an echo added under a document id; a refused call leaves it.
+fn added(
+    index: CuratorIndex,
+    floats: &mut [f32],
+    numbers: &mut [u32],
+    hashes: &mut [u64],
+    doc_id: u32,
+    echo: &[f32],
+) -> CuratorIndex {
+    let one = [1u8];
+    let changed = index.add(floats, numbers, hashes, doc_id, echo, &one, b"a");
+    match changed {
+        Changed::Index(next) => next,
+        Changed::Refused(refusal) => index,
+    }
+}
+
+// The records of the nearest four of three echoes, of 1 and 0, 0 and 2, and 3 and 4, to the first.
+fn records_of_a_search(fresh: CuratorIndex) {
+    let mut floats = [0.0f32; 50];
+    let mut numbers = [0u32; 51];
+    let mut hashes = [0u64; 24];
+    let mut work = [0u32; 27];
+    let mut ids = [0u32; 4];
+    let mut distances = [0.0f32; 4];
+    let query = [1.0f32, 0.0];
+    let one = added(fresh, &mut floats, &mut numbers, &mut hashes, 7, &query);
+    let two = added(
+        one,
+        &mut floats,
+        &mut numbers,
+        &mut hashes,
+        8,
+        &[0.0f32, 2.0],
+    );
+    let three = added(
+        two,
+        &mut floats,
+        &mut numbers,
+        &mut hashes,
+        9,
+        &[3.0f32, 4.0],
+    );
+    let changed = build::build(three, &mut floats, &mut numbers, &mut hashes, &mut work);
+    let Changed::Index(built) = changed else {
+        return;
+    };
+    let found = search::search(
+        built,
+        &floats,
+        &numbers,
+        &hashes,
+        &mut work,
+        &query,
+        4,
+        &mut ids,
+        &mut distances,
+    );
+    match found {
+        Found::Refused(refusal) => (),
+        Found::Hits {
+            count,
+            opened,
+            whole,
+        } => fill_and_print(&ids, &distances, count),
+    }
+    fill_and_print(&ids, &distances, 5);
+}
+
+fn main() {
+    let capacities = Capacities {
+        vectors: 4,
+        entries: 4,
+        nodes: 5,
+    };
+    let made = CuratorIndex::new(2, CuratorParams::default(), capacities);
+    let Changed::Index(fresh) = made else {
+        return;
+    };
+    records_of_a_search(fresh);
+}

@@ -1,0 +1,273 @@
+-- What a search reads of a store, and that nothing else matters: two stores that agree on it give the same search, answer or damage. So garbage in a
+-- denied node, in a node that is not opened, in a list that is not read or past the counts held changes nothing. Assumes nothing.
+use Prim.Native.Nat.{ℕ, zero, suc, _+_, _*_, _<_}
+use native.Mathlib.Omega.{arith}
+use mathlib.Core.Path.{_≡_, refl, sym, ap, ap₂, _∙_, subst}
+use mathlib.Core.Logic.{_⊎_, inl, inr}
+use mathlib.Core.Bool.{Bool, true, false, not, _&&_, cond}
+use mathlib.Core.List.{List, [], _∷_, map, List·Memᴰ, List·Memᴰ·head, List·Memᴰ·tail, List·Memᴰ·not-nil}
+use lib.Dec.{ltb, eqb}
+use lib.Ieee.{Float}
+use lib.ListN.{getD}
+use borrow.Author.Tests.{ltb-true, eqb-true, eqb-false}
+use Rattle.lists.specs.Lists.{part, keep}
+use Rattle.lists.specs.Counting.{which, keep-congr, Memᴰ-keep}
+use Rattle.store.specs.declared.Shape.{Shape}
+use Rattle.store.specs.Store.{Store, vectorAt, orderAt, linksAt, entryOrderAt, filtersAt}
+use Rattle.distance.specs.Distance.{distance}
+use Rattle.distance.specs.TotalOrder.{keyOf}
+use Rattle.label.specs.Filter.{mayContain}
+use Rattle.walk.specs.declared.Wanted.{Wanted}
+use Rattle.walk.specs.declared.Wanted.the-variants.{Everything, Label}
+use Rattle.walk.specs.declared.Counts.{Counts}
+use Rattle.walk.specs.declared.Searched.{Searched}
+use Rattle.walk.specs.Walk.{Shown, State, children, hits, damage, damaged, going, shown, walk}
+use Rattle.walk.specs.WalkLaws.{Alike, Opens, childrenOf, same-walk}
+use Rattle.walk.specs.Answer.{hitOf}
+use Rattle.walk.specs.StoreView.{allPass, blockHeld, nodeField, ownerOf, hitAt, childrenShown, vectorsShown, entriesShown, leafShown, nodeShown, nodeDenied, mostHits, storeView}
+use Rattle.walk.specs.StoreViewLaws.{and-left, and-right, allPass-Memᴰ, allPass-congr, store-shown, store-child}
+use Rattle.walk.specs.Search.{lent, SearchEnds, Searches}
+
+-- ---- what is read, in the order in which a search comes to it
+
+module _ (s : Shape) (c : Counts) (a b : Store) where
+  -- of a node that is pushed: its centroid
+  abbrev pub SameCentroid : ℕ → Type 0
+  SameCentroid i = vectorAt (s .dimension) (a .floats) (s .vectors + i) ≡ vectorAt (s .dimension) (b .floats) (s .vectors + i)
+
+  -- of a list of an opened node, whose start and count are two of the node's six numbers: the count; if it is not empty the start; if it lies within
+  -- what is held its numbers, and something of each. An empty list has no place, so its start is not read.
+  pub record SameList (i field base held : ℕ) (Same : ℕ → Type 0) : Type 0 where
+    pub count : nodeField s c a i (field + 1) ≡ nodeField s c b i (field + 1)
+    pub start : (nodeField s c a i (field + 1) ≡ 0 → ⊥) → nodeField s c a i field ≡ nodeField s c b i field
+    pub numbers : blockHeld (nodeField s c a i field) (nodeField s c a i (field + 1)) held ≡ true
+        → part (base + nodeField s c a i field) (nodeField s c a i (field + 1)) (a .numbers)
+        ≡ part (base + nodeField s c a i field) (nodeField s c a i (field + 1)) (b .numbers)
+    pub each : blockHeld (nodeField s c a i field) (nodeField s c a i (field + 1)) held ≡ true
+        → (x : ℕ) → List·Memᴰ x (part (base + nodeField s c a i field) (nodeField s c a i (field + 1)) (a .numbers)) → Same x
+
+  -- of a vector that is a hit: document id and components
+  pub record SameVector (v : ℕ) : Type 0 where
+    pub document : getD (a .numbers) v 0 ≡ getD (b .numbers) v 0
+    pub components : vectorAt (s .dimension) (a .floats) v ≡ vectorAt (s .dimension) (b .floats) v
+
+  -- of an entry: its owner; if that is held, its hash; if that is the hash wanted, the owner's vector
+  pub record SameEntry (hash entry : ℕ) : Type 0 where
+    pub owner : ownerOf s c a entry ≡ ownerOf s c b entry
+    pub own-hash : ownerOf s c a entry < c .vectors → getD (a .hashes) entry 0 ≡ getD (b .hashes) entry 0
+    pub vector : ownerOf s c a entry < c .vectors → getD (a .hashes) entry 0 ≡ hash → SameVector (ownerOf s c a entry)
+
+  -- of a leaf: its entries, unfiltered its vectors
+  abbrev pub SameLeaf : Wanted → ℕ → Type 0
+  SameLeaf Everything i = SameList i 2 (orderAt s) (c .vectors) (λ v. v < c .vectors → SameVector v)
+  SameLeaf (Label hash) i = SameList i 4 (entryOrderAt s) (c .entries) (λ e. e < c .entries → SameEntry hash e)
+
+  -- of a node that is opened and not denied: the count of children; where there are some, they and their centroids; where there are none, the leaf's list
+  pub record SameShown (wanted : Wanted) (i : ℕ) : Type 0 where
+    pub count : nodeField s c a i 1 ≡ nodeField s c b i 1
+    pub inner : (nodeField s c a i 1 ≡ 0 → ⊥) → SameList i 0 (linksAt s) (c .nodes) (λ child. i < child → child < c .nodes → SameCentroid child)
+    pub leaf : nodeField s c a i 1 ≡ 0 → SameLeaf wanted i
+
+  -- of a node that is opened: its filter, in a filtered search
+  abbrev pub SameFilter : Wanted → ℕ → Type 0
+  SameFilter Everything i = Unit {0}
+  SameFilter (Label hash) i = part (filtersAt s + i * 4) 4 (a .hashes) ≡ part (filtersAt s + i * 4) 4 (b .hashes)
+
+  pub record SameNode (wanted : Wanted) (i : ℕ) : Type 0 where
+    pub filter : SameFilter wanted i
+    pub shows : nodeDenied s c a wanted i ≡ false → SameShown wanted i
+
+  -- Two stores agree on what a search reads: the root's centroid, and what is read of each node that the search opens
+  pub record SameRead (query : List Float) (wanted : Wanted) (ef : ℕ) : Type 0 where
+    pub root : SameCentroid 0
+    pub opened : (i : ℕ) → Opens (storeView s c a query wanted) ef i → SameNode wanted i
+
+-- ---- why nothing else matters
+
+map-same : (f g : ℕ → ℕ) (l : List ℕ) → ((x : ℕ) → List·Memᴰ x l → f x ≡ g x) → map f l ≡ map g l
+map-same f g [] h = refl
+map-same f g (x ∷ xs) h = ap₂ {C = List ℕ} (λ y ys. y ∷ ys) (h x (List·Memᴰ·head refl)) (map-same f g xs (λ y m. h y (List·Memᴰ·tail m)))
+
+-- a choice by equal tests between values that are equal where they are chosen
+same-cond : (a b : Bool) (x y : Shown) → a ≡ b → (a ≡ true → x ≡ y) → cond a x damage ≡ cond b y damage
+same-cond true b x y e f = f refl ∙ ap (λ (t : Bool). cond t y damage) e
+same-cond false b x y e f = ap (λ (t : Bool). cond t y damage) e
+
+some : (n : ℕ) → suc n ≡ 0 → ⊥
+some n e = omega arith
+
+-- blocks with one count, and with one start if they are not empty
+block-same : (start start′ count count′ held : ℕ) → count ≡ count′ → ((count ≡ 0 → ⊥) → start ≡ start′) → blockHeld start count held ≡ blockHeld start′ count′ held
+unfolding blockHeld
+block-same start start′ zero count′ held e f = rw (← e)
+block-same start start′ (suc count) count′ held e f = rw (← e, f (some count))
+
+part-same : (start start′ count count′ base : ℕ) (l : List ℕ) → count ≡ count′ → ((count ≡ 0 → ⊥) → start ≡ start′)
+    → part (base + start) count l ≡ part (base + start′) count′ l
+part-same start start′ zero count′ base l e f = rw (← e)
+part-same start start′ (suc count) count′ base l e f = rw (← e, f (some count))
+
+module _ (s : Shape) (c : Counts) (a b : Store) where
+  -- a list that is read is shown alike
+  list-same : (i field base held : ℕ) (Same : ℕ → Type 0) → SameList s c a b i field base held Same → (f g : List ℕ → Shown)
+      → ((l : List ℕ) → ((x : ℕ) → List·Memᴰ x l → Same x) → f l ≡ g l)
+      → cond (blockHeld (nodeField s c a i field) (nodeField s c a i (field + 1)) held) (f (part (base + nodeField s c a i field) (nodeField s c a i (field + 1)) (a .numbers))) damage
+      ≡ cond (blockHeld (nodeField s c b i field) (nodeField s c b i (field + 1)) held) (g (part (base + nodeField s c b i field) (nodeField s c b i (field + 1)) (b .numbers))) damage
+  list-same i field base held Same same f g alike =
+      let list : List ℕ = part (base + nodeField s c a i field) (nodeField s c a i (field + 1)) (a .numbers) in
+      same-cond (blockHeld (nodeField s c a i field) (nodeField s c a i (field + 1)) held) (blockHeld (nodeField s c b i field) (nodeField s c b i (field + 1)) held)
+      (f list) (g (part (base + nodeField s c b i field) (nodeField s c b i (field + 1)) (b .numbers)))
+      (block-same (nodeField s c a i field) (nodeField s c b i field) (nodeField s c a i (field + 1)) (nodeField s c b i (field + 1)) held (same .count) (same .start))
+      (λ e. alike list (same .each e)
+      ∙ ap g (same .numbers e
+      ∙ part-same (nodeField s c a i field) (nodeField s c b i field) (nodeField s c a i (field + 1)) (nodeField s c b i (field + 1)) base (b .numbers) (same .count) (same .start)))
+
+  hit-same : (query : List Float) (v : ℕ) → SameVector s c a b v → hitAt s c a query v ≡ hitAt s c b query v
+  unfolding hitAt
+  hit-same query v same = ap₂ (λ (x : List Float) (d : ℕ). hitOf (distance query x) d v) (same .components) (same .document)
+
+  vectors-same : (query : List Float) (l : List ℕ) → ((v : ℕ) → List·Memᴰ v l → v < c .vectors → SameVector s c a b v)
+      → vectorsShown s c a query l ≡ vectorsShown s c b query l
+  unfolding vectorsShown
+  vectors-same query l same =
+      same-cond (allPass (λ vector. ltb vector (c .vectors)) l) (allPass (λ vector. ltb vector (c .vectors)) l)
+      (hits (map (hitAt s c a query) l)) (hits (map (hitAt s c b query) l)) refl
+      (λ e. ap hits (map-same (hitAt s c a query) (hitAt s c b query) l
+      (λ v m. hit-same query v (same v m (ltb-true v (c .vectors) (allPass-Memᴰ (λ vector. ltb vector (c .vectors)) l e v m))))))
+
+  entries-same : (query : List Float) (hash : ℕ) (l : List ℕ) → ((e : ℕ) → List·Memᴰ e l → e < c .entries → SameEntry s c a b hash e)
+      → entriesShown s c a query hash l ≡ entriesShown s c b query hash l
+  unfolding entriesShown
+  entries-same query hash l same =
+      same-cond (allPass (testOf a) l) (allPass (testOf b) l) (hits (map (hitOfEntry a) (keep (hasHash a) l))) (hits (map (hitOfEntry b) (keep (hasHash b) l)))
+      (allPass-congr (testOf a) (testOf b) l (λ x m. test-same x m (which (ltb x (c .entries)))))
+      (λ e. ap hits
+      (map-same (hitOfEntry a) (hitOfEntry b) (keep (hasHash a) l)
+      (λ x m. let k = Memᴰ-keep (hasHash a) x l m in
+      let entry = same x (k .1) (held e x (k .1)) in
+      hit-same query (ownerOf s c a x) (entry .vector (owned e x (k .1)) (eqb-true (getD (a .hashes) x 0) hash (k .0)))
+      ∙ ap (hitAt s c b query) (entry .owner))
+      ∙ ap (map (hitOfEntry b)) (keep-congr (hasHash a) (hasHash b) l
+      (λ x m. ap (λ (h : ℕ). eqb h hash) (same x m (held e x m) .own-hash (owned e x m))))))
+    where
+      testOf : Store → ℕ → Bool
+      testOf store x = ltb x (c .entries) && ltb (ownerOf s c store x) (c .vectors)
+
+      hasHash : Store → ℕ → Bool
+      hasHash store x = eqb (getD (store .hashes) x 0) hash
+
+      hitOfEntry : Store → ℕ → ℕ
+      hitOfEntry store x = hitAt s c store query (ownerOf s c store x)
+
+      test-same : (x : ℕ) → List·Memᴰ x l → (ltb x (c .entries) ≡ true) ⊎ (ltb x (c .entries) ≡ false) → testOf a x ≡ testOf b x
+      test-same x m (inl e) = ap (λ (o : ℕ). ltb x (c .entries) && ltb o (c .vectors)) (same x m (ltb-true x (c .entries) e) .owner)
+      test-same x m (inr e) = rw e
+
+      held : allPass (testOf a) l ≡ true → (x : ℕ) → List·Memᴰ x l → x < c .entries
+      held e x m = ltb-true x (c .entries) (and-left (ltb x (c .entries)) (ltb (ownerOf s c a x) (c .vectors)) (allPass-Memᴰ (testOf a) l e x m))
+
+      owned : allPass (testOf a) l ≡ true → (x : ℕ) → List·Memᴰ x l → ownerOf s c a x < c .vectors
+      owned e x m = ltb-true (ownerOf s c a x) (c .vectors) (and-right (ltb x (c .entries)) (ltb (ownerOf s c a x) (c .vectors)) (allPass-Memᴰ (testOf a) l e x m))
+
+  children-same : (parent : ℕ) (l : List ℕ) → childrenShown s c a parent l ≡ childrenShown s c b parent l
+  unfolding childrenShown
+  children-same parent l = refl
+
+  leaf-same : (query : List Float) (wanted : Wanted) (i : ℕ) → SameLeaf s c a b wanted i → leafShown s c a query wanted i ≡ leafShown s c b query wanted i
+  unfolding leafShown
+  leaf-same query Everything i same =
+      list-same i 2 (orderAt s) (c .vectors) (λ v. v < c .vectors → SameVector s c a b v) same (vectorsShown s c a query) (vectorsShown s c b query) (vectors-same query)
+  leaf-same query (Label hash) i same =
+      list-same i 4 (entryOrderAt s) (c .entries) (λ e. e < c .entries → SameEntry s c a b hash e) same (entriesShown s c a query hash) (entriesShown s c b query hash)
+      (entries-same query hash)
+
+  node-same : (query : List Float) (wanted : Wanted) (i : ℕ) → SameShown s c a b wanted i → nodeShown s c a query wanted i ≡ nodeShown s c b query wanted i
+  unfolding nodeShown
+  node-same query wanted i same = go (which (eqb (nodeField s c a i 1) 0))
+    where
+      innerOf : Store → Shown
+      innerOf store =
+          cond (blockHeld (nodeField s c store i 0) (nodeField s c store i 1) (c .nodes))
+          (childrenShown s c store i (part (linksAt s + nodeField s c store i 0) (nodeField s c store i 1) (store .numbers))) damage
+
+      shownOf : Bool → Store → Shown
+      shownOf leaf store = cond leaf (leafShown s c store query wanted i) (innerOf store)
+
+      go : (eqb (nodeField s c a i 1) 0 ≡ true) ⊎ (eqb (nodeField s c a i 1) 0 ≡ false)
+          → shownOf (eqb (nodeField s c a i 1) 0) a ≡ shownOf (eqb (nodeField s c b i 1) 0) b
+      go (inl e) =
+          ap (λ (t : Bool). shownOf t a) e ∙ leaf-same query wanted i (same .leaf (eqb-true (nodeField s c a i 1) 0 e))
+          ∙ ap (λ (t : Bool). shownOf t b) (sym e ∙ ap (λ (n : ℕ). eqb n 0) (same .count))
+      go (inr e) =
+          ap (λ (t : Bool). shownOf t a) e
+          ∙ list-same i 0 (linksAt s) (c .nodes) (λ child. i < child → child < c .nodes → SameCentroid s c a b child)
+          (same .inner (eqb-false (nodeField s c a i 1) 0 e)) (childrenShown s c a i) (childrenShown s c b i) (λ l h. children-same i l)
+          ∙ ap (λ (t : Bool). shownOf t b) (sym e ∙ ap (λ (n : ℕ). eqb n 0) (same .count))
+
+  denied-same : (wanted : Wanted) (i : ℕ) → SameFilter s c a b wanted i → nodeDenied s c a wanted i ≡ nodeDenied s c b wanted i
+  unfolding nodeDenied
+  denied-same Everything i same = refl
+  denied-same (Label hash) i same = ap (λ (f : List ℕ). not (mayContain f hash)) same
+
+  shown-same : (query : List Float) (wanted : Wanted) (i : ℕ) → SameNode s c a b wanted i
+      → shown (storeView s c a query wanted) i ≡ shown (storeView s c b query wanted) i
+  shown-same query wanted i same =
+      store-shown s c a query wanted i ∙ go (which (nodeDenied s c a wanted i))
+      ∙ ap (λ (d : Bool). cond d (hits []) (nodeShown s c b query wanted i)) (denied-same wanted i (same .filter)) ∙ sym (store-shown s c b query wanted i)
+    where
+      go : (nodeDenied s c a wanted i ≡ true) ⊎ (nodeDenied s c a wanted i ≡ false)
+          → cond (nodeDenied s c a wanted i) (hits []) (nodeShown s c a query wanted i) ≡ cond (nodeDenied s c a wanted i) (hits []) (nodeShown s c b query wanted i)
+      go (inl e) = rw e
+      go (inr e) = ap (cond (nodeDenied s c a wanted i) (hits [])) (node-same query wanted i (same .shows e))
+
+  key-same : (query : List Float) (wanted : Wanted) (i : ℕ) → SameCentroid s c a b i → storeView s c a query wanted .key i ≡ storeView s c b query wanted .key i
+  unfolding storeView
+  key-same query wanted i same = ap (λ (v : List Float). keyOf (distance query v)) same
+
+  most-same : (query : List Float) (wanted : Wanted) → storeView s c a query wanted .most ≡ storeView s c b query wanted .most
+  unfolding storeView mostHits
+  most-same query Everything = refl
+  most-same query (Label hash) = refl
+
+  node-alike : (query : List Float) (wanted : Wanted) (i : ℕ) → SameNode s c a b wanted i → Alike (storeView s c a query wanted) (storeView s c b query wanted) i
+  node-alike query wanted i same = record {
+    shows = shown-same query wanted i same;
+    keys = λ x m. keys (shown (storeView s c a query wanted) i) refl x m;
+  }
+    where
+      keys : (sh : Shown) → shown (storeView s c a query wanted) i ≡ sh → (x : ℕ) → List·Memᴰ x (childrenOf sh)
+          → storeView s c a query wanted .key x ≡ storeView s c b query wanted .key x
+      keys damage e x m = absurd (List·Memᴰ·not-nil m)
+      keys (hits new) e x m = absurd (List·Memᴰ·not-nil m)
+      keys (children numbers) e x m =
+          let shows = store-child s c a query wanted i numbers x e m in
+          let child = shows .1 in
+          key-same query wanted x (same .shows (shows .0) .inner (child .inner) .each (child .held) x (child .listed) (child .above) (child .below))
+
+  -- Two stores that agree on what a search reads give the same walk
+  pub same-read : (query : List Float) (wanted : Wanted) (ef : ℕ) → SameRead s c a b query wanted ef
+      → walk (storeView s c a query wanted) ef ≡ walk (storeView s c b query wanted) ef
+  same-read query wanted ef same =
+      same-walk (storeView s c a query wanted) (storeView s c b query wanted) (most-same query wanted) (key-same query wanted 0 (same .root)) ef
+      (λ i o. node-alike query wanted i (same .opened i o))
+
+-- one end of a walk has one answer
+ends-same : (st : State) (k : ℕ) (r r′ : Searched) (ids ids′ ids″ : List ℕ) (distances distances′ distances″ : List Float)
+    → SearchEnds st k r ids ids′ distances distances′ → SearchEnds st k r′ ids ids″ distances distances″ → (r ≡ r′) × (ids′ ≡ ids″) × (distances′ ≡ distances″)
+ends-same damaged k r r′ ids ids′ ids″ distances distances′ distances″ x y =
+    (x .is ∙ sym (y .is), x .ids-kept ∙ sym (y .ids-kept), x .distances-kept ∙ sym (y .distances-kept))
+ends-same (going p) k r r′ ids ids′ ids″ distances distances′ distances″ x y =
+    (x .is ∙ sym (y .is), x .ids-are ∙ sym (y .ids-are), x .distances-are ∙ sym (y .distances-are))
+
+-- and the same search, whatever stands in work: the same answer or damage, and the same answer lists
+pub same-search : (s : Shape) (c : Counts) (floats floats′ : List Float) (numbers numbers′ hashes hashes′ : List ℕ) (query : List Float) (wanted : Wanted)
+    (ef k : ℕ) (work work₁ work′ work₂ ids ids₁ ids₂ : List ℕ) (distances distances₁ distances₂ : List Float) (r₁ r₂ : Searched)
+    → SameRead s c (lent floats numbers hashes) (lent floats′ numbers′ hashes′) query wanted ef
+    → Searches s c ef floats numbers hashes query wanted k work ids distances r₁ work₁ ids₁ distances₁
+    → Searches s c ef floats′ numbers′ hashes′ query wanted k work′ ids distances r₂ work₂ ids₂ distances₂
+    → (r₁ ≡ r₂) × (ids₁ ≡ ids₂) × (distances₁ ≡ distances₂)
+same-search s c floats floats′ numbers numbers′ hashes hashes′ query wanted ef k work work₁ work′ work₂ ids ids₁ ids₂ distances distances₁ distances₂ r₁ r₂ same x y =
+    ends-same (walk (storeView s c (lent floats′ numbers′ hashes′) query wanted) ef) k r₁ r₂ ids ids₁ ids₂ distances distances₁ distances₂
+    (subst (λ (st : State). SearchEnds st k r₁ ids ids₁ distances distances₁)
+    (same-read s c (lent floats numbers hashes) (lent floats′ numbers′ hashes′) query wanted ef same) (x .ends))
+    (y .ends)

@@ -1,0 +1,51 @@
+//! Echoes of drain sensors: the nearest to the last one among those of the same drain.
+
+use curator::{CuratorIndex, CuratorParams, RetrieveError};
+
+/// An echo of 64 numbers: a pulse at a place, and its tail.
+fn echo(place: usize, tail: f32) -> Vec<f32> {
+    (0..64)
+        .map(|i| {
+            if i < place {
+                0.0
+            } else {
+                (-tail * (i - place) as f32).exp()
+            }
+        })
+        .collect()
+}
+
+fn main() -> Result<(), RetrieveError> {
+    let mut index = CuratorIndex::new(64, CuratorParams::default())?;
+    for day in 0..30 {
+        let (drain, state) = if day % 2 == 0 {
+            ("north", "free")
+        } else {
+            ("south", "silt")
+        };
+        index.add(
+            day,
+            &echo(4 + day as usize % 7, 0.1 + 0.01 * day as f32),
+            &[drain, state],
+        )?;
+    }
+    index.build()?;
+
+    let heard = echo(6, 0.25);
+    for (doc_id, distance) in index.search_filtered(&heard, 3, "south")? {
+        println!("day {doc_id}: {distance:.4}");
+    }
+    let all = index.find(&heard, 3)?;
+    println!(
+        "{} of all days, {} nodes opened, {}",
+        all.hits.len(),
+        all.opened,
+        if all.whole { "whole" } else { "cut" }
+    );
+
+    match index.add(30, &heard, &["south"]) {
+        Err(RetrieveError::AlreadyBuilt) => println!("a built index takes no more echoes"),
+        other => other?,
+    }
+    Ok(())
+}

@@ -1,0 +1,382 @@
+//! The Curator index: nearest vectors among those with a label, over the proved library `curator_c`.
+//!
+//! A [`CuratorIndex`] owns the lists that the library's functions are lent. What each function does is stated and
+//! proved in the repository's crates; this crate hands lists over and turns numbers into [`Result`]s.
+//!
+//! # Quick start
+//!
+//! ```
+//! use curator::{CuratorIndex, CuratorParams};
+//!
+//! # fn main() -> Result<(), curator::RetrieveError> {
+//! let mut index = CuratorIndex::new(3, CuratorParams::default())?;
+//! index.add(1, &[1.0, 0.0, 0.5], &["drain:north"])?;
+//! index.add(2, &[0.0, 1.0, 0.5], &["drain:south", "silt"])?;
+//! index.add(3, &[0.0, 0.5, 2.0], &["drain:south"])?;
+//! index.build()?;
+//!
+//! let nearest = index.search_filtered(&[0.0, 0.25, 1.0], 5, "drain:south")?;
+//! let ids: Vec<u32> = nearest.iter().map(|hit| hit.0).collect();
+//! assert_eq!(ids, [3, 2]);
+//! # Ok(())
+//! # }
+//! ```
+
+mod error;
+mod sys;
+
+pub use error::RetrieveError;
+
+use std::cell::RefCell;
+
+/// The settings of an index beside its dimension.
+#[derive(Clone, Copy, Debug, PartialEq, Eq)]
+pub struct CuratorParams {
+    /// Children of a node, 1 to 64.
+    pub branching_factor: usize,
+    /// Vectors of a leaf, 0 to 4,096.
+    pub max_leaf_size: usize,
+    /// Nodes that a search may open, 0 to 65,537.
+    pub ef_search: usize,
+    /// 0 to 65,535; kept, and read by no build or search.
+    pub beam_width: usize,
+}
+
+impl Default for CuratorParams {
+    /// The usual settings: 16, 128, 256 and 4.
+    fn default() -> Self {
+        Self {
+            branching_factor: 16,
+            max_leaf_size: 128,
+            ef_search: 256,
+            beam_width: 4,
+        }
+    }
+}
+
+/// How many vectors, label entries and nodes an index has room for.
+#[derive(Clone, Copy, Debug, PartialEq, Eq)]
+pub struct Capacities {
+    /// 1 to 4,096.
+    pub vectors: usize,
+    /// 0 to 16,384. A vector has one entry for each of its labels.
+    pub entries: usize,
+    /// 1 to 65,537.
+    pub nodes: usize,
+}
+
+impl Default for Capacities {
+    /// The largest.
+    fn default() -> Self {
+        Self {
+            vectors: 4_096,
+            entries: 16_384,
+            nodes: 65_537,
+        }
+    }
+}
+
+/// A hit: a document and its distance from the query.
+#[repr(C)]
+#[derive(Clone, Copy, Debug, Default, PartialEq)]
+pub struct Hit {
+    pub id: u32,
+    pub distance: f32,
+}
+
+/// What a search found.
+#[derive(Clone, Debug, PartialEq)]
+pub struct Found {
+    /// Nearest first.
+    pub hits: Vec<Hit>,
+    /// How many nodes the search opened.
+    pub opened: usize,
+    /// Whether the search ended because no node waited; otherwise `ef_search` cut it.
+    pub whole: bool,
+}
+
+impl Found {
+    fn pairs(self) -> Vec<(u32, f32)> {
+        self.hits.iter().map(|hit| (hit.id, hit.distance)).collect()
+    }
+}
+
+/// An index that owns its lists.
+#[derive(Clone, Debug)]
+pub struct CuratorIndex {
+    state: [usize; sys::STATE],
+    floats: Vec<f32>,
+    numbers: Vec<u32>,
+    hashes: Vec<u64>,
+}
+
+/// Places of the state.
+const DIMENSION: usize = 0;
+const VECTORS: usize = 5;
+const ENTRIES: usize = 6;
+const NODES: usize = 7;
+const VECTORS_HELD: usize = 8;
+const ENTRIES_HELD: usize = 9;
+const BUILT: usize = 11;
+
+/// Lends a work list of a size. It is the thread's own, so that searches of one index may run at the same time.
+fn with_work<R>(size: usize, call: impl FnOnce(&mut [u32]) -> R) -> R {
+    thread_local! {
+        static WORK: RefCell<Vec<u32>> = const { RefCell::new(Vec::new()) };
+    }
+    WORK.with(|work| {
+        let work = &mut *work.borrow_mut();
+        if work.len() < size {
+            work.resize(size, 0);
+        }
+        call(&mut work[..size])
+    })
+}
+
+impl CuratorIndex {
+    /// An index with the largest capacities. Memory is asked for zeroed, so the system hands out pages as they are written:
+    /// at 128 dimensions 40 MB are reserved. [`CuratorIndex::with_capacities`] takes less.
+    pub fn new(dimension: usize, params: CuratorParams) -> Result<Self, RetrieveError> {
+        Self::with_capacities(dimension, params, Capacities::default())
+    }
+
+    /// An index with room for so many vectors, label entries and nodes.
+    pub fn with_capacities(
+        dimension: usize,
+        params: CuratorParams,
+        capacities: Capacities,
+    ) -> Result<Self, RetrieveError> {
+        let mut state = [0; sys::STATE];
+        // SAFETY: the pointer and the count are those of `state`, which nothing else refers to.
+        let number = unsafe {
+            sys::curator_new(
+                dimension,
+                params.branching_factor,
+                params.max_leaf_size,
+                params.ef_search,
+                params.beam_width,
+                capacities.vectors,
+                capacities.entries,
+                capacities.nodes,
+                state.as_mut_ptr(),
+                state.len(),
+            )
+        };
+        RetrieveError::check(number)?;
+        let Capacities {
+            vectors,
+            entries,
+            nodes,
+        } = capacities;
+        Ok(Self {
+            state,
+            floats: vec![0.0; dimension * (vectors + nodes + params.branching_factor)],
+            numbers: vec![0; 2 * vectors + 2 * entries + 7 * nodes],
+            hashes: vec![0; entries + 4 * nodes],
+        })
+    }
+
+    /// Adds a vector under a document id, with labels of at most 255 bytes each.
+    pub fn add(
+        &mut self,
+        doc_id: u32,
+        vector: &[f32],
+        labels: &[&str],
+    ) -> Result<(), RetrieveError> {
+        let mut lengths = Vec::with_capacity(labels.len());
+        for label in labels {
+            lengths.push(u8::try_from(label.len()).map_err(|_| RetrieveError::LabelTooLong)?);
+        }
+        let bytes = labels.concat().into_bytes();
+        // SAFETY: each pointer and count are those of one list. The lists that are written are fields of `self`, which is
+        // borrowed mutably; the others are borrowed, or local, and different from them.
+        let number = unsafe {
+            sys::curator_add(
+                self.state.as_mut_ptr(),
+                self.state.len(),
+                self.floats.as_mut_ptr(),
+                self.floats.len(),
+                self.numbers.as_mut_ptr(),
+                self.numbers.len(),
+                self.hashes.as_mut_ptr(),
+                self.hashes.len(),
+                doc_id,
+                vector.as_ptr(),
+                vector.len(),
+                lengths.as_ptr(),
+                lengths.len(),
+                bytes.as_ptr(),
+                bytes.len(),
+            )
+        };
+        RetrieveError::check(number)
+    }
+
+    /// Makes the tree of what was added. A built index stays as it is.
+    pub fn build(&mut self) -> Result<(), RetrieveError> {
+        let number = with_work(self.work_size(), |work| {
+            // SAFETY: each pointer and count are those of one list: fields of `self`, which is borrowed mutably, and the work
+            // list, which is lent here alone.
+            unsafe {
+                sys::curator_build(
+                    self.state.as_mut_ptr(),
+                    self.state.len(),
+                    self.floats.as_mut_ptr(),
+                    self.floats.len(),
+                    self.numbers.as_mut_ptr(),
+                    self.numbers.len(),
+                    self.hashes.as_mut_ptr(),
+                    self.hashes.len(),
+                    work.as_mut_ptr(),
+                    work.len(),
+                )
+            }
+        });
+        RetrieveError::check(number)
+    }
+
+    /// The nearest k documents that have a vector with the label: document ids and distances, nearest first.
+    pub fn search_filtered(
+        &self,
+        query: &[f32],
+        k: usize,
+        label: &str,
+    ) -> Result<Vec<(u32, f32)>, RetrieveError> {
+        self.find_filtered(query, k, label).map(Found::pairs)
+    }
+
+    /// The nearest k documents: document ids and distances, nearest first.
+    pub fn search(&self, query: &[f32], k: usize) -> Result<Vec<(u32, f32)>, RetrieveError> {
+        self.find(query, k).map(Found::pairs)
+    }
+
+    /// [`CuratorIndex::search_filtered`], with the count of opened nodes and whether the answer is whole.
+    pub fn find_filtered(
+        &self,
+        query: &[f32],
+        k: usize,
+        label: &str,
+    ) -> Result<Found, RetrieveError> {
+        let places = k.min(self.state[ENTRIES_HELD]);
+        self.found(places, |work, ids, distances, answer| {
+            // SAFETY: each pointer and count are those of one list. The lists that are written are borrowed mutably here
+            // alone; those of `self`, the query and the label are only read.
+            unsafe {
+                sys::curator_search_filtered(
+                    self.state.as_ptr(),
+                    self.state.len(),
+                    self.floats.as_ptr(),
+                    self.floats.len(),
+                    self.numbers.as_ptr(),
+                    self.numbers.len(),
+                    self.hashes.as_ptr(),
+                    self.hashes.len(),
+                    work.as_mut_ptr(),
+                    work.len(),
+                    query.as_ptr(),
+                    query.len(),
+                    label.as_ptr(),
+                    label.len(),
+                    places,
+                    ids.as_mut_ptr(),
+                    ids.len(),
+                    distances.as_mut_ptr(),
+                    distances.len(),
+                    answer.as_mut_ptr(),
+                    answer.len(),
+                )
+            }
+        })
+    }
+
+    /// [`CuratorIndex::search`], with the count of opened nodes and whether the answer is whole.
+    pub fn find(&self, query: &[f32], k: usize) -> Result<Found, RetrieveError> {
+        let places = k.min(self.state[VECTORS_HELD]);
+        self.found(places, |work, ids, distances, answer| {
+            // SAFETY: as in `find_filtered`.
+            unsafe {
+                sys::curator_search(
+                    self.state.as_ptr(),
+                    self.state.len(),
+                    self.floats.as_ptr(),
+                    self.floats.len(),
+                    self.numbers.as_ptr(),
+                    self.numbers.len(),
+                    self.hashes.as_ptr(),
+                    self.hashes.len(),
+                    work.as_mut_ptr(),
+                    work.len(),
+                    query.as_ptr(),
+                    query.len(),
+                    places,
+                    ids.as_mut_ptr(),
+                    ids.len(),
+                    distances.as_mut_ptr(),
+                    distances.len(),
+                    answer.as_mut_ptr(),
+                    answer.len(),
+                )
+            }
+        })
+    }
+
+    /// How many vectors the index holds.
+    pub fn len(&self) -> usize {
+        self.state[VECTORS_HELD]
+    }
+
+    /// Whether the index holds no vector.
+    pub fn is_empty(&self) -> bool {
+        self.len() == 0
+    }
+
+    /// The length of a vector.
+    pub fn dimension(&self) -> usize {
+        self.state[DIMENSION]
+    }
+
+    /// Whether the index is built.
+    pub fn is_built(&self) -> bool {
+        self.state[BUILT] == 1
+    }
+
+    fn work_size(&self) -> usize {
+        3 * self.state[NODES] + 3 * self.state[VECTORS].max(self.state[ENTRIES])
+    }
+
+    /// Runs a search with lists for so many hits. A search has no more hits than entries, or vectors, are held, so that k is cut to
+    /// that number beforehand and the lists stay small.
+    fn found(
+        &self,
+        places: usize,
+        search: impl FnOnce(&mut [u32], &mut [u32], &mut [f32], &mut [usize; sys::ANSWER]) -> u32,
+    ) -> Result<Found, RetrieveError> {
+        let mut ids = vec![0; places];
+        let mut distances = vec![0.0; places];
+        let mut answer = [0; sys::ANSWER];
+        let number = with_work(self.work_size(), |work| {
+            search(work, &mut ids, &mut distances, &mut answer)
+        });
+        RetrieveError::check(number)?;
+        let [count, opened, whole] = answer;
+        let mut hits = vec![Hit::default(); count];
+        // SAFETY: each pointer and count are those of one list. The records are borrowed mutably here alone.
+        let number = unsafe {
+            sys::curator_hits(
+                hits.as_mut_ptr(),
+                hits.len(),
+                ids.as_ptr(),
+                ids.len(),
+                distances.as_ptr(),
+                distances.len(),
+                count,
+            )
+        };
+        RetrieveError::check(number)?;
+        Ok(Found {
+            hits,
+            opened,
+            whole: whole == 1,
+        })
+    }
+}

@@ -1,0 +1,108 @@
+//! The functions of c/curator.h and c/hit_records.h. A list is a pointer and a count; each is a separate argument.
+
+use crate::Hit;
+
+pub const STATE: usize = 12;
+pub const ANSWER: usize = 3;
+
+extern "C" {
+    pub fn curator_new(
+        dimension: usize,
+        branching_factor: usize,
+        max_leaf_size: usize,
+        ef_search: usize,
+        beam_width: usize,
+        vectors: usize,
+        entries: usize,
+        nodes: usize,
+        state: *mut usize,
+        state_len: usize,
+    ) -> u32;
+
+    pub fn curator_add(
+        state: *mut usize,
+        state_len: usize,
+        floats: *mut f32,
+        floats_len: usize,
+        numbers: *mut u32,
+        numbers_len: usize,
+        hashes: *mut u64,
+        hashes_len: usize,
+        doc_id: u32,
+        vector: *const f32,
+        vector_len: usize,
+        lengths: *const u8,
+        lengths_len: usize,
+        bytes: *const u8,
+        bytes_len: usize,
+    ) -> u32;
+
+    pub fn curator_build(
+        state: *mut usize,
+        state_len: usize,
+        floats: *mut f32,
+        floats_len: usize,
+        numbers: *mut u32,
+        numbers_len: usize,
+        hashes: *mut u64,
+        hashes_len: usize,
+        work: *mut u32,
+        work_len: usize,
+    ) -> u32;
+
+    pub fn curator_search_filtered(
+        state: *const usize,
+        state_len: usize,
+        floats: *const f32,
+        floats_len: usize,
+        numbers: *const u32,
+        numbers_len: usize,
+        hashes: *const u64,
+        hashes_len: usize,
+        work: *mut u32,
+        work_len: usize,
+        query: *const f32,
+        query_len: usize,
+        label: *const u8,
+        label_len: usize,
+        k: usize,
+        ids: *mut u32,
+        ids_len: usize,
+        distances: *mut f32,
+        distances_len: usize,
+        answer: *mut usize,
+        answer_len: usize,
+    ) -> u32;
+
+    pub fn curator_search(
+        state: *const usize,
+        state_len: usize,
+        floats: *const f32,
+        floats_len: usize,
+        numbers: *const u32,
+        numbers_len: usize,
+        hashes: *const u64,
+        hashes_len: usize,
+        work: *mut u32,
+        work_len: usize,
+        query: *const f32,
+        query_len: usize,
+        k: usize,
+        ids: *mut u32,
+        ids_len: usize,
+        distances: *mut f32,
+        distances_len: usize,
+        answer: *mut usize,
+        answer_len: usize,
+    ) -> u32;
+
+    pub fn curator_hits(
+        hits: *mut Hit,
+        hits_len: usize,
+        ids: *const u32,
+        ids_len: usize,
+        distances: *const f32,
+        distances_len: usize,
+        count: usize,
+    ) -> u32;
+}
