@@ -1,5 +1,5 @@
 -- Runs of 01's worked example, computed: 'D 2, B 2, leaf size 1, ef 5, beam 4; 7: (1, 0) `a`; 8: (0, 2) `b`; 9: (3, 4) `a`; search k 4, `a`, (1, 0)', with
--- refused calls in between; V 4, E 4, M 5; other budgets; and M 4, where the build is refused. The premise holds of it, and it has runs.
+-- refused calls in between; V 4, E 4, M 5; and M 4, where the build is refused. The premise holds of it, and it has runs.
 use Prim.Native.Nat.{ℕ}
 use native.Mathlib.Omega.{arith}
 use mathlib.Core.Bool.{Bool, true, false}
@@ -12,7 +12,7 @@ use Rattle.label.specs.Fnv.{fnvFrom, fnvStep}
 use Rattle.store.specs.Store.{Store}
 use Rattle.curator.specs.Limits.{dimensionAllowed, paramsAllowed, capacitiesAllowed}
 use Rattle.curator.specs.Searches.{SearchCall, Asked, everything, labelled}
-use Rattle.runs.specs.Model.{Setting, Model, emptyModel, nodeCount}
+use Rattle.runs.specs.Model.{Setting, Model, emptyModel}
 use Rattle.runs.specs.Run.{Fronts, Call, add, build, search, Ended, Run}
 use Rattle.runs.specs.Theorem.{Expected, returns, answers, expected, after, modelFrom, Matches, InPairs, Premise, AllTyped, Better}
 use Rattle.runs.specs.State.{Allowed}
@@ -97,21 +97,6 @@ pub expects : expectations (sample 5 5) emptyModel calls
     ∷ []
 unfolding expectations ofBits fnvFrom fnvStep distance
 expects = refl
-
--- the model after the build, whatever the budget, and the search for `a` put to it
-abbrev builtWith : ℕ → Model
-builtWith ef = modelFrom (sample ef 5) emptyModel (first ∷ second ∷ third ∷ build fronts work ∷ [])
-
-pub five-nodes : nodeCount (sample 5 5) (builtWith 5) ≡ 5
-unfolding nodeCount modelFrom ofBits
-five-nodes = refl
-
--- '**ef 0: `cut 0` alone. ef 2: 7, `cut 2`. ef 4: 7 and 9, `cut 4`.**'
-pub budgets : (expected (sample 0 5) (builtWith 0) labelled-a ≡ hits [] [] 0 false)
-    × (expected (sample 2 5) (builtWith 2) labelled-a ≡ hits (7 ∷ []) (0 ∷ []) 2 false)
-    × (expected (sample 4 5) (builtWith 4) labelled-a ≡ hits (7 ∷ 9 ∷ []) (0 ∷ 0x3ecccccc ∷ []) 4 false)
-unfolding expected modelFrom ofBits fnvFrom fnvStep distance
-budgets = (refl, refl, refl)
 
 -- with M 4 the build is refused 13; an add may still follow, and a search finds no index
 pub too-many : expectations (sample 5 4) emptyModel (first ∷ second ∷ third ∷ build fronts work ∷ adds 10 (0x3F800000 ∷ 0 ∷ []) 97 ∷ labelled-a ∷ [])

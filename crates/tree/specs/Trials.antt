@@ -1,4 +1,4 @@
--- Trial echoes of document 01 over the definitions: the tree of the worked example has five nodes; one vector at leaf size 0 has 17.
+-- The tree of document 01's worked example, and of one vector at leaf size 0, which has 17 nodes.
 use mathlib.Core.List.{List, [], _∷_, map}
 use mathlib.Core.Path.{_≡_, refl}
 use Prim.Native.Nat.{ℕ}
@@ -12,10 +12,6 @@ use Rattle.tree.specs.Layout.{sixFrom}
 -- 'D 2, B 2, leaf size 1'
 abbrev pub two : Splitting
 two = record { dimension = 2; branching = 2; leaf-size = 1 }
-
-pub five-nodes : size (treeOf two sample) ≡ 5
-unfolding treeOf size sizes sample
-five-nodes = refl
 
 pub shape : treeOf two sample ≡ inner (0 ∷ 1 ∷ 2 ∷ []) (more (leaf (0 ∷ [])) (more (inner (1 ∷ 2 ∷ []) (more (leaf (1 ∷ [])) (more (leaf (2 ∷ [])) none))) none))
 unfolding treeOf sample

@@ -1,0 +1,2 @@
+-- Lemmas of the proofs in `load`.
+pub mod Laws

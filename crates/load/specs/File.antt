@@ -1,0 +1,189 @@
+-- Document 01, 'The echo file and its printer': the text that is printed of a file, by the model of all calls (01's book; crates/runs/specs/Model.antt). No
+-- state, no lent list and no answer occurs in it.
+use Prim.Native.Nat.{ℕ, zero, suc}
+use mathlib.Core.Bool.{cond}
+use mathlib.Core.List.{List, [], _∷_, _++_, map}
+use lib.Dec.{ltb}
+use lib.Ieee.{Float, binary32, ofBits, nan}
+use lib.ListN.{length, replicate}
+use Rattle.store.specs.declared.Shape.{Shape}
+use Rattle.store.specs.Store.{floatsSize, numbersSize, hashesSize, workSize}
+use Rattle.walk.specs.Walk.{State, damaged, going}
+use Rattle.walk.specs.Answer.{Answer, answer}
+use Rattle.curator.specs.declared.CuratorParams.{CuratorParams}
+use Rattle.curator.specs.declared.Capacities.{Capacities}
+use Rattle.curator.specs.declared.Check.{Check}
+use Rattle.curator.specs.declared.Check.the-variants.{Fine, Refused}
+use Rattle.curator.specs.declared.Changed.{Changed}
+use Rattle.curator.specs.declared.Changed.the-variants as Changed′
+use Rattle.curator.specs.declared.refusal.Refusal.{Refusal}
+use Rattle.curator.specs.declared.refusal.Refusal.the-variants.{Settings, Input, Store}
+use Rattle.curator.specs.declared.refusal.SettingsRefusal.the-variants.{InvalidConfig}
+use Rattle.curator.specs.declared.refusal.InputRefusal.the-variants.{BadRecord, SettingsOrder, FileTooLong}
+use Rattle.curator.specs.declared.refusal.StoreRefusal.the-variants.{Damaged}
+use Rattle.curator.specs.Outcome.{number}
+use Rattle.curator.specs.Rows.{Lengths}
+use Rattle.curator.specs.Changes.{AddCall, created}
+use Rattle.curator.specs.Searches.{SearchCall, Asked, everything, labelled}
+use Rattle.runs.specs.Model.{Setting, Model, emptyModel, modelAddCheck, modelBuildCheck, modelSearchCheck, addedBy, builtBy, modelWalk}
+use Rattle.runs.specs.Run.{Fronts}
+use Rattle.echo_file.specs.declared.Known.{Known}
+use Rattle.echo_file.specs.Format as format
+use Rattle.echo_file.specs.Format.{Record, settings, vector, filtered, unfiltered}
+use Rattle.echo_file.specs.Decode.{Decoded, none, found, decode}
+use Rattle.text.specs.Lines.{hitLines, closingLine, refusedLine}
+
+-- ---- what the program lends
+
+-- 'V 128, E 256, M 512'
+abbrev pub capacities : Capacities
+capacities = record { vectors = 128; entries = 256; nodes = 512 }
+
+-- 'answer lists of 256 places'
+abbrev pub answerPlaces : ℕ
+answerPlaces = 256
+
+-- the largest D and B that a file may ask for
+abbrev pub largest : Shape
+largest = record { dimension = 16; branching = 64; vectors = 128; entries = 256; nodes = 512 }
+
+-- the sizes of the lists of the store, and the work list's, if one is lent
+abbrev pub fronts : Fronts
+fronts = record { floats = floatsSize largest; numbers = numbersSize largest; hashes = hashesSize largest }
+
+abbrev pub lentWith : ℕ → Lengths
+lentWith work = record { floats = fronts .floats; numbers = fronts .numbers; hashes = fronts .hashes; work = work }
+
+-- ---- the calls of a record
+
+abbrev pub paramsOf : ℕ → ℕ → ℕ → ℕ → CuratorParams
+paramsOf branching leaf-size ef beam =
+    record { «branching_factor» = branching; «max_leaf_size» = leaf-size; «ef_search» = ef; «beam_width» = beam }
+
+-- a component by its bits: a NaN's pattern is the one NaN of the language, so that it is refused with 8
+abbrev pub floats : List ℕ → List Float
+floats patterns = map (ofBits binary32) patterns
+
+abbrev pub addCall : ℕ → List (List ℕ) → List ℕ → AddCall
+addCall document labels patterns = record { document = document; vector = floats patterns; lengths = map length labels; bytes = format.labelBytes labels }
+
+abbrev pub searchCall : ℕ → Asked → List ℕ → SearchCall
+searchCall k asked patterns =
+    record { query = floats patterns; asked = asked; k = k; ids = replicate answerPlaces 0; distances = replicate answerPlaces nan }
+
+-- ---- one record after the other
+
+-- how far a file has come: to its settings or not, and the model of the calls so far
+pub data Progress : Type 0 where
+  unset : Progress
+  running : Setting → Model → Progress
+
+-- 'Before settings, D counts as 0'
+abbrev pub knownOf : Progress → Known
+knownOf unset = record { dimension = 0 }
+knownOf (running s m) = record { dimension = s .dimension }
+
+-- what a record comes to: a refusal, which ends the file, or a text, after which the file goes on
+pub data Outcome : Type 0 where
+  refused : Refusal → Outcome
+  printed : List ℕ → Progress → Outcome
+
+-- a settings record that comes first is put to `new`; 'D from 17 to 128 is printed as refused 2'
+unfoldable pub opened : Changed → ℕ → CuratorParams → Outcome
+opened (Changed′.Refused r) dimension params = refused r
+opened (Changed′.Index index) dimension params =
+    cond (ltb 16 dimension) (refused (Settings InvalidConfig))
+    (printed [] (running (record { dimension = dimension; params = params; capacities = capacities }) emptyModel))
+
+-- a vector
+unfoldable pub added : Check → Setting → Model → AddCall → Outcome
+unfolding addedBy
+added (Refused r) s m call = refused r
+added Fine s m call = printed [] (running s (addedBy Fine m call))
+
+-- 'prints per hit the document id in decimal, a space, the distance's bits in eight lowercase hexadecimal digits; then `whole` or `cut` and the opened
+-- count'
+unfoldable pub answerText : Answer → List ℕ
+unfolding hitLines closingLine
+answerText a = hitLines (a .ids) (a .distances) (length (a .ids)) ++ closingLine (a .complete) (a .opened)
+
+-- a search, after its build; its walk is never damaged (demand 3)
+unfoldable pub walked : State → ℕ → Setting → Model → Outcome
+unfolding answer answerText
+walked damaged k s m = refused (Store Damaged)
+walked (going p) k s m = printed (answerText (answer k p)) (running s m)
+
+unfoldable pub searched : Check → Setting → Model → SearchCall → Outcome
+unfolding walked modelWalk
+searched (Refused r) s m call = refused r
+searched Fine s m call = walked (modelWalk s m call) (call .k) s m
+
+-- 'The first search builds': a build of a built index leaves all as it is, so every search builds.
+unfoldable pub built : Check → Setting → Model → SearchCall → Outcome
+unfolding builtBy searched modelSearchCheck
+built (Refused r) s m call = refused r
+built Fine s m call = searched (modelSearchCheck s (builtBy Fine m) (lentWith (workSize largest)) call) s (builtBy Fine m) call
+
+unfoldable pub searching : Setting → Model → SearchCall → Outcome
+unfolding built modelBuildCheck
+searching s m call = built (modelBuildCheck s m (lentWith (workSize largest))) s m call
+
+-- a complete record; 17: 'settings not first, or given again'
+unfoldable pub carried : Progress → Record → Outcome
+unfolding created opened added searching modelAddCheck
+carried unset (settings dimension branching leaf-size ef beam) =
+    let params = paramsOf branching leaf-size ef beam in
+    opened (created dimension params capacities) dimension params
+carried unset (vector document labels patterns) = refused (Input SettingsOrder)
+carried unset (filtered k label patterns) = refused (Input SettingsOrder)
+carried unset (unfiltered k patterns) = refused (Input SettingsOrder)
+carried (running s m) (settings dimension branching leaf-size ef beam) = refused (Input SettingsOrder)
+carried (running s m) (vector document labels patterns) =
+    let call = addCall document labels patterns in
+    added (modelAddCheck s m (lentWith 0) call) s m call
+carried (running s m) (filtered k label patterns) = searching s m (searchCall k (labelled label) patterns)
+carried (running s m) (unfiltered k patterns) = searching s m (searchCall k everything patterns)
+
+-- what the front of some bytes comes to; 16: 'unknown mark, or it ends inside a record'
+pub data Front : Type 0 where
+  ends : Refusal → Front
+  goes : List ℕ → Progress → List ℕ → Front
+
+unfoldable pub then : Outcome → List ℕ → Front
+then (refused r) rest = ends r
+then (printed text progress) rest = goes text progress rest
+
+unfoldable pub read : Decoded Record → Progress → Front
+unfolding then carried
+read none progress = ends (Input BadRecord)
+read (found r rest) progress = then (carried progress r) rest
+
+unfoldable pub front : Progress → List ℕ → Front
+unfolding read decode
+front progress bytes = read (decode (knownOf progress) bytes) progress
+
+-- '`refused` and the number, and ends'
+unfoldable pub refusedText : Refusal → List ℕ
+unfolding refusedLine
+refusedText r = refusedLine (number r)
+
+unfoldable pub textOf : Front → (Progress → List ℕ → List ℕ) → List ℕ
+unfolding refusedText
+textOf (ends r) later = refusedText r
+textOf (goes text progress rest) later = text ++ later progress rest
+
+-- at the end of a file nothing more is printed
+unfoldable pub unlessEmpty : List ℕ → List ℕ → List ℕ
+unlessEmpty [] text = []
+unlessEmpty (b ∷ bytes) text = text
+
+-- The text of the bytes that are left. Every record has bytes, so as many steps as bytes are enough.
+unfoldable pub textFrom : ℕ → Progress → List ℕ → List ℕ
+unfolding front textOf unlessEmpty
+textFrom zero progress bytes = []
+textFrom (suc steps) progress bytes = unlessEmpty bytes (textOf (front progress bytes) (λ p rest. textFrom steps p rest))
+
+-- what is printed of a file; 18: 'over 65,536 bytes', before any record. 'An empty file prints nothing.'
+unfoldable pub fileText : List ℕ → List ℕ
+unfolding refusedText textFrom
+fileText bytes = let text = textFrom (length bytes) unset bytes in cond (ltb 65536 (length bytes)) (refusedText (Input FileTooLong)) text

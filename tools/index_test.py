@@ -1,0 +1,128 @@
+#!/usr/bin/env python3
+"""Writes the expected output of the program index_test to standard output: a model of `new` and `add` written from
+document 01's table and 'The store', put to the calls that the program makes.
+
+    python3 tools/index_test.py | diff - crates/index_test/stdout
+"""
+import math
+import struct
+
+USUAL = (16, 128, 256, 4)
+MARK = 9
+
+
+def f32(x):
+    """x rounded to the nearest f32; beyond the largest, infinity."""
+    try:
+        return struct.unpack("<f", struct.pack("<f", x))[0]
+    except OverflowError:
+        return math.copysign(math.inf, x)
+
+
+def bits(x):
+    return "%08x" % struct.unpack("<I", struct.pack("<f", x))[0]
+
+
+def fnv(label):
+    h = 0xCBF29CE484222325
+    for byte in label:
+        h = (h ^ byte) * 0x100000001B3 % 2**64
+    return h
+
+
+def normalized(vector):
+    """Sums and products of two f32 are rounded once: a double holds a product of two f32 exactly, and a sum or a root of
+    such is rounded twice without harm, since a double has more than twice the digits."""
+    total = f32(0.0)
+    for x in vector:
+        total = f32(total + f32(x * x))
+    norm = f32(math.sqrt(total)) if math.isfinite(total) else total
+    threshold = struct.unpack("<f", struct.pack("<I", 0x2EDBE6FF))[0]
+    return [f32(x / norm) for x in vector] if norm > threshold else vector
+
+
+def allowed(dimension, params, capacities):
+    """Row 1, then row 2."""
+    branching, leaf, ef, beam = params
+    vectors, entries, nodes = capacities
+    if not 1 <= dimension <= 128:
+        return 1
+    fine = 1 <= branching <= 64 and leaf <= 4096 and ef <= 65537 and beam <= 65535
+    return 0 if fine and 1 <= vectors <= 4096 and entries <= 16384 and 1 <= nodes <= 65537 else 2
+
+
+def refusal(state, sizes, vector, lengths, label_bytes):
+    """Add's rows in their order: 4, 3, 5, 7, 8, 9, 10, 11. The state is D 2, B 1, V 2, E 2, M 1 with these counts."""
+    vectors, entries, nodes, built = state
+    unsound = vectors > 2 or entries > 2 or nodes > 1 or (built and (vectors == 0 or nodes == 0)) or (not built and nodes != 0)
+    needed = (2 * (2 + 1 + 1), 2 * 2 + 2 * 2 + 7 * 1, 2 + 4 * 1)
+    rows = [
+        (4, unsound),
+        (3, any(size < need for size, need in zip(sizes, needed))),
+        (5, built),
+        (7, len(vector) != 2),
+        (8, not all(math.isfinite(x) for x in vector)),
+        (9, sum(lengths) != len(label_bytes)),
+        (10, vectors == 2),
+        (11, entries + len(lengths) > 2),
+    ]
+    return next((number for number, holds in rows if holds), 0)
+
+
+def print_new(dimension, params=USUAL, capacities=(1, 0, 1)):
+    number = allowed(dimension, params, capacities)
+    print(f"{number} " if number else "0 0 0 ")
+
+
+def print_add(state, sizes, vector, lengths=b"", label_bytes=b""):
+    floats, numbers, hashes = [f32(MARK)] * 10, [MARK] * 17, [MARK] * 8
+    number = refusal(state, sizes, vector, lengths, label_bytes)
+    if number:
+        print(f"{number} ")
+    else:
+        vectors, entries = state[0], state[1]
+        print(f"0 {vectors + 1} {entries + len(lengths)} ")
+        floats[2 * vectors : 2 * vectors + 2] = normalized(vector)
+        numbers[vectors] = 77
+        start = 0
+        for place, length in enumerate(lengths):
+            numbers[2 + entries + place] = vectors
+            hashes[entries + place] = fnv(label_bytes[start : start + length])
+            start += length
+    print("".join(bits(x) + " " for x in floats))
+    print("".join(f"{n} " for n in numbers))
+    print("".join("%016x " % h for h in hashes))
+
+
+def main():
+    for dimension in (0, 1, 128, 129):
+        print_new(dimension)
+    for params in [(0, 128, 256, 4), (1, 128, 256, 4), (64, 128, 256, 4), (65, 128, 256, 4), (16, 0, 0, 0), (16, 4096, 256, 4),
+                   (16, 4097, 256, 4), (16, 128, 65537, 4), (16, 128, 65538, 4), (16, 128, 256, 65535), (16, 128, 256, 65536)]:
+        print_new(2, params)
+    for capacities in [(0, 0, 1), (4096, 0, 1), (4097, 0, 1), (1, 16384, 1), (1, 16385, 1), (1, 0, 0), (1, 0, 65537), (1, 0, 65538)]:
+        print_new(2, USUAL, capacities)
+    print_new(0, (0, 128, 256, 4), (0, 0, 0))
+
+    vector, full, fresh = [3.0, 4.0], (10, 17, 8), (0, 0, 0, False)
+    for state in [(3, 0, 0, False), (0, 3, 0, False), (1, 0, 2, True), (0, 0, 1, True), (1, 0, 0, True), (1, 0, 1, False)]:
+        print_add(state, full, vector)
+    print_add((3, 0, 0, False), (0, 0, 0), vector)
+    for sizes in [(7, 15, 6), (8, 14, 6), (8, 15, 5), (8, 15, 6)]:
+        print_add(fresh, sizes, vector)
+    print_add((1, 0, 1, True), (8, 15, 5), vector)
+    print_add((1, 0, 1, True), (8, 15, 6), [3.0])
+    least, greatest, infinity, nan = f32(-1.4e-45), f32(3.4028235e38), math.inf, math.nan
+    for given in [[3.0], [nan, nan, nan], [greatest, 0.0], [0.0, least], [infinity, 0.0], [0.0, -infinity]]:
+        print_add(fresh, full, given)
+    print_add(fresh, full, [0.0, nan], b"\1", b"")
+    for lengths, label_bytes in [(b"\1", b""), (b"\1", b"a"), (b"\1", b"ab"), (b"\1\0", b"a")]:
+        print_add(fresh, full, vector, lengths, label_bytes)
+    print_add((2, 0, 0, False), full, vector, b"", b"a")
+    for state, lengths, label_bytes in [((1, 0, 0, False), b"", b""), ((2, 0, 0, False), b"", b""), ((2, 2, 0, False), b"\1", b"a"),
+                                        ((1, 2, 0, False), b"", b""), ((1, 1, 0, False), b"\2", b"ab"), ((1, 1, 0, False), b"\1\1", b"ab"),
+                                        (fresh, b"\0\0\0", b"")]:
+        print_add(state, full, vector, lengths, label_bytes)
+
+
+main()
