@@ -16,10 +16,6 @@ use Rattle.curator.specs.Rows.{Lengths, firstOf, stateRow, buildRows}
 use Rattle.curator.specs.Calls.{factsOf, lengthsOf}
 use Rattle.curator.specs.StateLaws.{Sound}
 
--- the lengths of the four lists
-abbrev pub lengths : ℕ → ℕ → ℕ → ℕ → Lengths
-lengths floats numbers hashes work = record { floats = floats; numbers = numbers; hashes = hashes; work = work }
-
 -- 'Build's 15: an owner not below n', by the numbers alone
 unfoldable pub ownersBad : CuratorIndex → List ℕ → Bool
 unfolding allPass

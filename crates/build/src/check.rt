@@ -5,27 +5,15 @@ ghost use mathlib.Core.Path.{_≡_};
 ghost use lib.Dec.{ltb};
 ghost use lib.ListN.{length};
 ghost use Rattle.lists.specs.Lists.{part};
-ghost use Rattle.store.specs.Store.{Limits};
 ghost use Rattle.walk.specs.StoreView.{allPass};
-ghost use Rattle.curator.specs.Rows.{listsShort};
-ghost use Rattle.build.specs.Asked.{lengths, buildChecked};
+ghost use Rattle.curator.specs.Lent.{lengths};
+ghost use Rattle.build.specs.Asked.{buildChecked};
 use curator::Check;
 use curator::CuratorIndex;
 use curator::limits;
 use curator::refusal::Refusal;
 use curator::refusal::StateRefusal;
 use curator::refusal::StoreRefusal;
-use store::Shape;
-
-// Whether a list is shorter than its size.
-fn lists_short(shape: Shape, floats: usize, numbers: usize, hashes: usize, work: usize) -> bool
-    requires { ⌜ Limits shape ⌝ }
-    ensures { λ r. ⌜ r ≡ listsShort shape (lengths floats numbers hashes work) ⌝ }
-{
-    !((shape.floats_size() <= floats)
-        & ((shape.numbers_size() <= numbers) & (shape.hashes_size() <= hashes)))
-        | !(shape.work_size() <= work)
-}
 
 // A number of a list as a size.
 fn wide(x: u32) -> usize
@@ -63,7 +51,7 @@ pub fn build_check(
         return Check::Refused(Refusal::State(StateRefusal::InvalidState));
     }
     let shape = limits::shape_of(index);
-    if lists_short(shape, floats, numbers.len(), hashes, work) {
+    if limits::lists_short(shape, floats, numbers.len(), hashes, work) {
         return Check::Refused(Refusal::Store(StoreRefusal::ListTooShort));
     }
     if index.built {

@@ -19,7 +19,11 @@ use Rattle.curator.specs.Changes.{AddCall}
 abbrev pub lent : RefT (List Float) → RefT (List ℕ) → RefT (List ℕ) → Store
 lent floats numbers hashes = record { floats = now floats; numbers = now numbers; hashes = now hashes }
 
--- their lengths; add is lent no work list
+-- the lengths of the four lists
+abbrev pub lengths : ℕ → ℕ → ℕ → ℕ → Lengths
+lengths floats numbers hashes work = record { floats = floats; numbers = numbers; hashes = hashes; work = work }
+
+-- those of the three lists; add is lent no work list
 abbrev pub storeLengths : ℕ → ℕ → ℕ → Lengths
 storeLengths floats numbers hashes = record { floats = floats; numbers = numbers; hashes = hashes; work = 0 }
 

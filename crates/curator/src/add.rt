@@ -6,8 +6,7 @@ ghost use lib.ListN.{length, set, replicate};
 ghost use lib.Seq.{sets};
 ghost use Rattle.label.specs.Fnv.{fnv};
 ghost use Rattle.lists.specs.Lists.{part};
-ghost use Rattle.store.specs.Store.{Limits};
-ghost use Rattle.curator.specs.Rows.{storeShort, total};
+ghost use Rattle.curator.specs.Rows.{total};
 ghost use Rattle.curator.specs.Calls.{hashesOfLabels, grown};
 ghost use Rattle.curator.specs.Changes.{Wrote};
 ghost use Rattle.curator.specs.Lent.{lent, storeLengths, adding, addChecked, Room, VectorAt};
@@ -18,17 +17,7 @@ use crate::refusal::InputRefusal;
 use crate::refusal::Refusal;
 use crate::refusal::StateRefusal;
 use crate::refusal::StoreRefusal;
-use store::Shape;
 use walk::Counts;
-
-// Whether a list of the store is shorter than its size.
-fn store_short(shape: Shape, floats: usize, numbers: usize, hashes: usize) -> bool
-    requires { ⌜ Limits shape ⌝ }
-    ensures { λ r. ⌜ r ≡ storeShort shape (storeLengths floats numbers hashes) ⌝ }
-{
-    !((shape.floats_size() <= floats)
-        & ((shape.numbers_size() <= numbers) & (shape.hashes_size() <= hashes)))
-}
 
 // A byte as a size.
 fn wide(byte: u8) -> usize
@@ -69,7 +58,7 @@ pub fn add_check(
     if !limits::state_sound(index) {
         return Check::Refused(Refusal::State(StateRefusal::InvalidState));
     }
-    if store_short(limits::shape_of(index), floats, numbers, hashes) {
+    if limits::store_short(limits::shape_of(index), floats, numbers, hashes) {
         return Check::Refused(Refusal::Store(StoreRefusal::ListTooShort));
     }
     if index.built {

@@ -34,7 +34,8 @@ use Rattle.curator.specs.RowLaws.{NoneHolds, fine-none}
 use Rattle.curator.specs.Rows.{Row, Lengths, firstOf, stateRow, storeShort, listsShort, searchRows}
 use Rattle.curator.specs.Searches.{Asked, wantedOf, SearchCall, SearchEnd, searchCheck, Untouched, Broken, Answered, WalkedTo, Walked, SearchesBy, Searches}
 use Rattle.curator.specs.StateLaws.{and-all, Sound, sound-facts}
-use Rattle.search.specs.Lent.{lengths, Ready, foundOf}
+use Rattle.curator.specs.Lent.{lengths}
+use Rattle.search.specs.Lent.{Ready, foundOf}
 
 -- ---- what no row's case gives
 

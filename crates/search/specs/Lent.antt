@@ -22,10 +22,6 @@ use Rattle.curator.specs.Rows.{Lengths, firstOf, stateRow, searchRows}
 use Rattle.curator.specs.Calls.{factsOf}
 use Rattle.curator.specs.Searches.{Asked, everything, labelled, wantedOf, SearchCall, SearchEnd, Walked, Searches}
 
--- the lengths of the four lists
-abbrev pub lengths : ℕ → ℕ → ℕ → ℕ → Lengths
-lengths floats numbers hashes work = record { floats = floats; numbers = numbers; hashes = hashes; work = work }
-
 -- what the rows of a search come to, by the lengths of the lists
 abbrev pub searchChecked : CuratorIndex → Lengths → RefT (List Float) → ℕ → ℕ → ℕ → Check
 searchChecked index lent query k ids distances =

@@ -1,10 +1,8 @@
 // Both searches of an index: the refusals, the query normalised, and the walk (document 01, 'Search').
 ghost use mathlib.Core.Path.{_≡_};
-ghost use Rattle.store.specs.Store.{Limits};
-ghost use Rattle.curator.specs.Lent.{lent};
-ghost use Rattle.curator.specs.Rows.{listsShort};
+ghost use Rattle.curator.specs.Lent.{lent, lengths};
 ghost use Rattle.curator.specs.Searches.{Searches};
-ghost use Rattle.search.specs.Lent.{lengths, searchChecked, Ready, foundOf, looking, leaving, filtered, unfiltered, SearchesFor, WalkedFor};
+ghost use Rattle.search.specs.Lent.{searchChecked, Ready, foundOf, looking, leaving, filtered, unfiltered, SearchesFor, WalkedFor};
 use curator::Check;
 use curator::CuratorIndex;
 use curator::Found;
@@ -13,19 +11,8 @@ use curator::refusal::InputRefusal;
 use curator::refusal::Refusal;
 use curator::refusal::StateRefusal;
 use curator::refusal::StoreRefusal;
-use store::Shape;
 use walk::Searched;
 use walk::Wanted;
-
-// Whether a list of the store, or the work list, is shorter than its size.
-fn lists_short(shape: Shape, floats: usize, numbers: usize, hashes: usize, work: usize) -> bool
-    requires { ⌜ Limits shape ⌝ }
-    ensures { λ r. ⌜ r ≡ listsShort shape (lengths floats numbers hashes work) ⌝ }
-{
-    !((shape.floats_size() <= floats)
-        & ((shape.numbers_size() <= numbers) & (shape.hashes_size() <= hashes)))
-        | !(shape.work_size() <= work)
-}
 
 // The first refusal whose case holds, of those that come before the walk.
 fn search_check(
@@ -44,7 +31,7 @@ fn search_check(
     if !limits::state_sound(index) {
         return Check::Refused(Refusal::State(StateRefusal::InvalidState));
     }
-    if lists_short(limits::shape_of(index), floats, numbers, hashes, work) {
+    if limits::lists_short(limits::shape_of(index), floats, numbers, hashes, work) {
         return Check::Refused(Refusal::Store(StoreRefusal::ListTooShort));
     }
     if !index.built {

@@ -12,7 +12,7 @@ use Rattle.curator.specs.Limits.{stateSound, indexShape}
 use Rattle.curator.specs.RowLaws.{no-rows, row-stops, row-passes}
 use Rattle.curator.specs.Rows.{Row, Lengths, firstOf, stateRow, listsShort, searchRows}
 use Rattle.curator.specs.StateLaws.{Sound, sound-facts}
-use Rattle.search.specs.Lent.{lengths}
+use Rattle.curator.specs.Lent.{lengths}
 use borrow.Author.Needs.{needs}
 use Rattle.search.proofs.search_check.Statement.{statement}
 use Rattle.search.proofs.search_check.Tie as tie

@@ -17,7 +17,8 @@ use Rattle.curator.specs.Limits.{stateSound, indexShape}
 use Rattle.curator.specs.RowLaws.{no-rows, row-stops, row-passes}
 use Rattle.curator.specs.Rows.{Row, Lengths, firstOf, listsShort}
 use Rattle.curator.specs.StateLaws.{Sound, sound-facts}
-use Rattle.build.specs.Asked.{lengths, ownersBad}
+use Rattle.curator.specs.Lent.{lengths}
+use Rattle.build.specs.Asked.{ownersBad}
 use Rattle.build.specs.CheckLaws.{earlyRows, fullRow, checked-rows, and-false, lists-long}
 use Rattle.build.proofs.check.build_check.Statement.{statement}
 use Rattle.build.proofs.check.build_check.Tie as tie

@@ -5,8 +5,8 @@ use mathlib.Core.Path.{ap, ap₂}
 use lib.Dec.{leb}
 use Rattle.curator.specs.Rows.{storeShort}
 use borrow.Author.Needs.{needs}
-use Rattle.curator.proofs.add.store_short.Statement.{statement}
-use Rattle.curator.proofs.add.store_short.Tie as tie
+use Rattle.curator.proofs.limits.store_short.Statement.{statement}
+use Rattle.curator.proofs.limits.store_short.Tie as tie
 
 floats-size-requires : tie.Need-floats-size-requires
 floats-size-requires c κs = search needs
