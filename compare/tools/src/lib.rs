@@ -10,4 +10,5 @@ pub mod generate;
 pub mod model;
 pub mod ours;
 pub mod random;
+pub mod sample;
 pub mod theirs;

@@ -2,45 +2,11 @@
 //! first; FOLDER/stdout gets what is printed of them, one after the other. Ids and distances are the original's; it does not count the nodes that
 //! it opens, so the closing lines are the model's.
 use tools::case::Case;
-use tools::check::domain::{self, Domain};
-use tools::check::search::{same_hits, search};
+use tools::check::search::search;
 use tools::echo;
-use tools::generate::index::{case, Most};
-use tools::model::search::{answer, walk};
-use tools::model::tree::Tree;
 use tools::ours::{Lists, Ours};
 use tools::random::Random;
-use tools::theirs;
-
-/// The sizes of the program `echoes`.
-const SIZES: Most = Most { dimension: 16, vectors: 128, entries: 256 };
-const NODES: usize = 512;
-const PLACES: usize = 256;
-const LONGEST: usize = 65536;
-
-/// A case that `echoes` takes, with the searches on which ids and distances must be equal.
-fn sample(random: &mut Random) -> Option<(Case, Tree)> {
-    let mut case = case(random, SIZES);
-    let tree = Tree::build(&case);
-    let plain = case.plain();
-    case.queries.retain(|query| query.k <= PLACES && domain::of(&walk(&tree, query), plain) == Domain::Whole);
-    let fits = tree.nodes.len() <= NODES && echo::file(&case).len() <= LONGEST;
-    let tells = case.queries.iter().any(|query| answer(&walk(&tree, query), query.k).hits.len() > 1);
-    (fits && tells).then_some((case, tree))
-}
-
-/// What is printed, from the original's hits and the model's count.
-fn printed(case: &Case, tree: &Tree) -> String {
-    let theirs = theirs::built(case);
-    let mut text = String::new();
-    for query in &case.queries {
-        let hits = theirs::search(&theirs, query);
-        let model = answer(&walk(tree, query), query.k);
-        assert!(same_hits(&hits, &model.hits), "the original and the model differ");
-        echo::print(&mut text, &hits, model.opened, model.whole);
-    }
-    text
-}
+use tools::sample::{printed, sample, NODES, SIZES};
 
 /// The same from the static library, at the sizes of `echoes`.
 fn ours(case: &Case) -> String {
