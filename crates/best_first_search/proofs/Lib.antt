@@ -1,2 +1,4 @@
 -- Laws that only this crate's proofs need.
+pub mod Runs
+pub mod Ranking
 pub mod Searching

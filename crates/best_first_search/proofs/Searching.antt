@@ -1,70 +1,93 @@
--- From the walk and the hits taken to the answer. Assumes nothing.
-use Prim.Native.Nat.{ℕ, _*_, _≤_}
+-- From the walk and its first k hits to the answer. Assumes nothing.
+use Prim.Native.Nat.{ℕ, _+_, _*_, _≤_, max}
 use native.Mathlib.Omega.{arith}
-use mathlib.Core.Path.{_≡_, refl, sym, ap, _∙_, subst}
-use mathlib.Core.Bool.{Bool}
+use mathlib.Core.Path.{_≡_, refl, sym, ap, _∙_, subst, subst₂}
+use mathlib.Core.Bool.{Bool, true}
 use mathlib.Core.List.{List, map}
+use lib.Dec.{ltb}
 use lib.Ieee.{Float}
-use lib.ListN.{length, take, length-map}
-use lib.Seq.{sets}
-use Rattle.order.specs.Records.{records, Heap}
+use lib.ListN.{length, take, drop, length-map}
+use lib.Seq.{sets, take-take}
+use Rattle.lists.specs.Lists.{part}
+use Rattle.lists.specs.Parts.{length-part, part-part}
+use Rattle.order.specs.RecordsLaws.{heap-none}
 use Rattle.store.specs.declared.Shape.{Shape}
-use Rattle.store.specs.Store.{workSize}
+use Rattle.store.specs.Store.{Limits, hitsAt, workSize}
 use Rattle.walk.specs.declared.Wanted.{Wanted}
 use Rattle.walk.specs.declared.Counts.{Counts}
-use Rattle.hit_queue.specs.declared.Taken.{Taken}
 use Rattle.walk.specs.Walk.{View, Progress, State, damaged, going, walk}
 use Rattle.walk.specs.WalkLaws.{found-most}
 use Rattle.walk.specs.Answer.{documentOf, distanceOf, dropRepeats, ranked, answer}
 use Rattle.walk.specs.AnswerLaws.{ranked-is}
-use Rattle.best_first_walk.specs.Walks.{hitsPart, EndsAs, WalkEnds}
-use Rattle.hit_queue.specs.Hits.{mostOf, rankedQueue, Takes, TakeHits}
+use Rattle.walk.specs.StoreView.{allPass}
 use Rattle.walk.specs.Search.{Answers, SearchEnds}
-use Rattle.best_first_walk.specs.WalksLaws.{hits-room}
+use Rattle.hit_queue.specs.Hits.{mostOf, Measure}
+use Rattle.best_first_walk.specs.Walks.{hitsPart, foundIn, foundAt, foundPart, Finds, EndsAs, WalkEnds}
+use Rattle.best_first_walk.specs.WalksLaws.{few-hits}
+use Rattle.best_first_search.specs.Ranks.{firstOf, FirstHits, Firsts}
 use Rattle.best_first_walk.specs.declared.Walked.the-variants as walked
 use Rattle.walk.specs.declared.Searched.the-variants as searched
 
-pub damaged-search : (s : Shape) (st : State) (k : ℕ) (work ids : List ℕ) (distances : List Float) → WalkEnds s st walked.Damaged work
-    → SearchEnds st k searched.Damaged ids ids distances distances
-damaged-search s damaged k work ids distances w = record { is = refl; ids-kept = refl; distances-kept = refl }
-damaged-search s (going p) k work ids distances w = absurd w
+module _ (s : Shape) (c : Counts) (hit : ℕ → ℕ) where
+  pub damaged-search : (st : State) (k : ℕ) (work ids : List ℕ) (distances : List Float) → WalkEnds s c hit st walked.Damaged work
+      → SearchEnds st k searched.Damaged ids ids distances distances
+  damaged-search damaged k work ids distances w = record { is = refl; ids-kept = refl; distances-kept = refl }
+  damaged-search (going p) k work ids distances w = absurd w
 
--- the hits of the queue, ranked, are those of the walk
-same-ranked : (s : Shape) (p : Progress) (found opened : ℕ) (complete : Bool) (work : List ℕ) → EndsAs s p found opened complete work
-    → rankedQueue found (hitsPart s work) ≡ ranked p
-same-ranked s p found opened complete work e = ap dropRepeats (e .hits) ∙ sym (ranked-is p)
+  answered : (p : Progress) (k found opened : ℕ) (complete : Bool) (work ids ids′ : List ℕ) (distances distances′ : List Float) (r : ℕ)
+      → EndsAs s c hit p found opened complete work → Firsts (map hit (take found (foundPart s work))) k ids distances r ids′ distances′
+      → Answers (answer k p) (searched.Found r opened complete) ids ids′ distances distances′
+  unfolding answer
+  answered p k found opened complete work ids ids′ distances distances′ r e q =
+      let same : firstOf k (map hit (take found (foundPart s work))) ≡ take k (ranked p) = ap (λ (l : List ℕ). take k (dropRepeats l)) (e .finds .are) ∙ ap (take k) (sym (ranked-is p)) in
+      let count : r ≡ length (map documentOf (take k (ranked p))) = q .count-is ∙ ap length same ∙ sym (length-map (take k (ranked p)) documentOf) in
+      record {
+        is = cc (count, e .nodes, e .all);
+        ids-are = q .ids-are ∙ ap (λ (l : List ℕ). sets ids 0 (map documentOf l)) same;
+        distances-are = q .distances-are ∙ ap (λ (l : List ℕ). sets distances 0 (map distanceOf l)) same;
+      }
 
-answered : (s : Shape) (p : Progress) (k found opened : ℕ) (complete : Bool) (work ids ids′ heap′ : List ℕ) (distances distances′ : List Float) (t : Taken)
-    → EndsAs s p found opened complete work → Takes (hitsPart s work) found k ids distances t heap′ ids′ distances′
-    → Answers (answer k p) (searched.Found (t .hits) opened complete) ids ids′ distances distances′
-unfolding answer
-answered s p k found opened complete work ids ids′ heap′ distances distances′ t e q =
-    let same : take k (rankedQueue found (hitsPart s work)) ≡ take k (ranked p) = ap (take k) (same-ranked s p found opened complete work e) in
-    let count : t .hits ≡ length (map documentOf (take k (ranked p))) = q .count-is ∙ ap length same ∙ sym (length-map (take k (ranked p)) documentOf) in
-    record {
-      is = cc (count, e .nodes, e .all);
-      ids-are = q .ids-are ∙ ap (λ (l : List ℕ). sets ids 0 (map documentOf l)) same;
-      distances-are = q .distances-are ∙ ap (λ (l : List ℕ). sets distances 0 (map distanceOf l)) same;
-    }
+  pub ended-search : (st : State) (k found opened : ℕ) (complete : Bool) (work ids ids′ : List ℕ) (distances distances′ : List Float) (r : ℕ)
+      → WalkEnds s c hit st (walked.Ended found opened complete) work → Firsts (map hit (take found (foundPart s work))) k ids distances r ids′ distances′
+      → SearchEnds st k (searched.Found r opened complete) ids ids′ distances distances′
+  ended-search damaged k found opened complete work ids ids′ distances distances′ r w q = absurd w
+  ended-search (going p) k found opened complete work ids ids′ distances distances′ r w q =
+      answered p k found opened complete work ids ids′ distances distances′ r w q
 
-pub ended-search : (s : Shape) (st : State) (k found opened : ℕ) (complete : Bool) (work ids ids′ heap′ : List ℕ) (distances distances′ : List Float) (t : Taken)
-    → WalkEnds s st (walked.Ended found opened complete) work → Takes (hitsPart s work) found k ids distances t heap′ ids′ distances′
-    → SearchEnds st k (searched.Found (t .hits) opened complete) ids ids′ distances distances′
-ended-search s damaged k found opened complete work ids ids′ heap′ distances distances′ t w q = absurd w
-ended-search s (going p) k found opened complete work ids ids′ heap′ distances distances′ t w q =
-    answered s p k found opened complete work ids ids′ heap′ distances distances′ t w q
+  -- the vectors that a walk found
+  ended-few : (view : View) (ef : ℕ) (st : State) (found opened : ℕ) (complete : Bool) (work : List ℕ) → walk view ef ≡ st
+      → WalkEnds s c hit st (walked.Ended found opened complete) work
+      → (found ≤ view .most) × (allPass (λ x. ltb x (c .vectors)) (take found (foundPart s work)) ≡ true)
+  ended-few view ef damaged found opened complete work e w = absurd w
+  ended-few view ef (going p) found opened complete work e w =
+      (subst (λ (n : ℕ). n ≤ view .most) (sym (w .finds .count)) (found-most view ef p e), w .finds .held)
 
--- the queue that a walk leaves
-ended-few : (s : Shape) (view : View) (ef : ℕ) (st : State) (found opened : ℕ) (complete : Bool) (work : List ℕ) → walk view ef ≡ st
-    → WalkEnds s st (walked.Ended found opened complete) work → (found ≤ view .most) × Heap (records 3 found (hitsPart s work))
-ended-few s view ef damaged found opened complete work e w = absurd w
-ended-few s view ef (going p) found opened complete work e w = (subst (λ (n : ℕ). n ≤ view .most) (sym (w .count)) (found-most view ef p e), w .queue)
+  -- the numbers, by their place in the hits' part
+  numbers-are : (work : List ℕ) (found : ℕ) → Limits s → found ≤ max (s .vectors) (s .entries) → part (foundIn s) found (hitsPart s work) ≡ take found (foundPart s work)
+  numbers-are work found limits few =
+      part-part (hitsAt s) (3 * max (s .vectors) (s .entries)) (foundIn s) found work (omega (arith, limits .vectors-low))
+      ∙ sym (take-take found (max (s .vectors) (s .entries) + 1) (drop (foundAt s) work) (omega arith))
 
-pub ended-queue : (s : Shape) (c : Counts) (wanted : Wanted) (view : View) (ef k found opened : ℕ) (complete : Bool) (work heap ids : List ℕ) (distances : List Float)
-    → view .most ≡ mostOf c wanted → c .vectors ≤ s .vectors → c .entries ≤ s .entries → workSize s ≤ length work → heap ≡ hitsPart s work
-    → k ≤ length ids → k ≤ length distances → WalkEnds s (walk view ef) (walked.Ended found opened complete) work → TakeHits heap found k ids distances
-ended-queue s c wanted view ef k found opened complete work heap ids distances most v e size is a b w =
-    let few = ended-few s view ef (walk view ef) found opened complete work refl w in
-    let room : mostOf c wanted * 3 ≤ length (hitsPart s work) = hits-room s c wanted work v e size in
-    subst (λ (h : List ℕ). TakeHits h found k ids distances) (sym is)
-    (record { room = omega (arith, few .0, most, room); queue = few .1; ids-room = a; distances-room = b })
+  module _ (wanted : Wanted) (view : View) (ef k found opened : ℕ) (complete : Bool) (work heap : List ℕ) (from : ℕ) (limits : Limits s) (most : view .most ≡ mostOf c wanted)
+      (v : c .vectors ≤ s .vectors) (e : c .entries ≤ s .entries) (size : workSize s ≤ length work) (is : heap ≡ hitsPart s work) (at : from ≡ foundIn s)
+      (w : WalkEnds s c hit (walk view ef) (walked.Ended found opened complete) work) where
+    few : found ≤ max (s .vectors) (s .entries)
+    few = omega (arith, ended-few view ef (walk view ef) found opened complete work refl w .0, most, few-hits s c wanted v e)
+
+    pub ended-numbers : part from found heap ≡ take found (foundPart s work)
+    ended-numbers = ap (λ (n : ℕ). part n found heap) at ∙ ap (part (foundIn s) found) is ∙ numbers-are work found limits few
+
+    pub ended-first : (ids : List ℕ) (distances : List Float) → k ≤ length ids → k ≤ length distances → FirstHits c heap from found k ids distances
+    ended-first ids distances a b =
+        let long : length heap ≡ 3 * max (s .vectors) (s .entries) = ap length is ∙ length-part (hitsAt s) (3 * max (s .vectors) (s .entries)) work size in
+        record {
+          numbers = record {
+            queue = heap-none 3 heap;
+            held = ap (allPass (λ x. ltb x (c .vectors))) ended-numbers ∙ ended-few view ef (walk view ef) found opened complete work refl w .1;
+            inside = omega (arith, few, long, at, limits .vectors-low);
+            apart = omega (arith, few, at, limits .vectors-low);
+            room = omega (arith, few, long);
+          };
+          ids-room = a;
+          distances-room = b;
+        }

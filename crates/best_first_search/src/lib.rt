@@ -1,7 +1,10 @@
 // The searches over a lent store: the best-first walk, and the first k of its hits (document 01, 'Search').
+pub mod rank;
+
+use crate::rank::first_hits;
 use best_first_walk::Walked;
 use best_first_walk::best_first_walk;
-use hit_queue::take_hits;
+use best_first_walk::found_at;
 use store::Shape;
 use walk::Counts;
 use walk::Searched;
@@ -35,6 +38,7 @@ pub fn search(
 {
     let hits_at = shape.hits_at();
     let hits_end = shape.work_size();
+    let from = found_at(shape) - hits_at;
     let walked = best_first_walk(
         shape,
         counts,
@@ -53,9 +57,21 @@ pub fn search(
             opened,
             whole,
         } => {
-            let taken = take_hits(&mut work[hits_at..hits_end], hits, k, ids, distances);
+            let written = first_hits(
+                shape,
+                counts,
+                floats,
+                numbers,
+                &mut work[hits_at..hits_end],
+                query,
+                from,
+                hits,
+                k,
+                ids,
+                distances,
+            );
             Searched::Found {
-                hits: taken.hits,
+                hits: written,
                 opened,
                 whole,
             }

@@ -4,8 +4,9 @@ use native.Mathlib.Nat.{le-refl}
 use native.Mathlib.Omega.{arith}
 use mathlib.Core.Path.{_≡_, refl, sym, ap, ap₂, _∙_, subst}
 use mathlib.Core.Logic.{_⊎_, inl, inr, _≢_}
-use mathlib.Core.Bool.{Bool, cond}
-use mathlib.Core.List.{List, [], _∷_, _++_}
+use mathlib.Core.Bool.{Bool, true, _&&_, cond}
+use lib.Dec.{ltb}
+use mathlib.Core.List.{List, [], _∷_, _++_, map, map-append}
 use lib.Ieee.{Float}
 use lib.ListN.{length, getD, take, drop, set, replicate, length-set, length-append, length-replicate, getD-replicate, length-map}
 use lib.Seq.{drop-drop, take-set-le, getD-drop, getD-set-same, getD-set-other, drop-set-lt, sets, length-sets}
@@ -15,7 +16,7 @@ use Rattle.lists.specs.Parts.{length-part, getD-sets-before, getD-sets-in, take
 use Rattle.lists.specs.Partition.{count, hit, hit-same, count-cons, count-Memᴰ, perm-length, count-perm, count-append}
 use Rattle.order.specs.declared.Record.{Record}
 use Rattle.order.specs.Sorted.{sort, insert}
-use Rattle.order.specs.SortedLaws.{length-sort, insert-nil, sort-nil, sort-append-cong}
+use Rattle.order.specs.SortedLaws.{length-sort, insert-nil, sort-nil, sort-append-comm, sort-append-cong}
 use Rattle.order.specs.Records.{value, records, Heap}
 use Rattle.order.specs.RecordsLaws.{value-is, records-zero, records-same, length-records, heap-none, same-or-not}
 use Rattle.order.specs.Queue.{Pushed, Popped}
@@ -23,13 +24,15 @@ use Rattle.store.specs.declared.Shape.{Shape}
 use Rattle.store.specs.Store.{Limits, vectorAt, marksAt, hitsAt, workSize}
 use Rattle.distance.specs.Distance.{distance}
 use Rattle.distance.specs.TotalOrder.{keyOf}
-use Rattle.walk.specs.StoreView.{storeView}
+use Rattle.walk.specs.StoreView.{allPass, storeView}
+use Rattle.walk.specs.StoreViewLaws.{allPass-nil}
+use Rattle.hit_queue.specs.HitsLaws.{allPass-append}
 use Rattle.walk.specs.declared.Wanted.{Wanted}
 use Rattle.walk.specs.declared.Counts.{Counts}
 use Rattle.walk.specs.Walk.{View, waitingNode, nodeNumber, Progress, hits}
 use Rattle.walk.specs.WalkLaws.{openedOne, pushedOne, withHits, Once, numbersOf}
 use Rattle.walk.specs.Search.{lent, Works}
-use Rattle.best_first_walk.specs.Walks.{hitsPart, Represents, Begins, PushedNode}
+use Rattle.best_first_walk.specs.Walks.{foundAt, foundPart, Finds, Represents, Begins, PushedNode}
 use Rattle.walk.specs.LentLaws.{works-trans, works-sets}
 
 -- ---- lists
@@ -75,13 +78,22 @@ pushed-node s work work′ waiting child at r room e is q =
 mark-one : (i c : ℕ) (l : List ℕ) → i ≡ c → _≡_ {A = ℕ} (cond (isIn i (c ∷ l)) 1 0) 1
 mark-one i c l e = ap {B = ℕ} (λ (b : Bool). cond b 1 0) (ap (λ (j : ℕ). isIn j (c ∷ l)) e ∙ isIn-here c l)
 
+-- the vectors found stand where they stood
+finds-same : (s : Shape) (c : Counts) (hit : ℕ → ℕ) (new work work′ : List ℕ) (found : ℕ) → foundPart s work′ ≡ foundPart s work → Finds s c hit new work found
+    → Finds s c hit new work′ found
+finds-same s c hit new work work′ found e f = record {
+  count = f .count;
+  held = ap (λ (l : List ℕ). allPass (λ x. ltb x (c .vectors)) (take found l)) e ∙ f .held;
+  are = ap (λ (l : List ℕ). sort (map hit (take found l))) e ∙ f .are;
+}
+
 -- A represented progress with a child pushed
-module _ (s : Shape) (c : Counts) (view : View) (limits : Limits s) (nodes : c .nodes ≤ s .nodes) where
-  pub represents-pushed : (p : Progress) (work work′ : List ℕ) (waiting found child : ℕ) → child < c .nodes → Represents s c p work waiting found
-      → PushedNode s work waiting child (view .key child) work′ → Represents s c (pushedOne view child p) work′ (waiting + 1) found
+module _ (s : Shape) (c : Counts) (hit : ℕ → ℕ) (view : View) (limits : Limits s) (nodes : c .nodes ≤ s .nodes) where
+  pub represents-pushed : (p : Progress) (work work′ : List ℕ) (waiting found child : ℕ) → child < c .nodes → Represents s c hit p work waiting found
+      → PushedNode s work waiting child (view .key child) work′ → Represents s c hit (pushedOne view child p) work′ (waiting + 1) found
   represents-pushed p work work′ waiting found child below r q =
-      let hits-same : hitsPart s work′ ≡ hitsPart s work =
-      part-behind (hitsAt s) (hitsAt s) (3 * max (s .vectors) (s .entries)) work′ work (le-refl (hitsAt s))
+      let found-kept : foundPart s work′ ≡ foundPart s work =
+      part-behind (hitsAt s) (foundAt s) (max (s .vectors) (s .entries) + 1) work′ work (let t : hitsAt s ≤ foundAt s = omega arith in t)
       (drop-more (marksAt s) (hitsAt s) work′ (set work (marksAt s + child) 1) (omega arith) (q .behind)
       ∙ drop-set-lt (hitsAt s) work (marksAt s + child) 1 (omega arith)) in
       record {
@@ -89,8 +101,7 @@ module _ (s : Shape) (c : Counts) (view : View) (limits : Limits s) (nodes : c .
         queue = q .queue;
         waits = q .sorted ∙ ap (insert (waitingNode view child)) (r .waits);
         marks = λ i h. getD-behind (marksAt s) (marksAt s + i) work′ (set work (marksAt s + child) 1) 0 (omega arith) (q .behind) ∙ one i h (same-or-not i child);
-        hit-queue = subst (λ (l : List ℕ). Heap (records 3 found l)) (sym hits-same) (r .hit-queue);
-        hits = ap (λ (l : List ℕ). sort (records 3 found l)) hits-same ∙ r .hits;
+        finds = finds-same s c hit (p .found) work work′ found found-kept (r .finds);
       }
     where
       one : (i : ℕ) → i < c .nodes → (i ≡ child) ⊎ (i ≢ child) → getD (set work (marksAt s + child) 1) (marksAt s + i) 0 ≡ cond (isIn i (child ∷ p .pushed)) 1 0
@@ -109,7 +120,7 @@ waiting-length p n o =
     let all = perm-length (count-perm (p .opened ++ numbersOf (p .waiting)) (p .pushed) (λ x. count-append x (p .opened) (numbersOf (p .waiting)) ∙ o .counted x)) in
     omega (arith, all, length-append (p .opened) (numbersOf (p .waiting)), length-map (p .waiting) nodeNumber)
 
-module _ (s : Shape) (c : Counts) (p : Progress) (work : List ℕ) (waiting found : ℕ) (r : Represents s c p work waiting found) where
+module _ (s : Shape) (c : Counts) (hit : ℕ → ℕ) (p : Progress) (work : List ℕ) (waiting found : ℕ) (r : Represents s c hit p work waiting found) where
   pub represents-length : length (p .waiting) ≡ waiting
   represents-length = ap length (sym (r .waits)) ∙ length-sort (records 2 waiting work) ∙ length-records 2 waiting work
 
@@ -118,17 +129,16 @@ module _ (s : Shape) (c : Counts) (p : Progress) (work : List ℕ) (waiting foun
   popped-waits work′ least q = sym (r .waits) ∙ q .sorted
 
   pub represents-opened : (work′ : List ℕ) (least : Record) → c .nodes ≤ s .nodes → waiting ≤ s .nodes → Popped 2 waiting work least work′
-      → Represents s c (openedOne (value least) (sort (records 2 (waiting - 1) work′)) p) work′ (waiting - 1) found
+      → Represents s c hit (openedOne (value least) (sort (records 2 (waiting - 1) work′)) p) work′ (waiting - 1) found
   represents-opened work′ least nodes few q =
-      let hits-same : hitsPart s work′ ≡ hitsPart s work =
-      part-behind (waiting * 2) (hitsAt s) (3 * max (s .vectors) (s .entries)) work′ work (omega arith) (q .behind) in
+      let found-kept : foundPart s work′ ≡ foundPart s work =
+      part-behind (waiting * 2) (foundAt s) (max (s .vectors) (s .entries) + 1) work′ work (omega arith) (q .behind) in
       record {
         size = omega (arith, q .size, r .size);
         queue = q .heap;
         waits = refl;
         marks = λ i h. getD-behind (waiting * 2) (marksAt s + i) work′ work 0 (omega arith) (q .behind) ∙ r .marks i h;
-        hit-queue = subst (λ (l : List ℕ). Heap (records 3 found l)) (sym hits-same) (r .hit-queue);
-        hits = ap (λ (l : List ℕ). sort (records 3 found l)) hits-same ∙ r .hits;
+        finds = finds-same s c hit (p .found) work work′ found found-kept (r .finds);
       }
 
 -- the number of a popped node
@@ -142,30 +152,36 @@ least-below p n least rest o e =
     let waits : count i (numbersOf (p .waiting)) ≡ hit i i + count i (numbersOf rest) = ap (λ (l : List ℕ). count i (numbersOf l)) e ∙ count-cons i i (numbersOf rest) in
     o .below i (count-Memᴰ i (p .pushed) (omega (arith, o .counted i, waits, hit-same i i refl)))
 
--- ---- hits are added
+-- ---- vectors are found
 
--- the work list with another hits' part
-module _ (s : Shape) (c : Counts) (p : Progress) (work ys : List ℕ) (waiting found : ℕ) (r : Represents s c p work waiting found)
-    (long : length ys ≡ 3 * max (s .vectors) (s .entries)) where
-  room : hitsAt s + length ys ≤ length work
-  room = omega (arith, r .size, long)
+-- the work list with other numbers of vectors
+module _ (s : Shape) (c : Counts) (hit : ℕ → ℕ) (p : Progress) (work ys : List ℕ) (waiting found : ℕ) (r : Represents s c hit p work waiting found)
+    (limits : Limits s) (long : length ys ≡ max (s .vectors) (s .entries) + 1) where
+  room : foundAt s + length ys ≤ length work
+  room = omega (arith, r .size, long, limits .vectors-low)
 
-  pub hits-in : hitsPart s (sets work (hitsAt s) ys) ≡ ys
-  hits-in = ap (λ (n : ℕ). part (hitsAt s) n (sets work (hitsAt s) ys)) (sym long) ∙ part-sets-same work (hitsAt s) ys room
+  pub found-in : foundPart s (sets work (foundAt s) ys) ≡ ys
+  found-in = ap (λ (n : ℕ). part (foundAt s) n (sets work (foundAt s) ys)) (sym long) ∙ part-sets-same work (foundAt s) ys room
 
-  pub represents-hits : (new : List ℕ) (total : ℕ) → c .nodes ≤ s .nodes → waiting ≤ s .nodes → Heap (records 3 total ys)
-      → sort (records 3 total ys) ≡ sort (new ++ records 3 found (hitsPart s work))
-      → Represents s c (withHits new p) (sets work (hitsAt s) ys) waiting total
-  represents-hits new total nodes few heap sorted =
-      let front : records 2 waiting (sets work (hitsAt s) ys) ≡ records 2 waiting work =
-      records-same 2 waiting (sets work (hitsAt s) ys) work (le-refl 2) (take-sets (waiting * 2) work (hitsAt s) ys (let t : waiting * 2 ≤ hitsAt s = omega arith in t)) in
+  pub represents-hits : (new : List ℕ) (total : ℕ) → c .nodes ≤ s .nodes → waiting ≤ s .nodes → allPass (λ x. ltb x (c .vectors)) new ≡ true
+      → total ≡ length new + found → take total ys ≡ take found (foundPart s work) ++ new
+      → Represents s c hit (withHits (map hit new) p) (sets work (foundAt s) ys) waiting total
+  represents-hits new total nodes few held count is =
+      let front : records 2 waiting (sets work (foundAt s) ys) ≡ records 2 waiting work =
+      records-same 2 waiting (sets work (foundAt s) ys) work (le-refl 2) (take-sets (waiting * 2) work (foundAt s) ys (let t : waiting * 2 ≤ foundAt s = omega arith in t)) in
+      let old : List ℕ = take found (foundPart s work) in
+      let all : take total (foundPart s (sets work (foundAt s) ys)) ≡ old ++ new = ap (take total) found-in ∙ is in
       record {
-        size = omega (arith, length-sets work (hitsAt s) ys, r .size);
+        size = omega (arith, length-sets work (foundAt s) ys, r .size);
         queue = subst Heap (sym front) (r .queue);
         waits = ap sort front ∙ r .waits;
-        marks = λ i h. getD-sets-before work (hitsAt s) ys (marksAt s + i) 0 (let t : marksAt s + i < hitsAt s = omega arith in t) ∙ r .marks i h;
-        hit-queue = subst (λ (l : List ℕ). Heap (records 3 total l)) (sym hits-in) heap;
-        hits = ap (λ (l : List ℕ). sort (records 3 total l)) hits-in ∙ sorted ∙ sort-append-cong new new (records 3 found (hitsPart s work)) (p .found) refl (r .hits);
+        marks = λ i h. getD-sets-before work (foundAt s) ys (marksAt s + i) 0 (let t : marksAt s + i < foundAt s = omega arith in t) ∙ r .marks i h;
+        finds = record {
+          count = omega (arith, count, r .finds .count, length-append (map hit new) (p .found), length-map new hit);
+          held = ap (allPass (λ x. ltb x (c .vectors))) all ∙ allPass-append (λ x. ltb x (c .vectors)) old new ∙ ap₂ _&&_ (r .finds .held) held;
+          are = ap (λ (l : List ℕ). sort (map hit l)) all ∙ ap sort (map-append hit old new)
+              ∙ sort-append-comm (map hit old) (map hit new) ∙ sort-append-cong (map hit new) (map hit new) (map hit old) (p .found) refl (r .finds .are);
+        };
       }
 
 -- ---- what the work list keeps
@@ -186,9 +202,9 @@ works-popped s work work′ waiting r few q = record {
 -- ---- the beginning
 
 -- no node is marked
-pub cleared : (s : Shape) (c : Counts) (work : List ℕ) → c .nodes ≤ s .nodes → workSize s ≤ length work
-    → Represents s c (record { waiting = []; pushed = []; opened = []; found = [] }) (sets work (marksAt s) (replicate (c .nodes) 0)) 0 0
-cleared s c work nodes size =
+pub cleared : (s : Shape) (c : Counts) (hit : ℕ → ℕ) (work : List ℕ) → c .nodes ≤ s .nodes → workSize s ≤ length work
+    → Represents s c hit (record { waiting = []; pushed = []; opened = []; found = [] }) (sets work (marksAt s) (replicate (c .nodes) 0)) 0 0
+cleared s c hit work nodes size =
     let w : List ℕ = sets work (marksAt s) (replicate (c .nodes) 0) in
     let n : length {A = ℕ} (replicate (c .nodes) 0) ≡ c .nodes = length-replicate (c .nodes) 0 in
     record {
@@ -198,24 +214,22 @@ cleared s c work nodes size =
       marks = λ i h.
           getD-sets-in work (marksAt s) (replicate (c .nodes) 0) i 0 (subst (λ (k : ℕ). i < k) (sym n) h) (omega (arith, n, size))
           ∙ getD-replicate (c .nodes) i 0 0 h ∙ ap {B = ℕ} (λ (b : Bool). cond b 1 0) (sym (isIn-nil i));
-      hit-queue = heap-none 3 (hitsPart s w);
-      hits = ap sort (records-zero 3 (hitsPart s w));
+      finds = record { count = refl; held = allPass-nil (λ x. ltb x (c .vectors)); are = refl };
     }
 
-pub begins : (s : Shape) (c : Counts) (view : View) (work work′ : List ℕ) → Limits s → c .nodes ≤ s .nodes → 1 ≤ c .nodes → workSize s ≤ length work
-    → PushedNode s (sets work (marksAt s) (replicate (c .nodes) 0)) 0 0 (view .key 0) work′ → Begins s c view work work′
-begins s c view work work′ limits nodes some size q =
+pub begins : (s : Shape) (c : Counts) (hit : ℕ → ℕ) (view : View) (work work′ : List ℕ) → Limits s → c .nodes ≤ s .nodes → 1 ≤ c .nodes → workSize s ≤ length work
+    → PushedNode s (sets work (marksAt s) (replicate (c .nodes) 0)) 0 0 (view .key 0) work′ → Begins s c hit view work work′
+begins s c hit view work work′ limits nodes some size q =
     let w : List ℕ = sets work (marksAt s) (replicate (c .nodes) 0) in
     let n : length {A = ℕ} (replicate (c .nodes) 0) ≡ c .nodes = length-replicate (c .nodes) 0 in
-    let first = represents-pushed s c view limits nodes (record { waiting = []; pushed = []; opened = []; found = [] }) w work′ 0 0 0 some (cleared s c work nodes size) q in
+    let first = represents-pushed s c hit view limits nodes (record { waiting = []; pushed = []; opened = []; found = [] }) w work′ 0 0 0 some (cleared s c hit work nodes size) q in
     record {
       start = record {
         size = first .size;
         queue = first .queue;
         waits = first .waits ∙ insert-nil (waitingNode view 0);
         marks = first .marks;
-        hit-queue = first .hit-queue;
-        hits = first .hits;
+        finds = first .finds;
       };
       works = works-trans s work w work′ (works-sets s work (replicate (c .nodes) 0) (marksAt s) (omega (arith, n)))
           (works-pushed s w work′ 0 0 (view .key 0) (omega arith) q);

@@ -5,10 +5,10 @@ use native.Mathlib.Omega.{arith}
 use mathlib.Core.Path.{_≡_, refl, sym, ap, ap₂, _∙_, subst}
 use mathlib.Core.Logic.{_⊎_, inl, inr}
 use mathlib.Core.Bool.{Bool, true, false, not, _&&_, cond, false≢true}
-use mathlib.Core.List.{List, [], _∷_, List·Memᴰ·cases-cons}
+use mathlib.Core.List.{List, [], _∷_, map, List·Memᴰ·cases-cons}
 use lib.Dec.{ltb, eqb}
 use lib.Ieee.{Float}
-use lib.ListN.{length, getD, drop, length-append, drop-of-length-le}
+use lib.ListN.{length, getD, drop, length-append, length-map, drop-of-length-le}
 use lib.Arith.{lt-of-le-ne}
 use lib.Seq.{drop-cons, sets}
 use borrow.Author.Tests.{ltb-true, eqb-true, eqb-false}
@@ -17,20 +17,20 @@ use Rattle.lists.specs.Counting.{which}
 use Rattle.lists.specs.Parts.{getD-part, length-part}
 use Rattle.order.specs.declared.Record.{Record}
 use Rattle.order.specs.Sorted.{sort}
-use Rattle.order.specs.SortedLaws.{either, length-sort}
+use Rattle.order.specs.SortedLaws.{either}
 use Rattle.order.specs.Records.{value, records}
-use Rattle.order.specs.RecordsLaws.{length-records}
 use Rattle.order.specs.Queue.{Popped}
 use Rattle.store.specs.declared.Shape.{Shape}
-use Rattle.store.specs.Store.{Limits, marksAt, hitsAt}
+use Rattle.store.specs.Store.{Limits, marksAt}
 use Rattle.walk.specs.declared.Counts.{Counts}
 use Rattle.walk.specs.Walk.{View, Progress, State, damaged, going, walk, walkFrom, Shown, shown, give, pushAll, children, hits, damage, none, whole}
 use Rattle.walk.specs.WalkLaws.{openedOne, pushedOne, withHits, startProgress, Once, ChildrenBelow, once-kept, once-push, once-start, different-cons, different-below, walk-is, walk-suc, walk-zero, step-open, none-stays, damaged-stays, some-waiting, nil-waiting, give-damage, give-children, give-hits, give-over, pushAll-nil, pushAll-fresh, pushAll-again}
 use Rattle.walk.specs.StoreView.{allPass, childrenShown}
 use Rattle.walk.specs.StoreViewLaws.{and-left, and-right, allPass-nil, allPass-cons}
 use Rattle.walk.specs.Search.{lent, Works}
-use Rattle.hit_queue.specs.Hits.{newHits, Gathered, GatherDamage}
-use Rattle.best_first_walk.specs.Walks.{hitsPart, Represents, Begins, PushedNode, WalkEnds}
+use Rattle.hit_queue.specs.Hits.{newVectors, Gathered, GatherDamage}
+use Rattle.hit_queue.specs.HitsLaws.{vectors-held}
+use Rattle.best_first_walk.specs.Walks.{foundAt, foundPart, Represents, Begins, PushedNode, WalkEnds}
 use Rattle.best_first_walk.proofs.Steps.{waiting-length, represents-length, popped-waits, represents-opened, represents-pushed, represents-hits, popped-number, least-below, works-popped, works-pushed}
 use Rattle.walk.specs.LentLaws.{works-refl, works-trans, works-sets}
 use Rattle.best_first_walk.specs.declared.Walked.the-variants as walked
@@ -75,8 +75,8 @@ module _ (view : View) (test : ℕ → Bool) where
 
 -- ---- the loops
 
-pub record Walking (s : Shape) (c : Counts) (view : View) (ef : ℕ) (work₀ : List ℕ) (p : Progress) (work : List ℕ) (waiting found opened : ℕ) : Type 0 where
-  pub holds : Represents s c p work waiting found
+pub record Walking (s : Shape) (c : Counts) (hit : ℕ → ℕ) (view : View) (ef : ℕ) (work₀ : List ℕ) (p : Progress) (work : List ℕ) (waiting found opened : ℕ) : Type 0 where
+  pub holds : Represents s c hit p work waiting found
   pub once : Once (c .nodes) p
   pub few : length (p .found) ≤ view .most
   pub nodes : length (p .opened) ≡ opened
@@ -84,28 +84,28 @@ pub record Walking (s : Shape) (c : Counts) (view : View) (ef : ℕ) (work₀ : 
   pub works : Works s work₀ work
 
 -- at the head of the walk's loop; with a node opened; and with children that are still to be pushed
-abbrev pub Waits : Shape → Counts → View → ℕ → List ℕ → List ℕ → ℕ → ℕ → ℕ → Type 0
-Waits s c view ef work₀ work waiting found opened =
-    (p : Progress) × Walking s c view ef work₀ p work waiting found opened × (walk view ef ≡ walkFrom view (ef - opened) (going p))
+abbrev pub Waits : Shape → Counts → (ℕ → ℕ) → View → ℕ → List ℕ → List ℕ → ℕ → ℕ → ℕ → Type 0
+Waits s c hit view ef work₀ work waiting found opened =
+    (p : Progress) × Walking s c hit view ef work₀ p work waiting found opened × (walk view ef ≡ walkFrom view (ef - opened) (going p))
 
-abbrev pub Opens : Shape → Counts → View → ℕ → List ℕ → ℕ → List ℕ → ℕ → ℕ → ℕ → Type 0
-Opens s c view ef work₀ node work waiting found opened =
-    (p : Progress) × Walking s c view ef work₀ p work waiting found opened × (walk view ef ≡ walkFrom view (ef - opened) (give view (shown view node) p))
+abbrev pub Opens : Shape → Counts → (ℕ → ℕ) → View → ℕ → List ℕ → ℕ → List ℕ → ℕ → ℕ → ℕ → Type 0
+Opens s c hit view ef work₀ node work waiting found opened =
+    (p : Progress) × Walking s c hit view ef work₀ p work waiting found opened × (walk view ef ≡ walkFrom view (ef - opened) (give view (shown view node) p))
 
-abbrev pub Pushes : Shape → Counts → View → ℕ → List ℕ → ℕ → List ℕ → List ℕ → ℕ → ℕ → ℕ → Type 0
-Pushes s c view ef work₀ node left work waiting found opened =
-    (p : Progress) × Walking s c view ef work₀ p work waiting found opened
+abbrev pub Pushes : Shape → Counts → (ℕ → ℕ) → View → ℕ → List ℕ → ℕ → List ℕ → List ℕ → ℕ → ℕ → ℕ → Type 0
+Pushes s c hit view ef work₀ node left work waiting found opened =
+    (p : Progress) × Walking s c hit view ef work₀ p work waiting found opened
     × (walk view ef ≡ walkFrom view (ef - opened) (pushChecked view (childTest c node) left (going p)))
 
 -- the same from an earlier work list on
-pub walking-from : (s : Shape) (c : Counts) (view : View) (ef : ℕ) (a b : List ℕ) (p : Progress) (work : List ℕ) (waiting found opened : ℕ) → Works s a b
-    → Walking s c view ef b p work waiting found opened → Walking s c view ef a p work waiting found opened
-walking-from s c view ef a b p work waiting found opened k w =
+pub walking-from : (s : Shape) (c : Counts) (hit : ℕ → ℕ) (view : View) (ef : ℕ) (a b : List ℕ) (p : Progress) (work : List ℕ) (waiting found opened : ℕ) → Works s a b
+    → Walking s c hit view ef b p work waiting found opened → Walking s c hit view ef a p work waiting found opened
+walking-from s c hit view ef a b p work waiting found opened k w =
     record { holds = w .holds; once = w .once; few = w .few; nodes = w .nodes; budget = w .budget; works = works-trans s a b work k (w .works) }
 
-pub waits-from : (s : Shape) (c : Counts) (view : View) (ef : ℕ) (a b : List ℕ) (work : List ℕ) (waiting found opened : ℕ) → Works s a b
-    → Waits s c view ef b work waiting found opened → Waits s c view ef a work waiting found opened
-waits-from s c view ef a b work waiting found opened k (p, w, e) = (p, walking-from s c view ef a b p work waiting found opened k w, e)
+pub waits-from : (s : Shape) (c : Counts) (hit : ℕ → ℕ) (view : View) (ef : ℕ) (a b : List ℕ) (work : List ℕ) (waiting found opened : ℕ) → Works s a b
+    → Waits s c hit view ef b work waiting found opened → Waits s c hit view ef a work waiting found opened
+waits-from s c hit view ef a b work waiting found opened k (p, w, e) = (p, walking-from s c hit view ef a b p work waiting found opened k w, e)
 
 -- the next child of a block
 pub next-child : (numbers : List ℕ) (start count j x : ℕ) → j < count → start + count ≤ length numbers → x ≡ getD numbers (start + j) 0
@@ -125,12 +125,12 @@ pub fresh-is : (s : Shape) (c : Counts) (work : List ℕ) (node child at : ℕ) 
 fresh-is s c work node child at r b p e f =
     ap (λ (n : ℕ). childTest c node child && eqb (getD work (n + child) 0) 0) (sym p) ∙ sym e ∙ f
 
-module _ (s : Shape) (c : Counts) (view : View) (ef : ℕ) (work₀ : List ℕ) (limits : Limits s) (within : c .nodes ≤ s .nodes) (some : 1 ≤ c .nodes)
+module _ (s : Shape) (c : Counts) (hit : ℕ → ℕ) (view : View) (ef : ℕ) (work₀ : List ℕ) (limits : Limits s) (within : c .nodes ≤ s .nodes) (some : 1 ≤ c .nodes)
     (below : ChildrenBelow view (c .nodes)) where
   fits : c .nodes ≤ 2 ^ 64
   fits = omega (arith, limits .nodes-high)
 
-  pub waits-start : (entry : List ℕ) → Begins s c view entry work₀ → Waits s c view ef work₀ work₀ 1 0 0
+  pub waits-start : (entry : List ℕ) → Begins s c hit view entry work₀ → Waits s c hit view ef work₀ work₀ 1 0 0
   waits-start entry b = (
     startProgress view,
     record { holds = b .start; once = once-start view (c .nodes) fits below some; few = omega arith; nodes = refl; budget = omega arith; works = works-refl s work₀ },
@@ -138,27 +138,27 @@ module _ (s : Shape) (c : Counts) (view : View) (ef : ℕ) (work₀ : List ℕ) 
   )
 
   -- no more wait than there are nodes
-  pub few-wait : (work : List ℕ) (waiting found opened : ℕ) → Waits s c view ef work₀ work waiting found opened → waiting ≤ s .nodes
+  pub few-wait : (work : List ℕ) (waiting found opened : ℕ) → Waits s c hit view ef work₀ work waiting found opened → waiting ≤ s .nodes
   few-wait work waiting found opened (p, w, e) =
       omega (
         arith,
-        represents-length s c p work waiting found (w .holds),
+        represents-length s c hit p work waiting found (w .holds),
         waiting-length p (c .nodes) (w .once),
         different-below (c .nodes) (p .pushed) (w .once .different) (w .once .below),
         within,
       )
 
   -- The least node is taken and opened
-  pub opens : (work work′ : List ℕ) (waiting found opened : ℕ) (least : Record) → Waits s c view ef work₀ work waiting found opened
-      → (opened ≡ ef → ⊥) → Popped 2 waiting work least work′ → Opens s c view ef work₀ (least .rest) work′ (waiting - 1) found (opened + 1)
+  pub opens : (work work′ : List ℕ) (waiting found opened : ℕ) (least : Record) → Waits s c hit view ef work₀ work waiting found opened
+      → (opened ≡ ef → ⊥) → Popped 2 waiting work least work′ → Opens s c hit view ef work₀ (least .rest) work′ (waiting - 1) found (opened + 1)
   opens work work′ waiting found opened least (p, w, e) more q =
       let rest : List ℕ = sort (records 2 (waiting - 1) work′) in
-      let taken : p .waiting ≡ value least ∷ rest = popped-waits s c p work waiting found (w .holds) work′ least q in
+      let taken : p .waiting ≡ value least ∷ rest = popped-waits s c hit p work waiting found (w .holds) work′ least q in
       let few : waiting ≤ s .nodes = few-wait work waiting found opened (p, w, e) in
       let low : opened < ef = lt-of-le-ne (w .budget) more in (
         openedOne (value least) rest p,
         record {
-          holds = represents-opened s c p work waiting found (w .holds) work′ least within few q;
+          holds = represents-opened s c hit p work waiting found (w .holds) work′ least within few q;
           once = once-kept view (c .nodes) fits below .opens p (value least) rest taken (w .once);
           few = w .few;
           nodes = ap suc (w .nodes) ∙ sym (add-one opened);
@@ -170,71 +170,76 @@ module _ (s : Shape) (c : Counts) (view : View) (ef : ℕ) (work₀ : List ℕ) 
             ∙ ap (λ (i : ℕ). give view (shown view i) (openedOne (value least) rest p)) (popped-number least (q .fits refl))),
       )
 
-  pub opens-below : (work work′ : List ℕ) (waiting found opened : ℕ) (least : Record) → Waits s c view ef work₀ work waiting found opened
+  pub opens-below : (work work′ : List ℕ) (waiting found opened : ℕ) (least : Record) → Waits s c hit view ef work₀ work waiting found opened
       → Popped 2 waiting work least work′ → least .rest < c .nodes
   opens-below work work′ waiting found opened least (p, w, e) q =
       subst (λ (i : ℕ). i < c .nodes) (popped-number least (q .fits refl))
-      (least-below p (c .nodes) (value least) (sort (records 2 (waiting - 1) work′)) (w .once) (popped-waits s c p work waiting found (w .holds) work′ least q))
+      (least-below p (c .nodes) (value least) (sort (records 2 (waiting - 1) work′)) (w .once) (popped-waits s c hit p work waiting found (w .holds) work′ least q))
 
   -- Damage ends the walk
   pub damage-ends : (n : ℕ) (st : State) → st ≡ damaged → walk view ef ≡ walkFrom view n st → walk view ef ≡ damaged
   damage-ends n st e f = f ∙ ap (walkFrom view n) e ∙ damaged-stays view n
 
-  pub opens-damage : (node : ℕ) (work : List ℕ) (waiting found opened : ℕ) → Opens s c view ef work₀ node work waiting found opened → shown view node ≡ damage
+  pub opens-damage : (node : ℕ) (work : List ℕ) (waiting found opened : ℕ) → Opens s c hit view ef work₀ node work waiting found opened → shown view node ≡ damage
       → walk view ef ≡ damaged
   opens-damage node work waiting found opened (p, w, e) d =
       damage-ends (ef - opened) (give view (shown view node) p) (ap (λ (sh : Shown). give view sh p) d ∙ give-damage view p) e
 
-  pub found-length : (p : Progress) (work : List ℕ) (waiting found : ℕ) → Represents s c p work waiting found → length (p .found) ≡ found
-  found-length p work waiting found r =
-      sym (length-sort (p .found)) ∙ ap length (sym (r .hits)) ∙ length-sort (records 3 found (hitsPart s work)) ∙ length-records 3 found (hitsPart s work)
+  pub found-length : (p : Progress) (work : List ℕ) (waiting found : ℕ) → Represents s c hit p work waiting found → length (p .found) ≡ found
+  found-length p work waiting found r = sym (r .finds .count)
 
   -- A leaf whose list is damaged, or has one hit too many
-  pub leaf-damage : (node : ℕ) (work : List ℕ) (waiting found opened : ℕ) (test wants : ℕ → Bool) (hit : ℕ → ℕ) (l : List ℕ)
-      → Opens s c view ef work₀ node work waiting found opened → shown view node ≡ cond (allPass test l) (hits (newHits wants hit l)) damage
-      → GatherDamage test wants hit (view .most) l found → walk view ef ≡ damaged
-  leaf-damage node work waiting found opened test wants hit l (p, w, e) sh g =
+  pub leaf-damage : (node : ℕ) (work : List ℕ) (waiting found opened : ℕ) (test wants : ℕ → Bool) (vector : ℕ → ℕ) (l : List ℕ)
+      → Opens s c hit view ef work₀ node work waiting found opened → shown view node ≡ cond (allPass test l) (hits (map hit (newVectors wants vector l))) damage
+      → GatherDamage test wants vector (view .most) l found → walk view ef ≡ damaged
+  leaf-damage node work waiting found opened test wants vector l (p, w, e) sh g =
       damage-ends (ef - opened) (give view (shown view node) p) (ap (λ (x : Shown). give view x p) sh ∙ go (which (allPass test l)) g) e
     where
-      over : view .most < length (newHits wants hit l) + found → view .most < length (newHits wants hit l) + length (p .found)
-      over h = omega (arith, h, found-length p work waiting found (w .holds))
+      new : List ℕ
+      new = map hit (newVectors wants vector l)
 
-      go : (allPass test l ≡ true) ⊎ (allPass test l ≡ false) → GatherDamage test wants hit (view .most) l found
-          → give view (cond (allPass test l) (hits (newHits wants hit l)) damage) p ≡ damaged
+      over : view .most < length (newVectors wants vector l) + found → view .most < length new + length (p .found)
+      over h = omega (arith, h, found-length p work waiting found (w .holds), length-map (newVectors wants vector l) hit)
+
+      go : (allPass test l ≡ true) ⊎ (allPass test l ≡ false) → GatherDamage test wants vector (view .most) l found
+          → give view (cond (allPass test l) (hits new) damage) p ≡ damaged
       go (inl t) (inl f) = absurd (false≢true (sym f ∙ t))
-      go (inl t) (inr h) = ap (λ (b : Bool). give view (cond b (hits (newHits wants hit l)) damage) p) t ∙ give-over view (newHits wants hit l) p (over h)
-      go (inr f) g = ap (λ (b : Bool). give view (cond b (hits (newHits wants hit l)) damage) p) f ∙ give-damage view p
+      go (inl t) (inr h) = ap (λ (b : Bool). give view (cond b (hits new) damage) p) t ∙ give-over view new p (over h)
+      go (inr f) g = ap (λ (b : Bool). give view (cond b (hits new) damage) p) f ∙ give-damage view p
 
-  -- A leaf whose hits were added
-  pub leaf-hits : (node : ℕ) (work ys : List ℕ) (waiting found opened total : ℕ) (test wants : ℕ → Bool) (hit : ℕ → ℕ) (l : List ℕ) → waiting ≤ s .nodes
-      → Opens s c view ef work₀ node work waiting found opened → shown view node ≡ cond (allPass test l) (hits (newHits wants hit l)) damage
-      → length ys ≡ 3 * max (s .vectors) (s .entries) → Gathered test wants hit (view .most) l found (hitsPart s work) total ys
-      → Waits s c view ef work₀ (sets work (hitsAt s) ys) waiting total opened
-  leaf-hits node work ys waiting found opened total test wants hit l few (p, w, e) sh long g =
-      let new : List ℕ = newHits wants hit l in
+  -- A leaf whose vectors were added
+  pub leaf-hits : (node : ℕ) (work ys : List ℕ) (waiting found opened total : ℕ) (test wants : ℕ → Bool) (vector : ℕ → ℕ) (l : List ℕ) → waiting ≤ s .nodes
+      → ((x : ℕ) → test x ≡ true → ltb (vector x) (c .vectors) ≡ true)
+      → Opens s c hit view ef work₀ node work waiting found opened → shown view node ≡ cond (allPass test l) (hits (map hit (newVectors wants vector l))) damage
+      → length ys ≡ max (s .vectors) (s .entries) + 1 → Gathered test wants vector (view .most) l found (foundPart s work) total ys
+      → Waits s c hit view ef work₀ (sets work (foundAt s) ys) waiting total opened
+  leaf-hits node work ys waiting found opened total test wants vector l few held (p, w, e) sh long g =
+      let vectors : List ℕ = newVectors wants vector l in
+      let new : List ℕ = map hit vectors in
       let n : length (p .found) ≡ found = found-length p work waiting found (w .holds) in
-      let room : length new + length (p .found) ≤ view .most = omega (arith, n, g .count, g .few) in (
+      let room : length new + length (p .found) ≤ view .most = omega (arith, n, g .count, g .few, length-map vectors hit) in (
         withHits new p,
         record {
-          holds = represents-hits s c p work ys waiting found (w .holds) long new total within few (g .queue) (g .sorted);
+          holds = represents-hits s c hit p work ys waiting found (w .holds) limits long vectors total within few
+              (vectors-held test wants (λ x. ltb x (c .vectors)) vector l held (g .pass)) (g .count) (g .vectors);
           once = once-kept view (c .nodes) fits below .adds p new room (w .once);
           few = omega (arith, length-append new (p .found), room);
           nodes = w .nodes;
           budget = w .budget;
-          works = works-trans s work₀ work (sets work (hitsAt s) ys) (w .works) (works-sets s work ys (hitsAt s) (omega (arith, long)));
+          works = works-trans s work₀ work (sets work (foundAt s) ys) (w .works) (works-sets s work ys (foundAt s) (omega (arith, long, limits .vectors-low)));
         },
         e ∙ ap (walkFrom view (ef - opened))
             (ap (λ (x : Shown). give view x p) sh ∙ ap (λ (b : Bool). give view (cond b (hits new) damage) p) (g .pass) ∙ give-hits view new p room),
       )
 
   -- An inner node's children are to be pushed
-  pub pushes-start : (node : ℕ) (work : List ℕ) (waiting found opened : ℕ) (l : List ℕ) → Opens s c view ef work₀ node work waiting found opened
-      → shown view node ≡ cond (allPass (childTest c node) l) (children l) damage → Pushes s c view ef work node l work waiting found opened
+  pub pushes-start : (node : ℕ) (work : List ℕ) (waiting found opened : ℕ) (l : List ℕ) → Opens s c hit view ef work₀ node work waiting found opened
+      → shown view node ≡ cond (allPass (childTest c node) l) (children l) damage → Pushes s c hit view ef work node l work waiting found opened
   pushes-start node work waiting found opened l (p, w, e) sh =
       (p, record { holds = w .holds; once = w .once; few = w .few; nodes = w .nodes; budget = w .budget; works = works-refl s work }, e ∙ ap (walkFrom view (ef - opened)) (ap (λ (x : Shown). give view x p) sh ∙ checked-give view (childTest c node) (allPass (childTest c node) l) l p))
 
-  pub pushes-end : (node : ℕ) (work : List ℕ) (waiting found opened : ℕ) → Pushes s c view ef work₀ node [] work waiting found opened
-      → Waits s c view ef work₀ work waiting found opened
+  pub pushes-end : (node : ℕ) (work : List ℕ) (waiting found opened : ℕ) → Pushes s c hit view ef work₀ node [] work waiting found opened
+      → Waits s c hit view ef work₀ work waiting found opened
   pushes-end node work waiting found opened (p, w, e) = (p, w, e ∙ ap (walkFrom view (ef - opened)) (checked-nil view (childTest c node) (going p)))
 
   -- a mark is set exactly if the node was pushed
@@ -251,7 +256,7 @@ module _ (s : Shape) (c : Counts) (view : View) (ef : ℕ) (work₀ : List ℕ) 
       go (inr f) = absurd (eqb-false mark 0 z (e ∙ ap {B = ℕ} (λ (b : Bool). cond b 1 0) f))
 
   -- A child that is not fresh is damage
-  pub child-damage : (node child : ℕ) (left work : List ℕ) (waiting found opened : ℕ) → Pushes s c view ef work₀ node (child ∷ left) work waiting found opened
+  pub child-damage : (node child : ℕ) (left work : List ℕ) (waiting found opened : ℕ) → Pushes s c hit view ef work₀ node (child ∷ left) work waiting found opened
       → (childTest c node child && eqb (getD work (marksAt s + child) 0) 0) ≡ false → walk view ef ≡ damaged
   child-damage node child left work waiting found opened (p, w, e) f = go (which (childTest c node child))
     where
@@ -263,7 +268,7 @@ module _ (s : Shape) (c : Counts) (view : View) (ef : ℕ) (work₀ : List ℕ) 
           damage-ends (ef - opened) (pushChecked view (childTest c node) (child ∷ left) (going p))
           (checked-again view (childTest c node) child left p (marked child (p .pushed) (getD work (marksAt s + child) 0) (w .holds .marks child low) false mark)) e
 
-  module _ (node child : ℕ) (left work : List ℕ) (waiting found opened : ℕ) (k : Pushes s c view ef work₀ node (child ∷ left) work waiting found opened)
+  module _ (node child : ℕ) (left work : List ℕ) (waiting found opened : ℕ) (k : Pushes s c hit view ef work₀ node (child ∷ left) work waiting found opened)
       (fresh : (childTest c node child && eqb (getD work (marksAt s + child) 0) 0) ≡ true) where
     test : childTest c node child ≡ true
     test = and-left (childTest c node child) (eqb (getD work (marksAt s + child) 0) 0) fresh
@@ -283,17 +288,17 @@ module _ (s : Shape) (c : Counts) (view : View) (ef : ℕ) (work₀ : List ℕ) 
         let o = k .1 .once in
         let all : length (child ∷ p .pushed) ≤ c .nodes = different-below (c .nodes) (child ∷ p .pushed) (different-cons child (p .pushed) unpushed (o .different))
         (λ x m. either (List·Memᴰ·cases-cons m) (λ q. subst (λ (y : ℕ). y < c .nodes) (sym q) child-low) (λ j. o .below x j)) in
-        omega (arith, represents-length s c p work waiting found (k .1 .holds), waiting-length p (c .nodes) o, all, within)
+        omega (arith, represents-length s c hit p work waiting found (k .1 .holds), waiting-length p (c .nodes) o, all, within)
 
     -- A fresh child is pushed
     pub child-pushed : (work′ : List ℕ) → PushedNode s work waiting child (view .key child) work′
-        → Pushes s c view ef work₀ node left work′ (waiting + 1) found opened
+        → Pushes s c hit view ef work₀ node left work′ (waiting + 1) found opened
     child-pushed work′ q =
         let p = k .0 in
         let w = k .1 in (
           pushedOne view child p,
           record {
-            holds = represents-pushed s c view limits within p work work′ waiting found child child-low (w .holds) q;
+            holds = represents-pushed s c hit view limits within p work work′ waiting found child child-low (w .holds) q;
             once = once-push view (c .nodes) fits p child child-low unpushed (w .once);
             few = w .few;
             nodes = w .nodes;
@@ -305,26 +310,24 @@ module _ (s : Shape) (c : Counts) (view : View) (ef : ℕ) (work₀ : List ℕ) 
 
   -- ---- how the walk ends
 
-  pub ends-damaged : (work : List ℕ) → walk view ef ≡ damaged → WalkEnds s (walk view ef) walked.Damaged work
-  ends-damaged work e = subst (λ (st : State). WalkEnds s st walked.Damaged work) (sym e) tt
+  pub ends-damaged : (work : List ℕ) → walk view ef ≡ damaged → WalkEnds s c hit (walk view ef) walked.Damaged work
+  ends-damaged work e = subst (λ (st : State). WalkEnds s c hit st walked.Damaged work) (sym e) tt
 
-  ended : (p : Progress) (work : List ℕ) (waiting found opened : ℕ) (complete : Bool) → Walking s c view ef work₀ p work waiting found opened
-      → complete ≡ whole p → walk view ef ≡ going p → WalkEnds s (walk view ef) (walked.Ended found opened complete) work
+  ended : (p : Progress) (work : List ℕ) (waiting found opened : ℕ) (complete : Bool) → Walking s c hit view ef work₀ p work waiting found opened
+      → complete ≡ whole p → walk view ef ≡ going p → WalkEnds s c hit (walk view ef) (walked.Ended found opened complete) work
   ended p work waiting found opened complete w all e =
-      subst (λ (st : State). WalkEnds s st (walked.Ended found opened complete) work) (sym e)
+      subst (λ (st : State). WalkEnds s c hit st (walked.Ended found opened complete) work) (sym e)
       (record {
-        count = sym (found-length p work waiting found (w .holds));
+        finds = w .holds .finds;
         nodes = sym (w .nodes);
         all = all;
-        queue = w .holds .hit-queue;
-        hits = w .holds .hits;
       })
 
   -- None waits: whole
-  pub ends-whole : (work : List ℕ) (waiting found opened : ℕ) → waiting ≡ 0 → Waits s c view ef work₀ work waiting found opened
-      → WalkEnds s (walk view ef) (walked.Ended found opened true) work
+  pub ends-whole : (work : List ℕ) (waiting found opened : ℕ) → waiting ≡ 0 → Waits s c hit view ef work₀ work waiting found opened
+      → WalkEnds s c hit (walk view ef) (walked.Ended found opened true) work
   ends-whole work waiting found opened z (p, w, e) =
-      let nothing : p .waiting ≡ [] = empty (p .waiting) (represents-length s c p work waiting found (w .holds) ∙ z) in
+      let nothing : p .waiting ≡ [] = empty (p .waiting) (represents-length s c hit p work waiting found (w .holds) ∙ z) in
       ended p work waiting found opened true w (sym (ap none nothing ∙ nil-waiting)) (e ∙ none-stays view (ef - opened) p nothing)
     where
       empty : (l : List ℕ) → length l ≡ 0 → l ≡ []
@@ -332,10 +335,10 @@ module _ (s : Shape) (c : Counts) (view : View) (ef : ℕ) (work₀ : List ℕ) 
       empty (x ∷ xs) z = absurd (omega arith)
 
   -- The budget is spent and one waits: cut
-  pub ends-cut : (work : List ℕ) (waiting found opened : ℕ) → (waiting ≡ 0 → ⊥) → opened ≡ ef → Waits s c view ef work₀ work waiting found opened
-      → WalkEnds s (walk view ef) (walked.Ended found opened false) work
+  pub ends-cut : (work : List ℕ) (waiting found opened : ℕ) → (waiting ≡ 0 → ⊥) → opened ≡ ef → Waits s c hit view ef work₀ work waiting found opened
+      → WalkEnds s c hit (walk view ef) (walked.Ended found opened false) work
   ends-cut work waiting found opened more spent (p, w, e) =
-      ended p work waiting found opened false w (sym (some-left (p .waiting) (λ z. more (sym (represents-length s c p work waiting found (w .holds)) ∙ z))))
+      ended p work waiting found opened false w (sym (some-left (p .waiting) (λ z. more (sym (represents-length s c hit p work waiting found (w .holds)) ∙ z))))
       (e ∙ ap (λ (n : ℕ). walkFrom view n (going p)) (let t : ef - opened ≡ 0 = omega arith in t) ∙ walk-zero view (going p))
     where
       some-left : (l : List ℕ) → (length l ≡ 0 → ⊥) → none l ≡ false

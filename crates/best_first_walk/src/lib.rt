@@ -16,10 +16,11 @@ ghost use mathlib.Core.Bool.{_&&_};
 ghost use Prim.Native.Nat.{_+_, _*_, _<_, _≤_};
 ghost use lib.Dec.{ltb, eqb};
 ghost use lib.ListN.{length, getD, replicate};
+ghost use Rattle.store.specs.Store.{Limits};
 ghost use Rattle.walk.specs.Search.{FloatsLent, NumbersLent, HashesLent, WorkLent};
-ghost use Rattle.best_first_walk.specs.Walks.{BeginsAny, PushNode, PushedNode, Walks};
+ghost use Rattle.best_first_walk.specs.Walks.{foundAt, BeginsAny, PushNode, PushedNode, Walks};
 
-// How a walk ended: with hits in their queue, or at damage. It is whole if no node waited.
+// How a walk ended: with vectors found, each of them a hit, or at damage. It is whole if no node waited.
 pub enum Walked {
     Ended {
         hits: usize,
@@ -27,6 +28,16 @@ pub enum Walked {
         whole: bool,
     },
     Damaged,
+}
+
+// Where the numbers of the vectors found stand in the work list: in the last third of the hits' part and the place before it, so that their hits can be
+// put into a queue at the front of the part while they are read.
+pub fn found_at(shape: Shape) -> usize
+    requires { ⌜ Limits shape ⌝ }
+    ensures { λ r. ⌜ r ≡ foundAt shape ⌝ }
+{
+    let end = shape.work_size();
+    end - (end - shape.hits_at()) / 3 - 1
 }
 
 // Clears a list.
@@ -105,8 +116,8 @@ pub fn best_first_walk(
 {
     let nodes = counts.nodes;
     let marks_at = shape.marks_at();
-    let hits_at = shape.hits_at();
-    let hits_end = shape.work_size();
+    let found_at = found_at(shape);
+    let found_end = shape.work_size();
     begin(shape, counts, floats, work, query);
     let mut waiting = 1;
     let mut opened = 0;
@@ -143,12 +154,10 @@ pub fn best_first_walk(
                 let added = add_hits(
                     shape,
                     counts,
-                    floats,
                     numbers,
                     hashes,
-                    &mut work[hits_at..hits_end],
+                    &mut work[found_at..found_end],
                     hits,
-                    query,
                     wanted,
                     list,
                 );

@@ -18,15 +18,7 @@ use Rattle.distance.specs.TotalOrder.{ofKey}
 use Rattle.walk.specs.Answer.{documentOf, distanceOf, dropAfter, dropRepeats}
 use Rattle.walk.specs.AnswerLaws.{drop-nil, drop-same, drop-other, repeats-nil, repeats-cons}
 use Rattle.hit_queue.specs.Hits.{rankedQueue, Takes}
-
--- no document id is 2 ^ 32
-pub repeats-after : (l : List ℕ) → dropRepeats l ≡ dropAfter (2 ^ 32) l
-repeats-after [] = repeats-nil ∙ sym (drop-nil (2 ^ 32))
-repeats-after (hit ∷ rest) =
-    repeats-cons hit rest ∙ sym (drop-other (2 ^ 32) hit rest (λ e. let z : hit / 2 ^ 32 % 2 ^ 32 ≡ 2 ^ 32 = e in omega arith))
-
-pub document-popped : (r : Record) → r .rest < 2 ^ 64 → documentOf (value r) ≡ r .rest / 2 ^ 32
-document-popped r h = ap documentOf (value-is r) ∙ (let t : (r .key * 2 ^ 64 + r .rest) / 2 ^ 32 % 2 ^ 32 ≡ r .rest / 2 ^ 32 = omega arith in t)
+use Rattle.hit_queue.specs.HitsLaws.{repeats-after, document-popped}
 
 pub distance-popped : (r : Record) → r .rest < 2 ^ 64 → distanceOf (value r) ≡ ofKey (r .key)
 unfolding distanceOf

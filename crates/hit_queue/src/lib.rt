@@ -1,4 +1,6 @@
 // The queue of hits: the hits of a leaf are added to it, those of an answer are taken out (document 01, 'Search').
+use distance::Four;
+use distance::cosine_distance_four;
 use distance::cosine_distance_normalized;
 use distance::total::from_key;
 use distance::total::key;
@@ -21,148 +23,57 @@ ghost use Rattle.store.specs.Store.{vectorAt};
 ghost use Rattle.walk.specs.Answer.{hitOf, dropAfter};
 ghost use Rattle.lists.specs.Lists.{part};
 ghost use Rattle.walk.specs.Search.{FloatsLent, NumbersLent, HashesLent};
-ghost use Rattle.hit_queue.specs.Hits.{mostOf, Listing, AddHit, AddHits, AddedHits, TakeHits, Takes, CountRest};
+ghost use lib.Dec.{eqb};
+ghost use mathlib.Core.Bool.{cond};
+ghost use Rattle.hit_queue.specs.Hits.{mostOf, hitsOf, AddHits, AddedVectors, AddedEntries, AddedHits, PushWithin, Measure, Measured, TakeHits, Takes, CountRest};
 ghost use Rattle.order.specs.Sorted.{sort};
 
-// What one number of a leaf's list is about: a vector with what is wanted, one without, or none.
-pub enum Listed {
-    Damaged,
-    Other,
-    Vector(usize),
-}
-
-// The hits after those of a leaf, or damage.
+// The vectors found after those of a leaf, or damage.
 pub enum Added {
     Damaged,
     Hits(usize),
 }
 
-// The key of the distance from the query to vector i of the floats.
+// The distance from the query to vector i of the floats, and its key.
+fn distance_to(floats: &[f32], query: &[f32], dimension: usize, i: usize) -> f32
+    requires { ⌜ i * dimension + dimension ≤ length (now floats) ⌝ }
+    ensures { λ r. ⌜ r ≡ distance (now (query .entry)) (vectorAt dimension (now (floats .entry)) i) ⌝ }
+{
+    let start = i * dimension;
+    let end = start + dimension;
+    cosine_distance_normalized(query, &floats[start..end])
+}
+
 pub fn distance_key(floats: &[f32], query: &[f32], dimension: usize, i: usize) -> u32
     requires { ⌜ i * dimension + dimension ≤ length (now floats) ⌝ }
     ensures { λ r. ⌜ r ≡ keyOf (distance (now (query .entry)) (vectorAt dimension (now (floats .entry)) i)) ⌝ }
 {
-    let start = i * dimension;
-    let end = start + dimension;
-    key(cosine_distance_normalized(query, &floats[start..end]))
+    key(distance_to(floats, query, dimension, i))
 }
 
-// The hit of vector i: its distance's key, document id and number.
-fn hit(floats: &[f32], numbers: &[u32], query: &[f32], dimension: usize, i: usize) -> Record
-    requires { ⌜ i * dimension + dimension ≤ length (now floats) ⌝ }
-    requires { ⌜ i < length (now numbers) ⌝ }
-    requires { ⌜ i < 4096 ⌝ }
-    ensures { λ r. ⌜ value r ≡ hitOf (distance (now (query .entry)) (vectorAt dimension (now (floats .entry)) i)) (getD (now (numbers .entry)) i 0) i ⌝ }
+// 1 if two hashes are equal, otherwise 0.
+fn same(a: u64, b: u64) -> usize
+    ensures { λ r. ⌜ (r ≡ cond (eqb a b) 1 0) × (r ≤ 1) ⌝ }
 {
-    let document = wide(numbers[i]) as u64;
-    Record {
-        key: distance_key(floats, query, dimension, i),
-        rest: document * 0x1_0000_0000 + i as u64,
+    if a == b {
+        return 1;
     }
+    0
 }
 
-// What a number of a leaf's list is about. Every entry is asked for its owner, whatever its hash.
-fn vector_of(
-    shape: Shape,
+// Adds the vectors of a leaf's list to those found. Every number of the list is checked.
+fn add_vectors(
     counts: Counts,
     numbers: &[u32],
-    hashes: &[u64],
-    wanted: Wanted,
-    x: usize,
-) -> Listed
-    requires { ⌜ NumbersLent shape counts (now numbers) ⌝ }
-    requires { ⌜ HashesLent shape (now hashes) ⌝ }
-    ensures { λ r. ⌜ Listing shape counts (now (numbers .entry)) (now (hashes .entry)) wanted x r ⌝ }
-{
-    match wanted {
-        Wanted::Everything => {
-            if x < counts.vectors {
-                return Listed::Vector(x);
-            }
-            Listed::Damaged
-        }
-        Wanted::Label(hash) => {
-            if counts.entries <= x {
-                return Listed::Damaged;
-            }
-            let owner = wide(numbers[shape.owners_at() + x]);
-            if counts.vectors <= owner {
-                return Listed::Damaged;
-            }
-            if hashes[x] == hash {
-                return Listed::Vector(owner);
-            }
-            Listed::Other
-        }
-    }
-}
-
-// How many hits there can be.
-fn most_hits(counts: Counts, wanted: Wanted) -> usize
-    ensures { λ r. ⌜ r ≡ mostOf counts wanted ⌝ }
-{
-    match wanted {
-        Wanted::Everything => counts.vectors,
-        Wanted::Label(_) => counts.entries,
-    }
-}
-
-// Adds the hit that one number of a leaf's list is about, if it has what is wanted. A number that does not pass, or one hit too many, is damage.
-fn add_hit(
-    shape: Shape,
-    counts: Counts,
-    floats: &[f32],
-    numbers: &[u32],
-    hashes: &[u64],
-    heap: &mut [u32],
-    hits: usize,
-    query: &[f32],
-    wanted: Wanted,
-    x: usize,
+    found: &mut [u32],
+    before: usize,
+    start: usize,
+    count: usize,
 ) -> Added
-    requires { ⌜ FloatsLent shape (now floats) ⌝ }
-    requires { ⌜ NumbersLent shape counts (now numbers) ⌝ }
-    requires { ⌜ HashesLent shape (now hashes) ⌝ }
-    requires { ⌜ AddHit counts (now heap) hits wanted ⌝ }
-    ensures { λ r. ⌜ AddedHits shape counts (now (floats .entry)) (now (numbers .entry)) (now (hashes .entry)) (now (query .entry)) wanted (x ∷ []) hits (now (heap .entry)) r (now (heap .exit)) ⌝ }
+    requires { ⌜ AddHits (now numbers) (now found) before (counts .vectors) start count ⌝ }
+    ensures { λ r. ⌜ AddedVectors counts (part start count (now (numbers .entry))) before (now (found .entry)) r (now (found .exit)) ⌝ }
 {
-    let about = vector_of(shape, counts, numbers, hashes, wanted, x);
-    match about {
-        Listed::Damaged => Added::Damaged,
-        Listed::Other => Added::Hits(hits),
-        Listed::Vector(vector) => {
-            if hits == most_hits(counts, wanted) {
-                return Added::Damaged;
-            }
-            let record = hit(floats, numbers, query, shape.dimension, vector);
-            push(heap, hits, 3, record);
-            Added::Hits(hits + 1)
-        }
-    }
-}
-
-// Adds the hits of a leaf's list to the queue. Every number of the list is checked.
-pub fn add_hits(
-    shape: Shape,
-    counts: Counts,
-    floats: &[f32],
-    numbers: &[u32],
-    hashes: &[u64],
-    heap: &mut [u32],
-    hits: usize,
-    query: &[f32],
-    wanted: Wanted,
-    block: Block,
-) -> Added
-    requires { ⌜ FloatsLent shape (now floats) ⌝ }
-    requires { ⌜ NumbersLent shape counts (now numbers) ⌝ }
-    requires { ⌜ HashesLent shape (now hashes) ⌝ }
-    requires { ⌜ AddHits counts (now numbers) (now heap) hits wanted (block .start) (block .count) ⌝ }
-    ensures { λ r. ⌜ AddedHits shape counts (now (floats .entry)) (now (numbers .entry)) (now (hashes .entry)) (now (query .entry)) wanted (part (block .start) (block .count) (now (numbers .entry))) hits (now (heap .entry)) r (now (heap .exit)) ⌝ }
-{
-    let start = block.start;
-    let count = block.count;
-    let mut total = hits;
+    let mut total = before;
     let mut j = 0;
     let end: Added;
     loop {
@@ -170,31 +81,323 @@ pub fn add_hits(
             end = Added::Hits(total);
             break;
         }
-        let x = wide(numbers[start + j]);
-        let added = add_hit(
+        let vector = numbers[start + j];
+        if counts.vectors <= wide(vector) {
+            end = Added::Damaged;
+            break;
+        }
+        if total == counts.vectors {
+            end = Added::Damaged;
+            break;
+        }
+        found[total] = vector;
+        total += 1;
+        j += 1;
+    }
+    end
+}
+
+// Adds the owners of the entries of a leaf's list that have a hash to the vectors found. Every entry is checked, whatever its hash; an owner that is
+// not kept is written over by the next.
+fn add_entries(
+    counts: Counts,
+    numbers: &[u32],
+    hashes: &[u64],
+    found: &mut [u32],
+    before: usize,
+    hash: u64,
+    owners_at: usize,
+    start: usize,
+    count: usize,
+) -> Added
+    requires { ⌜ «owners_at» + counts .entries ≤ length (now numbers) ⌝ }
+    requires { ⌜ counts .entries ≤ length (now hashes) ⌝ }
+    requires { ⌜ AddHits (now numbers) (now found) before (counts .entries) start count ⌝ }
+    ensures { λ r. ⌜ AddedEntries counts (now (numbers .entry)) (now (hashes .entry)) hash «owners_at» (part start count (now (numbers .entry))) before (now (found .entry)) r (now (found .exit)) ⌝ }
+{
+    let mut total = before;
+    let mut j = 0;
+    let end: Added;
+    loop {
+        if j == count {
+            end = Added::Hits(total);
+            break;
+        }
+        let entry = wide(numbers[start + j]);
+        if counts.entries <= entry {
+            end = Added::Damaged;
+            break;
+        }
+        let owner = numbers[owners_at + entry];
+        if counts.vectors <= wide(owner) {
+            end = Added::Damaged;
+            break;
+        }
+        found[total] = owner;
+        total += same(hashes[entry], hash);
+        if counts.entries < total {
+            end = Added::Damaged;
+            break;
+        }
+        j += 1;
+    }
+    end
+}
+
+// Adds the vectors that a leaf's list is about, and that have what is wanted, to those found. A number that does not pass, or one hit too many, is
+// damage.
+pub fn add_hits(
+    shape: Shape,
+    counts: Counts,
+    numbers: &[u32],
+    hashes: &[u64],
+    found: &mut [u32],
+    before: usize,
+    wanted: Wanted,
+    block: Block,
+) -> Added
+    requires { ⌜ NumbersLent shape counts (now numbers) ⌝ }
+    requires { ⌜ HashesLent shape (now hashes) ⌝ }
+    requires { ⌜ AddHits (now numbers) (now found) before (mostOf counts wanted) (block .start) (block .count) ⌝ }
+    ensures { λ r. ⌜ AddedHits shape counts (now (numbers .entry)) (now (hashes .entry)) wanted (part (block .start) (block .count) (now (numbers .entry))) before (now (found .entry)) r (now (found .exit)) ⌝ }
+{
+    let start = block.start;
+    let count = block.count;
+    match wanted {
+        Wanted::Everything => add_vectors(counts, numbers, found, before, start, count),
+        Wanted::Label(hash) => {
+            let owners_at = shape.owners_at();
+            add_entries(
+                counts,
+                numbers,
+                hashes,
+                found,
+                before,
+                hash,
+                owners_at,
+                start,
+                count,
+            )
+        }
+    }
+}
+
+// The hit of a vector at a distance: the distance's key, document id and number.
+fn hit(numbers: &[u32], vector: usize, distance: f32) -> Record
+    requires { ⌜ vector < length (now numbers) ⌝ }
+    requires { ⌜ vector < 4096 ⌝ }
+    ensures { λ r. ⌜ value r ≡ hitOf distance (getD (now (numbers .entry)) vector 0) vector ⌝ }
+{
+    let document = wide(numbers[vector]) as u64;
+    Record {
+        key: key(distance),
+        rest: document * 0x1_0000_0000 + vector as u64,
+    }
+}
+
+// The distances from the query to four vectors.
+fn distances(
+    floats: &[f32],
+    query: &[f32],
+    dimension: usize,
+    a: usize,
+    b: usize,
+    c: usize,
+    d: usize,
+) -> Four
+    requires { ⌜ a * dimension + dimension ≤ length (now floats) ⌝ }
+    requires { ⌜ b * dimension + dimension ≤ length (now floats) ⌝ }
+    requires { ⌜ c * dimension + dimension ≤ length (now floats) ⌝ }
+    requires { ⌜ d * dimension + dimension ≤ length (now floats) ⌝ }
+    ensures { λ r. ⌜ r .a ≡ distance (now (query .entry)) (vectorAt dimension (now (floats .entry)) a) ⌝ }
+    ensures { λ r. ⌜ r .b ≡ distance (now (query .entry)) (vectorAt dimension (now (floats .entry)) b) ⌝ }
+    ensures { λ r. ⌜ r .c ≡ distance (now (query .entry)) (vectorAt dimension (now (floats .entry)) c) ⌝ }
+    ensures { λ r. ⌜ r .d ≡ distance (now (query .entry)) (vectorAt dimension (now (floats .entry)) d) ⌝ }
+{
+    let a_at = a * dimension;
+    let b_at = b * dimension;
+    let c_at = c * dimension;
+    let d_at = d * dimension;
+    let a_end = a_at + dimension;
+    let b_end = b_at + dimension;
+    let c_end = c_at + dimension;
+    let d_end = d_at + dimension;
+    cosine_distance_four(
+        query,
+        &floats[a_at..a_end],
+        &floats[b_at..b_end],
+        &floats[c_at..c_end],
+        &floats[d_at..d_end],
+    )
+}
+
+// Adds a hit to the queue, if its key is at most the bound.
+fn push_within(heap: &mut [u32], count: usize, bound: u32, record: Record) -> usize
+    requires { ⌜ PushWithin (now heap) count 1 ⌝ }
+    ensures { λ r. ⌜ Measured bound (value «record» ∷ []) count (now (heap .entry)) r (now (heap .exit)) ⌝ }
+{
+    let mut total = count;
+    if record.key <= bound {
+        push(heap, count, 3, record);
+        total += 1;
+    }
+    total
+}
+
+// Adds four hits to the queue, each if its key is at most the bound.
+fn push_four(
+    heap: &mut [u32],
+    count: usize,
+    bound: u32,
+    a: Record,
+    b: Record,
+    c: Record,
+    d: Record,
+) -> usize
+    requires { ⌜ PushWithin (now heap) count 4 ⌝ }
+    ensures { λ r. ⌜ Measured bound (value a ∷ value b ∷ value c ∷ value d ∷ []) count (now (heap .entry)) r (now (heap .exit)) ⌝ }
+{
+    let one = push_within(heap, count, bound, a);
+    let two = push_within(heap, one, bound, b);
+    let three = push_within(heap, two, bound, c);
+    push_within(heap, three, bound, d)
+}
+
+// Adds the hits of the four vectors whose numbers stand at a place of the list behind the queue.
+fn measure_four(
+    shape: Shape,
+    counts: Counts,
+    floats: &[f32],
+    numbers: &[u32],
+    heap: &mut [u32],
+    count: usize,
+    query: &[f32],
+    bound: u32,
+    at: usize,
+) -> usize
+    requires { ⌜ FloatsLent shape (now floats) ⌝ }
+    requires { ⌜ NumbersLent shape counts (now numbers) ⌝ }
+    requires { ⌜ Measure counts (now heap) count at 4 ⌝ }
+    ensures { λ r. ⌜ Measured bound (hitsOf shape (now (floats .entry)) (now (numbers .entry)) (now (query .entry)) (part at 4 (now (heap .entry)))) count (now (heap .entry)) r (now (heap .exit)) ⌝ }
+{
+    let a = wide(heap[at]);
+    let b = wide(heap[at + 1]);
+    let c = wide(heap[at + 2]);
+    let d = wide(heap[at + 3]);
+    let four = distances(floats, query, shape.dimension, a, b, c, d);
+    let first = hit(numbers, a, four.a);
+    let second = hit(numbers, b, four.b);
+    let third = hit(numbers, c, four.c);
+    let fourth = hit(numbers, d, four.d);
+    push_four(heap, count, bound, first, second, third, fourth)
+}
+
+// Adds the hit of the vector whose number stands at a place of the list behind the queue.
+fn measure_one(
+    shape: Shape,
+    counts: Counts,
+    floats: &[f32],
+    numbers: &[u32],
+    heap: &mut [u32],
+    count: usize,
+    query: &[f32],
+    bound: u32,
+    at: usize,
+) -> usize
+    requires { ⌜ FloatsLent shape (now floats) ⌝ }
+    requires { ⌜ NumbersLent shape counts (now numbers) ⌝ }
+    requires { ⌜ Measure counts (now heap) count at 1 ⌝ }
+    ensures { λ r. ⌜ Measured bound (hitsOf shape (now (floats .entry)) (now (numbers .entry)) (now (query .entry)) (part at 1 (now (heap .entry)))) count (now (heap .entry)) r (now (heap .exit)) ⌝ }
+{
+    let vector = wide(heap[at]);
+    let distance = distance_to(floats, query, shape.dimension, vector);
+    let record = hit(numbers, vector, distance);
+    push_within(heap, count, bound, record)
+}
+
+// Adds the hits of as many vectors as there are numbers from a place on, one at a time.
+fn measure_rest(
+    shape: Shape,
+    counts: Counts,
+    floats: &[f32],
+    numbers: &[u32],
+    heap: &mut [u32],
+    count: usize,
+    query: &[f32],
+    bound: u32,
+    at: usize,
+    left: usize,
+) -> usize
+    requires { ⌜ FloatsLent shape (now floats) ⌝ }
+    requires { ⌜ NumbersLent shape counts (now numbers) ⌝ }
+    requires { ⌜ Measure counts (now heap) count at left ⌝ }
+    ensures { λ r. ⌜ Measured bound (hitsOf shape (now (floats .entry)) (now (numbers .entry)) (now (query .entry)) (part at left (now (heap .entry)))) count (now (heap .entry)) r (now (heap .exit)) ⌝ }
+{
+    let mut total = count;
+    let mut j = 0;
+    while j < left {
+        total = measure_one(
             shape,
             counts,
             floats,
             numbers,
-            hashes,
             heap,
             total,
             query,
-            wanted,
-            x,
+            bound,
+            at + j,
         );
-        match added {
-            Added::Damaged => {
-                end = Added::Damaged;
-                break;
-            }
-            Added::Hits(more) => {
-                total = more;
-                j += 1;
-            }
-        }
+        j += 1;
     }
-    end
+    total
+}
+
+// Makes the queue of those hits whose key is at most the bound, of the vectors whose numbers stand from a place on; four vectors are measured at a
+// time. The queue grows behind the numbers that are still to be read.
+pub fn measure(
+    shape: Shape,
+    counts: Counts,
+    floats: &[f32],
+    numbers: &[u32],
+    heap: &mut [u32],
+    query: &[f32],
+    bound: u32,
+    from: usize,
+    found: usize,
+) -> usize
+    requires { ⌜ FloatsLent shape (now floats) ⌝ }
+    requires { ⌜ NumbersLent shape counts (now numbers) ⌝ }
+    requires { ⌜ Measure counts (now heap) 0 from found ⌝ }
+    ensures { λ r. ⌜ Measured bound (hitsOf shape (now (floats .entry)) (now (numbers .entry)) (now (query .entry)) (part from found (now (heap .entry)))) 0 (now (heap .entry)) r (now (heap .exit)) ⌝ }
+{
+    let mut queued = 0;
+    let mut j = 0;
+    while 4 <= found - j {
+        queued = measure_four(
+            shape,
+            counts,
+            floats,
+            numbers,
+            heap,
+            queued,
+            query,
+            bound,
+            from + j,
+        );
+        j += 4;
+    }
+    measure_rest(
+        shape,
+        counts,
+        floats,
+        numbers,
+        heap,
+        queued,
+        query,
+        bound,
+        from + j,
+        found - j,
+    )
 }
 
 // What was taken of a queue: how many hits, how many records are left, and the last document id, or 2 ^ 32 before the first.

@@ -1,9 +1,10 @@
--- `search` meets its contract: the walk's hits, in their queue, and the first k of them. Assumes nothing.
-use Rattle.best_first_search.proofs.Searching.{damaged-search, ended-search, ended-queue}
-use Rattle.best_first_walk.specs.Walks.{hitsPart, WalkEnds}
+-- `search` meets its contract: the vectors that the walk found, and the first k of their hits. Assumes nothing.
+use Rattle.best_first_search.proofs.Searching.{damaged-search, ended-search, ended-numbers, ended-first}
+use Rattle.best_first_walk.specs.Walks.{hitsPart, foundIn, WalkEnds}
 use Rattle.best_first_walk.specs.declared.Walked.{Walked}
 use Rattle.best_first_walk.specs.declared.Walked.the-variants as walked
-use Rattle.hit_queue.specs.Hits.{Takes}
+use Rattle.hit_queue.specs.Hits.{hitFor}
+use Rattle.best_first_search.specs.Ranks.{Firsts}
 use Rattle.hit_queue.specs.HitsLaws.{view-most}
 use Rattle.walk.specs.LentLaws.{lent-is, works-trans, works-sets}
 use Rattle.walk.specs.Search.{lent, Works}
@@ -15,7 +16,7 @@ use borrow.Author.Needs.{needs}
 use lib.ListN.{length, take, drop}
 use lib.Seq.{sets}
 use mathlib.Core.Bool.{Bool}
-use mathlib.Core.List.{List, _++_}
+use mathlib.Core.List.{List, _++_, map}
 use mathlib.Core.Path.{_≡_, sym, ap, subst, _∙_}
 use native.Mathlib.Omega.{arith}
 use Prim.Native.Nat.{ℕ, _-_, _*_, _≤_, max}
@@ -24,13 +25,16 @@ use Rattle.best_first_search.proofs.search.Tie as tie
 
 -- the places: entry, the walk ended, it ended with hits, and the first k are taken
 abbrev entry : tie.After-best-first-walk → tie.Start
-entry w = w .before .before .before .before .before .before .before .before .before .before .before
+entry w = w .before .before .before .before .before .before .before .before .before .before .before .before
 
 abbrev from : tie.After-walked → tie.After-best-first-walk
 from h = h .before .before .before .before
 
-abbrev hits : tie.After-take-hits → tie.After-walked
+abbrev hits : tie.After-first-hits → tie.After-walked
 hits t = t .before .before .before .before .before
+
+abbrev hit : tie.Start → ℕ → ℕ
+hit e = hitFor (e .args .shape) (e .args .floats .now) (e .args .numbers .now) (e .args .query .now)
 
 abbrev view : tie.Start → View
 view e = storeView (e .args .shape) (e .args .counts) (lent (e .args .floats .now) (e .args .numbers .now) (e .args .hashes .now)) (e .args .query .now) (e .args .wanted)
@@ -40,26 +44,30 @@ abbrev work : tie.After-best-first-walk → List ℕ
 work w = w .best-first-walk .last .1 .1 .1 .1 .1 .1 .0
 
 ends : (w : tie.After-best-first-walk) (r : Walked) → w .best-first-walk .result ≡ r
-    → WalkEnds (entry w .args .shape) (walk (view (entry w)) (entry w .args .ef-search)) r (work w)
+    → WalkEnds (entry w .args .shape) (entry w .args .counts) (hit (entry w)) (walk (view (entry w)) (entry w .args .ef-search)) r (work w)
 ends w r is =
-    subst (λ (r : Walked). WalkEnds (entry w .args .shape) (walk (view (entry w)) (entry w .args .ef-search)) r (work w)) is (w .best-first-walk .ensures .ends)
+    subst (λ (r : Walked). WalkEnds (entry w .args .shape) (entry w .args .counts) (hit (entry w)) (walk (view (entry w)) (entry w .args .ef-search)) r (work w)) is (w .best-first-walk .ensures .ends)
 
 size : (w : tie.After-best-first-walk) → workSize (entry w .args .shape) ≤ length (work w)
 size w = omega (arith, entry w .pre .1 .1 .1 .0 .size, w .best-first-walk .ensures .works .size)
 
-hits-start : (w : tie.After-best-first-walk) → w .before .before .before .hits-at .result ≡ hitsAt (entry w .args .shape)
-hits-start w = w .before .before .before .hits-at .ensures
+hits-start : (w : tie.After-best-first-walk) → w .before .before .before .before .hits-at .result ≡ hitsAt (entry w .args .shape)
+hits-start w = w .before .before .before .before .hits-at .ensures
 
-hits-end : (w : tie.After-best-first-walk) → w .before .before .work-size .result ≡ workSize (entry w .args .shape)
-hits-end w = w .before .before .work-size .ensures
+hits-end : (w : tie.After-best-first-walk) → w .before .before .before .work-size .result ≡ workSize (entry w .args .shape)
+hits-end w = w .before .before .before .work-size .ensures
 
 abbrev lentHits : tie.After-best-first-walk → List ℕ
-lentHits w = take (w .before .before .work-size .result - w .before .before .before .hits-at .result) (drop (w .before .before .before .hits-at .result) (work w))
+lentHits w = take (w .before .before .before .work-size .result - w .before .before .before .before .hits-at .result) (drop (w .before .before .before .before .hits-at .result) (work w))
 
 lent-hits : (w : tie.After-best-first-walk) → lentHits w ≡ hitsPart (entry w .args .shape) (work w)
 lent-hits w =
     let s = entry w .args .shape in
-    lent-is (work w) (w .before .before .before .hits-at .result) (w .before .before .work-size .result) (hitsAt s) (3 * max (s .vectors) (s .entries)) (hits-start w) (hits-end w)
+    lent-is (work w) (w .before .before .before .before .hits-at .result) (w .before .before .before .work-size .result) (hitsAt s) (3 * max (s .vectors) (s .entries)) (hits-start w) (hits-end w)
+
+-- where the numbers of the vectors found stand in it
+from-is : (w : tie.After-best-first-walk) → w .before .before .found-at .result - w .before .before .before .before .hits-at .result ≡ foundIn (entry w .args .shape)
+from-is w = omega (arith, w .before .before .found-at .ensures, hits-start w)
 
 -- how the walk ended: hits, opened nodes, whole or cut
 abbrev found : tie.After-walked → ℕ
@@ -71,28 +79,28 @@ opened h = h .walked .given .0 .1 .0
 abbrev whole : tie.After-walked → Bool
 whole h = h .walked .given .0 .1 .1 .0
 
-ended : (h : tie.After-walked) → WalkEnds (entry (from h) .args .shape) (walk (view (entry (from h))) (entry (from h) .args .ef-search)) (walked.Ended (found h) (opened h) (whole h)) (work (from h))
+ended : (h : tie.After-walked) → WalkEnds (entry (from h) .args .shape) (entry (from h) .args .counts) (hit (entry (from h))) (walk (view (entry (from h))) (entry (from h) .args .ef-search)) (walked.Ended (found h) (opened h) (whole h)) (work (from h))
 ended h = ends (from h) (walked.Ended (found h) (opened h) (whole h)) (h .walked .given .1)
 
 -- the hits' part as it came back
-abbrev back : tie.After-take-hits → List ℕ
-back t = t .take-hits .last .0
+abbrev back : tie.After-first-hits → List ℕ
+back t = t .first-hits .last .1 .1 .1 .1 .0
 
-back-length : (t : tie.After-take-hits) → length (back t) ≡ 3 * max (entry (from (hits t)) .args .shape .vectors) (entry (from (hits t)) .args .shape .entries)
+back-length : (t : tie.After-first-hits) → length (back t) ≡ 3 * max (entry (from (hits t)) .args .shape .vectors) (entry (from (hits t)) .args .shape .entries)
 back-length t =
     let w = from (hits t) in
     let s = entry w .args .shape in
-    t .take-hits .kept .0 ∙ ap length (lent-hits w) ∙ length-part (hitsAt s) (3 * max (s .vectors) (s .entries)) (work w) (size w)
+    t .first-hits .kept .1 .1 .1 .1 .0 ∙ ap length (lent-hits w) ∙ length-part (hitsAt s) (3 * max (s .vectors) (s .entries)) (work w) (size w)
 
-abbrev after : tie.After-take-hits → List ℕ
+abbrev after : tie.After-first-hits → List ℕ
 after t = let w = from (hits t) in
-    take (w .before .before .before .hits-at .result) (work w)
-    ++ (back t ++ drop (w .before .before .work-size .result - w .before .before .before .hits-at .result) (drop (w .before .before .before .hits-at .result) (work w)))
+    take (w .before .before .before .before .hits-at .result) (work w)
+    ++ (back t ++ drop (w .before .before .before .work-size .result - w .before .before .before .before .hits-at .result) (drop (w .before .before .before .before .hits-at .result) (work w)))
 
-after-is : (t : tie.After-take-hits) → after t ≡ sets (work (from (hits t))) (hitsAt (entry (from (hits t)) .args .shape)) (back t)
+after-is : (t : tie.After-first-hits) → after t ≡ sets (work (from (hits t))) (hitsAt (entry (from (hits t)) .args .shape)) (back t)
 after-is t =
     let w = from (hits t) in
-    lent-part (work w) (w .before .before .before .hits-at .result) (w .before .before .work-size .result) (back t)
+    lent-part (work w) (w .before .before .before .before .hits-at .result) (w .before .before .before .work-size .result) (back t)
     (omega (arith, hits-start w, hits-end w)) (omega (arith, hits-end w, size w)) (omega (arith, back-length t, hits-start w, hits-end w))
     ∙ ap (λ (at : ℕ). sets (work w) at (back t)) (hits-start w)
 
@@ -101,6 +109,12 @@ hits-at-requires c κs = search needs
 
 work-size-requires : tie.Need-work-size-requires
 work-size-requires c κs = search needs
+
+found-at-requires : tie.Need-found-at-requires
+found-at-requires c κs = search needs
+
+sub-from : tie.Need-sub-from
+sub-from c = omega (arith, c .found-at .ensures, c .before .before .hits-at .ensures)
 
 best-first-walk-requires : tie.Need-best-first-walk-requires
 best-first-walk-requires c κs = search needs
@@ -111,27 +125,32 @@ enum-told c = search needs
 enum-known-walked : tie.Need-enum-known-walked
 enum-known-walked c = search needs
 
-mul-take-hits : tie.Need-mul-take-hits
-mul-take-hits c = search needs
+mul-first-hits : tie.Need-mul-first-hits
+mul-first-hits c = search needs
 
-sub-take-hits : tie.Need-sub-take-hits
-sub-take-hits c = search needs
+sub-first-hits : tie.Need-sub-first-hits
+sub-first-hits c = search needs
 
-part-take-hits-start : tie.Need-part-take-hits-start
-part-take-hits-start c = search needs
+part-first-hits-start : tie.Need-part-first-hits-start
+part-first-hits-start c = search needs
 
-part-take-hits-end : tie.Need-part-take-hits-end
-part-take-hits-end c = omega (arith, hits-end (from (c .before)), size (from (c .before)))
+part-first-hits-end : tie.Need-part-first-hits-end
+part-first-hits-end c = omega (arith, hits-end (from (c .before)), size (from (c .before)))
 
-take-hits-requires : tie.Need-take-hits-requires
-take-hits-requires c κs =
+first-hits-requires : tie.Need-first-hits-requires
+first-hits-requires c κs =
     let h = c .before .before .before .before in
     let w = from h in
     let a = entry w .args in
-    let pre = entry w .pre in
-    ended-queue (a .shape) (a .counts) (a .wanted) (view (entry w)) (a .ef-search) (a .k) (found h) (opened h) (whole h) (work w) (lentHits w) (a .ids .now) (a .distances .now)
-    (view-most (a .shape) (a .counts) (a .floats .now) (a .numbers .now) (a .hashes .now) (a .query .now) (a .wanted)) (pre .1 .0 .vectors) (pre .1 .0 .entries) (size w) (lent-hits w)
-    (pre .1 .1 .1 .1 .0) (pre .1 .1 .1 .1 .1) (ended h)
+    let pre = entry w .pre in (
+      pre .0,
+      (
+        pre .1 .0,
+        ended-first (a .shape) (a .counts) (hit (entry w)) (a .wanted) (view (entry w)) (a .ef-search) (a .k) (found h) (opened h) (whole h) (work w) (lentHits w) _ (pre .0 .limits)
+            (view-most (a .shape) (a .counts) (a .floats .now) (a .numbers .now) (a .hashes .now) (a .query .now) (a .wanted)) (pre .1 .0 .vectors) (pre .1 .0 .entries) (size w) (lent-hits w) (from-is w) (ended h)
+            (a .ids .now) (a .distances .now) (pre .1 .1 .1 .1 .0) (pre .1 .1 .1 .1 .1),
+      ),
+    )
 
 same-length : tie.Need-same-length
 same-length c = search needs
@@ -141,7 +160,7 @@ returns c =
     let w = c .before .before .before .before in
     let a = entry w .args in
     record {
-      ends = damaged-search (a .shape) (walk (view (entry w)) (a .ef-search)) (a .k) (work w) (a .ids .now) (a .distances .now) (ends w walked.Damaged (c .enum-told .given .1));
+      ends = damaged-search (a .shape) (a .counts) (hit (entry w)) (walk (view (entry w)) (a .ef-search)) (a .k) (work w) (a .ids .now) (a .distances .now) (ends w walked.Damaged (c .enum-told .given .1));
       works = w .best-first-walk .ensures .works;
     }
 
@@ -160,10 +179,14 @@ returns-2 c =
     let h = hits t in
     let w = from h in
     let a = entry w .args in
-    let last = t .take-hits .last in
+    let pre = entry w .pre in
+    let last = t .first-hits .last in
     record {
-      ends = ended-search (a .shape) (walk (view (entry w)) (a .ef-search)) (a .k) (found h) (opened h) (whole h) (work w) (a .ids .now) _ (back t) (a .distances .now) _ (t .take-hits .result) (ended h)
-          (subst (λ (heap : List ℕ). Takes heap (found h) (a .k) (a .ids .now) (a .distances .now) (t .take-hits .result) (back t) (last .1 .1 .1 .0) (last .1 .1 .1 .1 .0)) (lent-hits w) (t .take-hits .ensures));
+      ends = ended-search (a .shape) (a .counts) (hit (entry w)) (walk (view (entry w)) (a .ef-search)) (a .k) (found h) (opened h) (whole h) (work w) (a .ids .now) _ (a .distances .now) _ (t .first-hits .result) (ended h)
+          (subst (λ (l : List ℕ). Firsts (map (hit (entry w)) l) (a .k) (a .ids .now) (a .distances .now) (t .first-hits .result) (last .1 .1 .1 .1 .1 .1 .1 .1 .1 .0) (last .1 .1 .1 .1 .1 .1 .1 .1 .1 .1 .0))
+          (ended-numbers (a .shape) (a .counts) (hit (entry w)) (a .wanted) (view (entry w)) (a .ef-search) (a .k) (found h) (opened h) (whole h) (work w) (lentHits w) _ (pre .0 .limits)
+          (view-most (a .shape) (a .counts) (a .floats .now) (a .numbers .now) (a .hashes .now) (a .query .now) (a .wanted)) (pre .1 .0 .vectors) (pre .1 .0 .entries) (size w) (lent-hits w) (from-is w) (ended h))
+          (t .first-hits .ensures));
       works = works-trans (a .shape) (a .work .now) (work w) (after t) (w .best-first-walk .ensures .works)
           (subst (Works (a .shape) (work w)) (sym (after-is t)) (works-sets (a .shape) (work w) (back t) (hitsAt (a .shape)) (omega (arith, back-length t))));
     }
@@ -174,14 +197,16 @@ search-spec =
     (tie.spec
     hits-at-requires
     work-size-requires
+    found-at-requires
+    sub-from
     best-first-walk-requires
     enum-told
     enum-known-walked
-    mul-take-hits
-    sub-take-hits
-    part-take-hits-start
-    part-take-hits-end
-    take-hits-requires
+    mul-first-hits
+    sub-first-hits
+    part-first-hits-start
+    part-first-hits-end
+    first-hits-requires
     same-length
     returns
     same-length-2

@@ -80,10 +80,10 @@ returns c =
     let p = c .before .before in
     let d = p .before .before .before .before .before in
     let e = entry d in
-    λ numbers hashes wanted.
+    λ hit numbers hashes wanted.
     let view = storeView (e .args .shape) (e .args .counts) (lent (e .args .floats .now) numbers hashes) (e .args .query .now) wanted in
     let key = view-key (e .args .shape) (e .args .counts) (e .args .floats .now) numbers hashes (e .args .query .now) wanted 0 (e .args .shape .vectors) _ (sym (add-zero (e .args .shape .vectors))) (p .before .before .distance-key .ensures) in
-    begins (e .args .shape) (e .args .counts) view (e .args .work .now) _ (e .pre .1 .limits) (e .pre .1 .nodes) (e .pre .1 .some) (e .pre .1 .size)
+    begins (e .args .shape) (e .args .counts) hit view (e .args .work .now) _ (e .pre .1 .limits) (e .pre .1 .nodes) (e .pre .1 .some) (e .pre .1 .size)
     (subst₂ (λ work key. PushedNode (e .args .shape) work 0 0 key (p .push-node .last .1 .0)) (cleared d) key (p .push-node .ensures))
 
 pub begin-spec : {M : Type 1} → statement M

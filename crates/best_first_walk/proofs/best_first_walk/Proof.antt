@@ -2,10 +2,10 @@
 -- children that are left. Assumes nothing.
 use Rattle.best_first_walk.proofs.Walking.{Waits, Opens, Pushes, childTest, children-shown, waits-from, next-child, no-child, fresh-is, waits-start, few-wait, opens, opens-below, found-length, opens-damage, leaf-damage, leaf-hits, pushes-start, pushes-end, child-damage, child-low, child-room, child-pushed, ends-damaged, ends-whole, ends-cut}
 use Rattle.best_first_walk.proofs.Steps.{view-key}
-use Rattle.best_first_walk.specs.Walks.{hitsPart, PushedNode}
-use Rattle.best_first_walk.specs.WalksLaws.{hits-room}
-use Rattle.hit_queue.specs.Hits.{AddHits, Gathers, passes, has, newHits, hitOfListed, mostOf}
-use Rattle.hit_queue.specs.HitsLaws.{view-most, list-shown}
+use Rattle.best_first_walk.specs.Walks.{foundAt, foundPart, PushedNode}
+use Rattle.best_first_walk.specs.WalksLaws.{few-hits, length-found}
+use Rattle.hit_queue.specs.Hits.{AddHits, Gathers, passes, has, vectorOf, newVectors, hitFor, mostOf}
+use Rattle.hit_queue.specs.HitsLaws.{view-most, list-shown, vector-held}
 use Rattle.hit_queue.specs.declared.Added.{Added}
 use Rattle.hit_queue.specs.declared.Added.the-variants as added
 use Rattle.walk.specs.declared.look.Look.{Look}
@@ -16,7 +16,7 @@ use Rattle.walk.specs.StoreView.{allPass, storeView}
 use Rattle.walk.specs.StoreViewLaws.{store-children-below}
 use Rattle.walk.specs.Walk.{View, hits, damage, shown}
 use Rattle.walk.specs.WalkLaws.{ChildrenBelow}
-use Rattle.store.specs.Store.{marksAt, hitsAt, workSize}
+use Rattle.store.specs.Store.{marksAt, workSize}
 use Rattle.lists.specs.Lists.{part}
 use Rattle.lists.specs.Parts.{length-part, lent-part}
 use borrow.Author.Needs.{needs}
@@ -25,7 +25,7 @@ use lib.Dec.{eqb}
 use lib.ListN.{length, getD, take, drop}
 use lib.Seq.{sets}
 use mathlib.Core.Bool.{Bool, true, false, _&&_, cond}
-use mathlib.Core.List.{List, _∷_, _++_}
+use mathlib.Core.List.{List, _∷_, _++_, map}
 use mathlib.Core.Path.{_≡_, refl, sym, ap, subst, _∙_}
 use native.Mathlib.Omega.{arith}
 use Prim.Native.Nat.{ℕ, _+_, _-_, _*_, _≤_, _<_, max}
@@ -33,20 +33,20 @@ use Rattle.best_first_walk.proofs.best_first_walk.Statement.{statement}
 use Rattle.best_first_walk.proofs.best_first_walk.Tie as tie
 
 abbrev Inv-loop : tie.InvT-loop
-Inv-loop shape counts ef-search floats numbers hashes work₀ query wanted nodes marks-at hits-at hits-end waiting₀ opened found node start count j₀ work waiting j =
+Inv-loop shape counts ef-search floats numbers hashes work₀ query wanted nodes marks-at found-at found-end waiting₀ opened found node start count j₀ work waiting j =
     (j ≤ count)
     × (start + count ≤ length numbers)
-    × Pushes shape counts (storeView shape counts (lent floats numbers hashes) query wanted) ef-search work₀ node (drop j (part start count numbers)) work waiting found opened
+    × Pushes shape counts (hitFor shape floats numbers query) (storeView shape counts (lent floats numbers hashes) query wanted) ef-search work₀ node (drop j (part start count numbers)) work waiting found opened
 
 abbrev μ-loop : tie.MeasureT-loop
-μ-loop shape counts ef-search floats numbers hashes work₀ query wanted nodes marks-at hits-at hits-end waiting₀ opened found node start count j₀ work waiting j = count - j
+μ-loop shape counts ef-search floats numbers hashes work₀ query wanted nodes marks-at found-at found-end waiting₀ opened found node start count j₀ work waiting j = count - j
 
 abbrev Inv-walk : tie.InvT-walk
-Inv-walk shape counts ef-search floats numbers hashes work₀ query wanted nodes marks-at hits-at hits-end waiting₀ opened₀ found₀ work waiting opened found =
-    Waits shape counts (storeView shape counts (lent floats numbers hashes) query wanted) ef-search work₀ work waiting found opened
+Inv-walk shape counts ef-search floats numbers hashes work₀ query wanted nodes marks-at found-at found-end waiting₀ opened₀ found₀ work waiting opened found =
+    Waits shape counts (hitFor shape floats numbers query) (storeView shape counts (lent floats numbers hashes) query wanted) ef-search work₀ work waiting found opened
 
 abbrev μ-walk : tie.MeasureT-walk
-μ-walk shape counts ef-search floats numbers hashes work₀ query wanted nodes marks-at hits-at hits-end waiting₀ opened₀ found₀ work waiting opened found = ef-search - opened
+μ-walk shape counts ef-search floats numbers hashes work₀ query wanted nodes marks-at found-at found-end waiting₀ opened₀ found₀ work waiting opened found = ef-search - opened
 
 -- ---- the places, each with the way back to the one before
 
@@ -125,6 +125,9 @@ read a = a .before .before
 
 -- ---- what is known at each
 
+abbrev hit : Entry → ℕ → ℕ
+hit e = hitFor (e .args .shape) (e .args .floats .now) (e .args .numbers .now) (e .args .query .now)
+
 abbrev view : Entry → View
 view e = storeView (e .args .shape) (e .args .counts) (lent (e .args .floats .now) (e .args .numbers .now) (e .args .hashes .now)) (e .args .query .now) (e .args .wanted)
 
@@ -139,23 +142,23 @@ abbrev first : Begun → List ℕ
 first b = b .begin .last .1 .1 .1 .0
 
 first-works : (b : Begun) → Works (entry b .args .shape) (entry b .args .work .now) (first b)
-first-works b = let e = entry b in b .begin .ensures (e .args .numbers .now) (e .args .hashes .now) (e .args .wanted) .works
+first-works b = let e = entry b in b .begin .ensures (hit e) (e .args .numbers .now) (e .args .hashes .now) (e .args .wanted) .works
 
 -- the parts of the work list
 marks : (b : Begun) → b .before .before .before .before .marks-at .result ≡ marksAt (entry b .args .shape)
 marks b = b .before .before .before .before .marks-at .ensures
 
-hits-start : (b : Begun) → b .before .before .before .hits-at .result ≡ hitsAt (entry b .args .shape)
-hits-start b = b .before .before .before .hits-at .ensures
+found-start : (b : Begun) → b .before .before .before .found-at .result ≡ foundAt (entry b .args .shape)
+found-start b = b .before .before .before .found-at .ensures
 
-hits-end : (b : Begun) → b .before .before .work-size .result ≡ workSize (entry b .args .shape)
-hits-end b = b .before .before .work-size .ensures
+found-end : (b : Begun) → b .before .before .work-size .result ≡ workSize (entry b .args .shape)
+found-end b = b .before .before .work-size .ensures
 
 few : (t : Turn) → t .walk .waiting ≤ entry (begun t) .args .shape .nodes
 few t =
     let e = entry (begun t) in
     let w = lends e in
-    few-wait (e .args .shape) (e .args .counts) (view e) (e .args .ef-search) (first (begun t)) (w .limits) (w .nodes) (w .some) (below e) (t .walk .work) (t .walk .waiting) (t .walk .hits) (t .walk .opened) (t .walk .inv)
+    few-wait (e .args .shape) (e .args .counts) (hit e) (view e) (e .args .ef-search) (first (begun t)) (w .limits) (w .nodes) (w .some) (below e) (t .walk .work) (t .walk .waiting) (t .walk .hits) (t .walk .opened) (t .walk .inv)
 
 ended-works : (t : Turn) → Works (entry (begun t) .args .shape) (entry (begun t) .args .work .now) (t .walk .work)
 ended-works t = works-trans (entry (begun t) .args .shape) (entry (begun t) .args .work .now) (first (begun t)) (t .walk .work) (first-works (begun t)) (t .walk .inv .1 .works)
@@ -172,15 +175,15 @@ node-low p =
     let t = turn p in
     let e = entry (begun t) in
     let w = lends e in
-    opens-below (e .args .shape) (e .args .counts) (view e) (e .args .ef-search) (first (begun t)) (w .limits) (w .nodes) (w .some) (below e) (t .walk .work) (work p) (t .walk .waiting) (t .walk .hits) (t .walk .opened) (p .pop .result) (t .walk .inv) (p .pop .ensures)
+    opens-below (e .args .shape) (e .args .counts) (hit e) (view e) (e .args .ef-search) (first (begun t)) (w .limits) (w .nodes) (w .some) (below e) (t .walk .work) (work p) (t .walk .waiting) (t .walk .hits) (t .walk .opened) (p .pop .result) (t .walk .inv) (p .pop .ensures)
 
-opened : (p : Least) → Opens (entry (begun (turn p)) .args .shape) (entry (begun (turn p)) .args .counts) (view (entry (begun (turn p)))) (entry (begun (turn p)) .args .ef-search)
+opened : (p : Least) → Opens (entry (begun (turn p)) .args .shape) (entry (begun (turn p)) .args .counts) (hit (entry (begun (turn p)))) (view (entry (begun (turn p)))) (entry (begun (turn p)) .args .ef-search)
     (first (begun (turn p))) (node p) (work p) (turn p .walk .waiting - 1) (turn p .walk .hits) (turn p .walk .opened + 1)
 opened p =
     let t = turn p in
     let e = entry (begun t) in
     let w = lends e in
-    opens (e .args .shape) (e .args .counts) (view e) (e .args .ef-search) (first (begun t)) (w .limits) (w .nodes) (w .some) (below e) (t .walk .work) (work p) (t .walk .waiting) (t .walk .hits) (t .walk .opened) (p .pop .result) (t .walk .inv) (p .before .before .if2 .left) (p .pop .ensures)
+    opens (e .args .shape) (e .args .counts) (hit e) (view e) (e .args .ef-search) (first (begun t)) (w .limits) (w .nodes) (w .some) (below e) (t .walk .work) (work p) (t .walk .waiting) (t .walk .hits) (t .walk .opened) (p .pop .result) (t .walk .inv) (p .before .before .if2 .left) (p .pop .ensures)
 
 opened-works : (p : Least) → Works (entry (begun (turn p)) .args .shape) (entry (begun (turn p)) .args .work .now) (work p)
 opened-works p = let e = entry (begun (turn p)) in works-trans (e .args .shape) (e .args .work .now) (first (begun (turn p))) (work p) (first-works (begun (turn p))) (opened p .1 .works)
@@ -203,8 +206,8 @@ test e = passes (e .args .shape) (e .args .counts) (e .args .numbers .now) (e .a
 abbrev wants : Entry → ℕ → Bool
 wants e = has (e .args .hashes .now) (e .args .wanted)
 
-abbrev hit : Entry → ℕ → ℕ
-hit e = hitOfListed (e .args .shape) (e .args .counts) (e .args .floats .now) (e .args .numbers .now) (e .args .hashes .now) (e .args .query .now) (e .args .wanted)
+abbrev vector : Entry → ℕ → ℕ
+vector e = vectorOf (e .args .shape) (e .args .numbers .now) (e .args .wanted)
 
 most : (e : Entry) → view e .most ≡ mostOf (e .args .counts) (e .args .wanted)
 most e = view-most (e .args .shape) (e .args .counts) (e .args .floats .now) (e .args .numbers .now) (e .args .hashes .now) (e .args .query .now) (e .args .wanted)
@@ -216,28 +219,29 @@ list-room : (l : Leaf) → l .shown .given .0 .0 .start + l .shown .given .0 .0 
 list-room l = shows (leaf l) (look.Leaf (l .shown .given .0 .0)) (l .shown .given .1) .0
 
 list-is : (l : Leaf) → shown (view (at-leaf l)) (node (least (leaf l)))
-    ≡ cond (allPass (test (at-leaf l)) (list l)) (hits (newHits (wants (at-leaf l)) (hit (at-leaf l)) (list l))) damage
+    ≡ cond (allPass (test (at-leaf l)) (list l)) (hits (map (hit (at-leaf l)) (newVectors (wants (at-leaf l)) (vector (at-leaf l)) (list l)))) damage
 list-is l =
     let e = at-leaf l in
     shows (leaf l) (look.Leaf (l .shown .given .0 .0)) (l .shown .given .1) .1 (e .args .floats .now) (e .args .query .now)
     ∙ list-shown (e .args .shape) (e .args .counts) (e .args .floats .now) (e .args .numbers .now) (e .args .hashes .now) (e .args .query .now) (e .args .wanted) (list l)
 
 -- the hits' part, as it is lent
-abbrev lentHits : Least → List ℕ
-lentHits p = let b = begun (turn p) in take (b .before .before .work-size .result - b .before .before .before .hits-at .result) (drop (b .before .before .before .hits-at .result) (work p))
+abbrev lentFound : Least → List ℕ
+lentFound p = let b = begun (turn p) in take (b .before .before .work-size .result - b .before .before .before .found-at .result) (drop (b .before .before .before .found-at .result) (work p))
 
-lent-hits : (p : Least) → lentHits p ≡ hitsPart (entry (begun (turn p)) .args .shape) (work p)
-lent-hits p =
+lent-found : (p : Least) → lentFound p ≡ foundPart (entry (begun (turn p)) .args .shape) (work p)
+lent-found p =
     let b = begun (turn p) in
     let s = entry b .args .shape in
-    lent-is (work p) (b .before .before .before .hits-at .result) (b .before .before .work-size .result) (hitsAt s) (3 * max (s .vectors) (s .entries)) (hits-start b) (hits-end b)
+    lent-is (work p) (b .before .before .before .found-at .result) (b .before .before .work-size .result) (foundAt s) (max (s .vectors) (s .entries) + 1) (found-start b)
+    (omega (arith, found-end b, lends (entry b) .limits .vectors-low))
 
 work-room : (p : Least) → workSize (entry (begun (turn p)) .args .shape) ≤ length (work p)
 work-room p = opened p .1 .holds .size
 
 -- and as it came back
 abbrev back : Hits → List ℕ
-back h = h .add-hits .last .1 .1 .1 .1 .1 .0
+back h = h .add-hits .last .1 .1 .1 .1 .0
 
 abbrev at-hits : Hits → Least
 at-hits h = least (leaf (from h))
@@ -245,41 +249,42 @@ at-hits h = least (leaf (from h))
 abbrev after : Hits → List ℕ
 after h = let p = at-hits h in
     let b = begun (turn p) in
-    take (b .before .before .before .hits-at .result) (work p)
-    ++ (back h ++ drop (b .before .before .work-size .result - b .before .before .before .hits-at .result) (drop (b .before .before .before .hits-at .result) (work p)))
+    take (b .before .before .before .found-at .result) (work p)
+    ++ (back h ++ drop (b .before .before .work-size .result - b .before .before .before .found-at .result) (drop (b .before .before .before .found-at .result) (work p)))
 
-back-length : (h : Hits) → length (back h) ≡ 3 * max (at-leaf (from h) .args .shape .vectors) (at-leaf (from h) .args .shape .entries)
+back-length : (h : Hits) → length (back h) ≡ max (at-leaf (from h) .args .shape .vectors) (at-leaf (from h) .args .shape .entries) + 1
 back-length h =
     let p = at-hits h in
     let s = at-leaf (from h) .args .shape in
-    h .add-hits .kept .1 .1 .1 .1 .1 .0 ∙ ap length (lent-hits p) ∙ length-part (hitsAt s) (3 * max (s .vectors) (s .entries)) (work p) (work-room p)
+    h .add-hits .kept .1 .1 .1 .1 .0 ∙ ap length (lent-found p) ∙ length-found s (work p) (lends (at-leaf (from h)) .limits) (work-room p)
 
-after-is : (h : Hits) → after h ≡ sets (work (at-hits h)) (hitsAt (at-leaf (from h) .args .shape)) (back h)
+after-is : (h : Hits) → after h ≡ sets (work (at-hits h)) (foundAt (at-leaf (from h) .args .shape)) (back h)
 after-is h =
     let p = at-hits h in
     let b = begun (turn p) in
-    lent-part (work p) (b .before .before .before .hits-at .result) (b .before .before .work-size .result) (back h)
-    (omega (arith, hits-start b, hits-end b)) (omega (arith, hits-end b, work-room p)) (omega (arith, back-length h, hits-start b, hits-end b))
-    ∙ ap (λ (at : ℕ). sets (work p) at (back h)) (hits-start b)
+    lent-part (work p) (b .before .before .before .found-at .result) (b .before .before .work-size .result) (back h)
+    (omega (arith, found-start b, found-end b, lends (entry b) .limits .vectors-low)) (omega (arith, found-end b, work-room p))
+    (omega (arith, back-length h, found-start b, found-end b, lends (entry b) .limits .vectors-low))
+    ∙ ap (λ (at : ℕ). sets (work p) at (back h)) (found-start b)
 
 after-works : (h : Hits) → Works (at-leaf (from h) .args .shape) (at-leaf (from h) .args .work .now) (after h)
 after-works h =
     let p = at-hits h in
     let e = at-leaf (from h) in
     works-trans (e .args .shape) (e .args .work .now) (work p) (after h) (opened-works p)
-    (subst (Works (e .args .shape) (work p)) (sym (after-is h)) (works-sets (e .args .shape) (work p) (back h) (hitsAt (e .args .shape)) (omega (arith, back-length h))))
+    (subst (Works (e .args .shape) (work p)) (sym (after-is h)) (works-sets (e .args .shape) (work p) (back h) (foundAt (e .args .shape)) (omega (arith, back-length h, lends e .limits .vectors-low))))
 
 -- what the leaf gave
 abbrev Gave : Hits → ℕ → List ℕ → Added → Type 0
-Gave h n heap r = let e = at-leaf (from h) in Gathers (test e) (wants e) (hit e) n (list (from h)) (turn (at-hits h) .walk .hits) heap r (back h)
+Gave h n heap r = let e = at-leaf (from h) in Gathers (test e) (wants e) (vector e) n (list (from h)) (turn (at-hits h) .walk .hits) heap r (back h)
 
-gave : (h : Hits) (r : Added) → h .add-hits .result ≡ r → Gave h (view (at-leaf (from h)) .most) (hitsPart (at-leaf (from h) .args .shape) (work (at-hits h))) r
+gave : (h : Hits) (r : Added) → h .add-hits .result ≡ r → Gave h (view (at-leaf (from h)) .most) (foundPart (at-leaf (from h) .args .shape) (work (at-hits h))) r
 gave h r is =
     let e = at-leaf (from h) in
     let p = at-hits h in
-    subst (λ (heap : List ℕ). Gave h (view e .most) heap r) (lent-hits p)
-    (subst (λ (n : ℕ). Gave h n (lentHits p) r) (sym (most e))
-    (subst (Gave h (mostOf (e .args .counts) (e .args .wanted)) (lentHits p)) is (h .add-hits .ensures)))
+    subst (λ (heap : List ℕ). Gave h (view e .most) heap r) (lent-found p)
+    (subst (λ (n : ℕ). Gave h n (lentFound p) r) (sym (most e))
+    (subst (Gave h (mostOf (e .args .counts) (e .args .wanted)) (lentFound p)) is (h .add-hits .ensures)))
 
 -- ---- an inner node
 
@@ -295,7 +300,7 @@ Left k left =
     let i = parent k in
     let p = least (inner i) in
     let e = at-inner i in
-    Pushes (e .args .shape) (e .args .counts) (view e) (e .args .ef-search) (work p) (node p) left (k .loop .work) (k .loop .waiting) (turn p .walk .hits) (turn p .walk .opened + 1)
+    Pushes (e .args .shape) (e .args .counts) (hit e) (view e) (e .args .ef-search) (work p) (node p) left (k .loop .work) (k .loop .waiting) (turn p .walk .hits) (turn p .walk .opened + 1)
 
 child-works : (k : Child) → Works (at-inner (parent k) .args .shape) (at-inner (parent k) .args .work .now) (k .loop .work)
 child-works k =
@@ -334,7 +339,7 @@ low a is =
     let p = least (inner (parent k)) in
     let e = at-inner (parent k) in
     let w = lends e in
-    child-low (e .args .shape) (e .args .counts) (view e) (e .args .ef-search) (work p) (w .limits) (w .nodes) (w .some) (below e) (node p) (number (read a)) (behind (read a)) (k .loop .work) (k .loop .waiting) (turn p .walk .hits) (turn p .walk .opened + 1) (next (read a)) (fresh a true is)
+    child-low (e .args .shape) (e .args .counts) (hit e) (view e) (e .args .ef-search) (work p) (w .limits) (w .nodes) (w .some) (below e) (node p) (number (read a)) (behind (read a)) (k .loop .work) (k .loop .waiting) (turn p .walk .hits) (turn p .walk .opened + 1) (next (read a)) (fresh a true is)
 
 room : (a : Asked) → a .fresh-child .result ≡ true → child (read a) .loop .waiting < at-inner (parent (child (read a))) .args .shape .nodes
 room a is =
@@ -342,15 +347,15 @@ room a is =
     let p = least (inner (parent k)) in
     let e = at-inner (parent k) in
     let w = lends e in
-    child-room (e .args .shape) (e .args .counts) (view e) (e .args .ef-search) (work p) (w .limits) (w .nodes) (w .some) (below e) (node p) (number (read a)) (behind (read a)) (k .loop .work) (k .loop .waiting) (turn p .walk .hits) (turn p .walk .opened + 1) (next (read a)) (fresh a true is)
+    child-room (e .args .shape) (e .args .counts) (hit e) (view e) (e .args .ef-search) (work p) (w .limits) (w .nodes) (w .some) (below e) (node p) (number (read a)) (behind (read a)) (k .loop .work) (k .loop .waiting) (turn p .walk .hits) (turn p .walk .opened + 1) (next (read a)) (fresh a true is)
 
 -- ---- the needs, in the order of the code
 
 marks-at-requires : tie.Need-marks-at-requires Inv-loop μ-loop Inv-walk μ-walk
 marks-at-requires c κs = search needs
 
-hits-at-requires : tie.Need-hits-at-requires Inv-loop μ-loop Inv-walk μ-walk
-hits-at-requires c κs = search needs
+found-at-requires : tie.Need-found-at-requires Inv-loop μ-loop Inv-walk μ-walk
+found-at-requires c κs = search needs
 
 work-size-requires : tie.Need-work-size-requires Inv-loop μ-loop Inv-walk μ-walk
 work-size-requires c κs = search needs
@@ -363,7 +368,7 @@ walk-holds c =
     let b = c .before .before in
     let e = entry b in
     let w = lends e in
-    waits-start (e .args .shape) (e .args .counts) (view e) (e .args .ef-search) (first b) (w .limits) (w .nodes) (w .some) (below e) (e .args .work .now) (b .begin .ensures (e .args .numbers .now) (e .args .hashes .now) (e .args .wanted))
+    waits-start (e .args .shape) (e .args .counts) (hit e) (view e) (e .args .ef-search) (first b) (w .limits) (w .nodes) (w .some) (below e) (e .args .work .now) (b .begin .ensures (hit e) (e .args .numbers .now) (e .args .hashes .now) (e .args .wanted))
 
 pop-requires : tie.Need-pop-requires Inv-loop μ-loop Inv-walk μ-walk
 pop-requires c κs =
@@ -401,22 +406,22 @@ mul-add-hits c =
     let l = c .before in
     let p = least (leaf l) in
     let limits = lends (at-leaf l) .limits in
-    omega (arith, hits-start (begun (turn p)), hits-end (begun (turn p)), limits .nodes-high, limits .vectors-high, limits .entries-high, work-room p)
+    omega (arith, found-start (begun (turn p)), found-end (begun (turn p)), limits .nodes-high, limits .vectors-high, limits .entries-high, work-room p)
 
 sub-add-hits : tie.Need-sub-add-hits Inv-loop μ-loop Inv-walk μ-walk
 sub-add-hits c =
     let p = least (leaf (c .before)) in
-    omega (arith, hits-start (begun (turn p)), hits-end (begun (turn p)), work-room p)
+    omega (arith, found-start (begun (turn p)), found-end (begun (turn p)), work-room p)
 
 part-add-hits-start : tie.Need-part-add-hits-start Inv-loop μ-loop Inv-walk μ-walk
 part-add-hits-start c =
     let p = least (leaf (c .before)) in
-    omega (arith, hits-start (begun (turn p)), hits-end (begun (turn p)), work-room p)
+    omega (arith, found-start (begun (turn p)), found-end (begun (turn p)), work-room p)
 
 part-add-hits-end : tie.Need-part-add-hits-end Inv-loop μ-loop Inv-walk μ-walk
 part-add-hits-end c =
     let p = least (leaf (c .before)) in
-    omega (arith, hits-start (begun (turn p)), hits-end (begun (turn p)), work-room p)
+    omega (arith, found-start (begun (turn p)), found-end (begun (turn p)), work-room p)
 
 add-hits-requires : tie.Need-add-hits-requires Inv-loop μ-loop Inv-walk μ-walk
 add-hits-requires c κs =
@@ -425,22 +430,16 @@ add-hits-requires c κs =
     let e = at-leaf l in
     let w = lends e in
     let block = l .shown .given .0 .0 in
-    let found = found-length (e .args .shape) (e .args .counts) (view e) (e .args .ef-search) (first (begun (turn p))) (w .limits) (w .nodes) (w .some) (below e) (opened p .0) (work p) (turn p .walk .waiting - 1) (turn p .walk .hits) (opened p .1 .holds) in (
-      e .pre .0,
+    let found = found-length (e .args .shape) (e .args .counts) (hit e) (view e) (e .args .ef-search) (first (begun (turn p))) (w .limits) (w .nodes) (w .some) (below e) (opened p .0) (work p) (turn p .walk .waiting - 1) (turn p .walk .hits) (opened p .1 .holds) in (
+      e .pre .1 .0,
       (
-        e .pre .1 .0,
-        (
-          e .pre .1 .1 .0,
-          subst (λ (heap : List ℕ). AddHits (e .args .counts) (e .args .numbers .now) heap (turn p .walk .hits) (e .args .wanted) (block .start) (block .count)) (sym (lent-hits p))
-              (record {
-                block = list-room l;
-                hits = record {
-                  few = omega (arith, opened p .1 .few, found, most e);
-                  room = hits-room (e .args .shape) (e .args .counts) (e .args .wanted) (work p) (e .pre .1 .0 .vectors) (e .pre .1 .0 .entries) (work-room p);
-                  queue = opened p .1 .holds .hit-queue;
-                };
-              }),
-        ),
+        e .pre .1 .1 .0,
+        subst (λ (found : List ℕ). AddHits (e .args .numbers .now) found (turn p .walk .hits) (mostOf (e .args .counts) (e .args .wanted)) (block .start) (block .count)) (sym (lent-found p))
+            (record {
+              block = list-room l;
+              few = omega (arith, opened p .1 .few, found, most e);
+              room = omega (arith, few-hits (e .args .shape) (e .args .counts) (e .args .wanted) (e .pre .1 .0 .vectors) (e .pre .1 .0 .entries), length-found (e .args .shape) (work p) (w .limits) (work-room p));
+            }),
       ),
     )
 
@@ -460,9 +459,9 @@ walk-again c =
     let e = at-leaf (from h) in
     let w = lends e in
     let given = c .before .added .given in
-    subst (λ (now : List ℕ). Waits (e .args .shape) (e .args .counts) (view e) (e .args .ef-search) (first (begun (turn p))) now (turn p .walk .waiting - 1) (given .0 .0) (turn p .walk .opened + 1)) (sym (after-is h))
-    (leaf-hits (e .args .shape) (e .args .counts) (view e) (e .args .ef-search) (first (begun (turn p))) (w .limits) (w .nodes) (w .some) (below e) (node p) (work p) (back h) (turn p .walk .waiting - 1) (turn p .walk .hits) (turn p .walk .opened + 1) (given .0 .0)
-    (test e) (wants e) (hit e) (list (from h)) (omega (arith, few (turn p))) (opened p) (list-is (from h)) (back-length h) (gave h (added.Hits (given .0 .0)) (given .1)))
+    subst (λ (now : List ℕ). Waits (e .args .shape) (e .args .counts) (hit e) (view e) (e .args .ef-search) (first (begun (turn p))) now (turn p .walk .waiting - 1) (given .0 .0) (turn p .walk .opened + 1)) (sym (after-is h))
+    (leaf-hits (e .args .shape) (e .args .counts) (hit e) (view e) (e .args .ef-search) (first (begun (turn p))) (w .limits) (w .nodes) (w .some) (below e) (node p) (work p) (back h) (turn p .walk .waiting - 1) (turn p .walk .hits) (turn p .walk .opened + 1) (given .0 .0)
+    (test e) (wants e) (vector e) (list (from h)) (omega (arith, few (turn p))) (vector-held (e .args .shape) (e .args .counts) (e .args .numbers .now) (e .args .wanted)) (opened p) (list-is (from h)) (back-length h) (gave h (added.Hits (given .0 .0)) (given .1)))
 
 enum-known-shown-2 : tie.Need-enum-known-shown-2 Inv-loop μ-loop Inv-walk μ-walk
 enum-known-shown-2 c = search needs
@@ -476,7 +475,7 @@ loop-holds c =
     let shown = shows (inner i) (look.Inner (i .shown2 .given .0 .0)) (i .shown2 .given .1) in (
       omega arith,
       shown .0,
-      pushes-start (e .args .shape) (e .args .counts) (view e) (e .args .ef-search) (first (begun (turn p))) (w .limits) (w .nodes) (w .some) (below e) (node p) (work p) (turn p .walk .waiting - 1) (turn p .walk .hits) (turn p .walk .opened + 1) (children i)
+      pushes-start (e .args .shape) (e .args .counts) (hit e) (view e) (e .args .ef-search) (first (begun (turn p))) (w .limits) (w .nodes) (w .some) (below e) (node p) (work p) (turn p .walk .waiting - 1) (turn p .walk .hits) (turn p .walk .opened + 1) (children i)
           (opened p) (shown .1 (e .args .floats .now) (e .args .query .now) ∙ children-shown (e .args .shape) (e .args .counts) (e .args .floats .now) (e .args .numbers .now) (e .args .hashes .now) (node p) (children i)),
     )
 
@@ -491,8 +490,8 @@ walk-again-2 c =
     let e = at-inner i in
     let w = lends e in
     let block = i .shown2 .given .0 .0 in
-    waits-from (e .args .shape) (e .args .counts) (view e) (e .args .ef-search) (first (begun (turn p))) (work p) (k .loop .work) (k .loop .waiting) (turn p .walk .hits) (turn p .walk .opened + 1) (opened p .1 .works)
-    (pushes-end (e .args .shape) (e .args .counts) (view e) (e .args .ef-search) (work p) (w .limits) (w .nodes) (w .some) (below e) (node p) (k .loop .work) (k .loop .waiting) (turn p .walk .hits) (turn p .walk .opened + 1)
+    waits-from (e .args .shape) (e .args .counts) (hit e) (view e) (e .args .ef-search) (first (begun (turn p))) (work p) (k .loop .work) (k .loop .waiting) (turn p .walk .hits) (turn p .walk .opened + 1) (opened p .1 .works)
+    (pushes-end (e .args .shape) (e .args .counts) (hit e) (view e) (e .args .ef-search) (work p) (w .limits) (w .nodes) (w .some) (below e) (node p) (k .loop .work) (k .loop .waiting) (turn p .walk .hits) (turn p .walk .opened + 1)
     (subst (Left k) (no-child (e .args .numbers .now) (block .start) (block .count) (k .loop .j) (c .loop-test .left) (k .loop .inv .1)) (k .loop .inv .2)))
 
 add-wide : tie.Need-add-wide Inv-loop μ-loop Inv-walk μ-walk
@@ -574,7 +573,7 @@ loop-again c =
     let key = view-key (e .args .shape) (e .args .counts) (e .args .floats .now) (e .args .numbers .now) (e .args .hashes .now) (e .args .query .now) (e .args .wanted) (number r) _ _ refl (q .before .before .distance-key .ensures) in (
       omega (arith, r .before .before .loop-test .taken),
       k .loop .inv .1,
-      child-pushed (e .args .shape) (e .args .counts) (view e) (e .args .ef-search) (work p) (w .limits) (w .nodes) (w .some) (below e) (node p) (number r) (behind r) (k .loop .work) (k .loop .waiting) (turn p .walk .hits) (turn p .walk .opened + 1) (next r) (fresh a true (is-fresh q)) _
+      child-pushed (e .args .shape) (e .args .counts) (hit e) (view e) (e .args .ef-search) (work p) (w .limits) (w .nodes) (w .some) (below e) (node p) (number r) (behind r) (k .loop .work) (k .loop .waiting) (turn p .walk .hits) (turn p .walk .opened + 1) (next r) (fresh a true (is-fresh q)) _
           (subst (λ (key : ℕ). PushedNode (e .args .shape) (k .loop .work) (k .loop .waiting) (number r) key (q .push-node .last .1 .0)) key (q .push-node .ensures)),
     )
 
@@ -587,7 +586,7 @@ returns c =
     let e = entry (begun t) in
     let w = lends e in
     record {
-      ends = ends-whole (e .args .shape) (e .args .counts) (view e) (e .args .ef-search) (first (begun t)) (w .limits) (w .nodes) (w .some) (below e) (t .walk .work) (t .walk .waiting) (t .walk .hits) (t .walk .opened) (c .if1 .taken) (t .walk .inv);
+      ends = ends-whole (e .args .shape) (e .args .counts) (hit e) (view e) (e .args .ef-search) (first (begun t)) (w .limits) (w .nodes) (w .some) (below e) (t .walk .work) (t .walk .waiting) (t .walk .hits) (t .walk .opened) (c .if1 .taken) (t .walk .inv);
       works = ended-works t;
     }
 
@@ -600,7 +599,7 @@ returns-2 c =
     let e = entry (begun t) in
     let w = lends e in
     record {
-      ends = ends-cut (e .args .shape) (e .args .counts) (view e) (e .args .ef-search) (first (begun t)) (w .limits) (w .nodes) (w .some) (below e) (t .walk .work) (t .walk .waiting) (t .walk .hits) (t .walk .opened) (c .before .if1 .left) (c .if2 .taken) (t .walk .inv);
+      ends = ends-cut (e .args .shape) (e .args .counts) (hit e) (view e) (e .args .ef-search) (first (begun t)) (w .limits) (w .nodes) (w .some) (below e) (t .walk .work) (t .walk .waiting) (t .walk .hits) (t .walk .opened) (c .before .if1 .left) (c .if2 .taken) (t .walk .inv);
       works = ended-works t;
     }
 
@@ -614,8 +613,8 @@ returns-3 c =
     let e = entry (begun (turn p)) in
     let w = lends e in
     record {
-      ends = ends-damaged (e .args .shape) (e .args .counts) (view e) (e .args .ef-search) (first (begun (turn p))) (w .limits) (w .nodes) (w .some) (below e) _
-          (opens-damage (e .args .shape) (e .args .counts) (view e) (e .args .ef-search) (first (begun (turn p))) (w .limits) (w .nodes) (w .some) (below e) (node p) (work p) (turn p .walk .waiting - 1) (turn p .walk .hits) (turn p .walk .opened + 1) (opened p)
+      ends = ends-damaged (e .args .shape) (e .args .counts) (hit e) (view e) (e .args .ef-search) (first (begun (turn p))) (w .limits) (w .nodes) (w .some) (below e) _
+          (opens-damage (e .args .shape) (e .args .counts) (hit e) (view e) (e .args .ef-search) (first (begun (turn p))) (w .limits) (w .nodes) (w .some) (below e) (node p) (work p) (turn p .walk .waiting - 1) (turn p .walk .hits) (turn p .walk .opened + 1) (opened p)
           (shows o look.Damaged (c .enum-told .given .1) (e .args .floats .now) (e .args .query .now)));
       works = opened-works p;
     }
@@ -630,9 +629,9 @@ returns-4 c =
     let e = at-leaf (from h) in
     let w = lends e in
     record {
-      ends = ends-damaged (e .args .shape) (e .args .counts) (view e) (e .args .ef-search) (first (begun (turn p))) (w .limits) (w .nodes) (w .some) (below e) _
-          (leaf-damage (e .args .shape) (e .args .counts) (view e) (e .args .ef-search) (first (begun (turn p))) (w .limits) (w .nodes) (w .some) (below e) (node p) (work p) (turn p .walk .waiting - 1) (turn p .walk .hits) (turn p .walk .opened + 1)
-          (test e) (wants e) (hit e) (list (from h)) (opened p) (list-is (from h)) (gave h added.Damaged (c .enum-told2 .given .1)));
+      ends = ends-damaged (e .args .shape) (e .args .counts) (hit e) (view e) (e .args .ef-search) (first (begun (turn p))) (w .limits) (w .nodes) (w .some) (below e) _
+          (leaf-damage (e .args .shape) (e .args .counts) (hit e) (view e) (e .args .ef-search) (first (begun (turn p))) (w .limits) (w .nodes) (w .some) (below e) (node p) (work p) (turn p .walk .waiting - 1) (turn p .walk .hits) (turn p .walk .opened + 1)
+          (test e) (wants e) (vector e) (list (from h)) (opened p) (list-is (from h)) (gave h added.Damaged (c .enum-told2 .given .1)));
       works = after-works h;
     }
 
@@ -648,8 +647,8 @@ returns-5 c =
     let e = at-inner (parent k) in
     let w = lends e in
     record {
-      ends = ends-damaged (e .args .shape) (e .args .counts) (view e) (e .args .ef-search) (first (begun (turn p))) (w .limits) (w .nodes) (w .some) (below e) _
-          (child-damage (e .args .shape) (e .args .counts) (view e) (e .args .ef-search) (work p) (w .limits) (w .nodes) (w .some) (below e) (node p) (number r) (behind r) (k .loop .work) (k .loop .waiting) (turn p .walk .hits) (turn p .walk .opened + 1) (next r) (fresh a false (not-true _ (c .if3 .taken))));
+      ends = ends-damaged (e .args .shape) (e .args .counts) (hit e) (view e) (e .args .ef-search) (first (begun (turn p))) (w .limits) (w .nodes) (w .some) (below e) _
+          (child-damage (e .args .shape) (e .args .counts) (hit e) (view e) (e .args .ef-search) (work p) (w .limits) (w .nodes) (w .some) (below e) (node p) (number r) (behind r) (k .loop .work) (k .loop .waiting) (turn p .walk .hits) (turn p .walk .opened + 1) (next r) (fresh a false (not-true _ (c .if3 .taken))));
       works = child-works k;
     }
 
@@ -662,7 +661,7 @@ best-first-walk-spec =
     Inv-walk
     μ-walk
     marks-at-requires
-    hits-at-requires
+    found-at-requires
     work-size-requires
     begin-requires
     walk-holds

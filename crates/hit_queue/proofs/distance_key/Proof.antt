@@ -1,53 +1,18 @@
 -- `distance_key` meets its contract. Assumes nothing.
-use Rattle.walk.specs.LentLaws.{lent-is}
 use Rattle.distance.specs.TotalOrder.{keyOf}
-use Rattle.distance.specs.Distance.{distance}
-use mathlib.Core.Path.{refl, ap, _∙_}
-use Prim.Native.Nat.{_*_}
+use mathlib.Core.Path.{ap, _∙_}
 use borrow.Author.Needs.{needs}
 use Rattle.hit_queue.proofs.distance_key.Statement.{statement}
 use Rattle.hit_queue.proofs.distance_key.Tie as tie
 
-mul-start : tie.Need-mul-start
-mul-start c = search needs
-
-add-end : tie.Need-add-end
-add-end c = search needs
-
-mul-cosine-distance-normalized : tie.Need-mul-cosine-distance-normalized
-mul-cosine-distance-normalized c = search needs
-
-sub-cosine-distance-normalized : tie.Need-sub-cosine-distance-normalized
-sub-cosine-distance-normalized c = search needs
-
-part-cosine-distance-normalized-start : tie.Need-part-cosine-distance-normalized-start
-part-cosine-distance-normalized-start c = search needs
-
-part-cosine-distance-normalized-end : tie.Need-part-cosine-distance-normalized-end
-part-cosine-distance-normalized-end c = search needs
-
-cosine-distance-normalized-requires : tie.Need-cosine-distance-normalized-requires
-cosine-distance-normalized-requires c κs = search needs
+distance-to-requires : tie.Need-distance-to-requires
+distance-to-requires c κs = search needs
 
 key-requires : tie.Need-key-requires
 key-requires c κs = search needs
 
 returns : tie.Need-returns
-returns c =
-    let a = c .before .before .before .before .before .args in
-    c .key .ensures
-    ∙ ap keyOf (c .before .cosine-distance-normalized .ensures ∙ ap (distance (a .query .now)) (lent-is (a .floats .now) _ _ (a .i * a .dimension) (a .dimension) refl refl))
+returns c = c .key .ensures ∙ ap keyOf (c .before .distance-to .ensures)
 
 pub distance-key-spec : {M : Type 1} → statement M
-distance-key-spec =
-    tie.close
-    (tie.spec
-    mul-start
-    add-end
-    mul-cosine-distance-normalized
-    sub-cosine-distance-normalized
-    part-cosine-distance-normalized-start
-    part-cosine-distance-normalized-end
-    cosine-distance-normalized-requires
-    key-requires
-    returns)
+distance-key-spec = tie.close (tie.spec distance-to-requires key-requires returns)

@@ -15,29 +15,21 @@ shared-slice-read-wide c = search needs
 wide-requires : tie.Need-wide-requires
 wide-requires c κs = search needs
 
-distance-key-requires : tie.Need-distance-key-requires
-distance-key-requires c κs = search needs
+key-requires : tie.Need-key-requires
+key-requires c κs = search needs
 
-mul-t11 : tie.Need-mul-t11
-mul-t11 c = search needs
+mul-t9 : tie.Need-mul-t9
+mul-t9 c = search needs
 
-add-t13 : tie.Need-add-t13
-add-t13 c = search needs
+add-t11 : tie.Need-add-t11
+add-t11 c = search needs
 
 returns : tie.Need-returns
 returns c =
-    let a = c .before .before .before .before .before .before .args in
-    let number = c .before .wide .ensures .0 in
-    value-is _ ∙ ap₂ (λ key document. key * 2 ^ 64 + (document * 2 ^ 32 + a .i)) (c .distance-key .ensures) number
+    let a = c .before .before .before .before .args in
+    value-is _ ∙ ap₂ (λ key document. key * 2 ^ 64 + (document * 2 ^ 32 + a .vector)) (c .key .ensures) (c .before .wide .ensures .0)
 
 pub hit-spec : {M : Type 1} → statement M
 hit-spec =
     tie.close
-    (tie.spec
-    mul-wide
-    shared-slice-read-wide
-    wide-requires
-    distance-key-requires
-    mul-t11
-    add-t13
-    returns)
+    (tie.spec mul-wide shared-slice-read-wide wide-requires key-requires mul-t9 add-t11 returns)

@@ -1,0 +1,112 @@
+-- `bound_of` meets its contract: what was popped has as many runs as were counted. The measure is what is left of the queue. Assumes nothing.
+use Rattle.best_first_search.proofs.Ranking.{Popping, popping-start, popping-same, popping-other, bounds-enough, bounds-none}
+use native.Mathlib.Omega.{arith}
+use borrow.Author.Needs.{needs}
+use Rattle.best_first_search.proofs.rank.bound_of.Statement.{statement}
+use Rattle.best_first_search.proofs.rank.bound_of.Tie as tie
+
+abbrev Inv-loop : tie.InvT-loop
+Inv-loop heap₀ count k hits₀ left₀ last₀ key₀ heap hits left last key = Popping heap₀ count k heap hits left last key
+
+abbrev μ-loop : tie.MeasureT-loop
+μ-loop heap₀ count k hits₀ left₀ last₀ key₀ heap hits left last key = left
+
+-- the places: entry, a turn of the loop, and the least hit popped
+abbrev Entry : Type 0
+Entry = tie.Start Inv-loop μ-loop
+
+abbrev Turn : Type 0
+Turn = tie.At-loop Inv-loop μ-loop
+
+abbrev Least : Type 0
+Least = tie.After-pop Inv-loop μ-loop
+
+abbrev entry : Turn → Entry
+entry t = t .before .before
+
+abbrev turn : Least → Turn
+turn p = p .before .before .before .before
+
+loop-holds : tie.Need-loop-holds Inv-loop μ-loop
+loop-holds c =
+    let a = c .before .args in
+    popping-start (a .heap .now) (a .count) (a .k) (c .before .pre .queue)
+
+pop-requires : tie.Need-pop-requires Inv-loop μ-loop
+pop-requires c κs =
+    let t = c .before .before .before in
+    let loop = t .loop in
+    record {
+      narrow = omega arith;
+      wide = omega arith;
+      some = omega (arith, c .before .if2 .left);
+      room = omega (arith, loop .inv .few, loop .inv .size, entry t .pre .room);
+      heap = loop .inv .queue;
+    }
+
+sub-left : tie.Need-sub-left Inv-loop μ-loop
+sub-left c = search needs
+
+add-hits : tie.Need-add-hits Inv-loop μ-loop
+add-hits c =
+    let p = c .before .before .before .before in
+    omega (arith, turn p .loop .inv .most, p .before .before .before .if1 .left, entry (turn p) .fits .k)
+
+loop-less : tie.Need-loop-less Inv-loop μ-loop
+loop-less c = search needs
+
+loop-again : tie.Need-loop-again Inv-loop μ-loop
+loop-again c =
+    let p = c .before .before .before .before in
+    let a = entry (turn p) .args in
+    let loop = turn p .loop in
+    popping-other (a .heap .now) (a .count) (a .k) (loop .heap) _ (loop .hits) (loop .left) (loop .last) (loop .key) (p .pop .result) (loop .inv) (p .pop .ensures)
+    (omega (arith, p .before .before .if2 .left)) (omega arith) (c .if3 .taken) (p .before .before .before .if1 .left)
+
+loop-less-2 : tie.Need-loop-less-2 Inv-loop μ-loop
+loop-less-2 c = search needs
+
+loop-again-2 : tie.Need-loop-again-2 Inv-loop μ-loop
+loop-again-2 c =
+    let p = c .before .before .before .before in
+    let a = entry (turn p) .args in
+    let loop = turn p .loop in
+    popping-same (a .heap .now) (a .count) (a .k) (loop .heap) _ (loop .hits) (loop .left) (loop .last) (loop .key) (p .pop .result) (loop .inv) (p .pop .ensures)
+    (omega (arith, p .before .before .if2 .left)) (omega arith) (c .if3 .left)
+
+same-length : tie.Need-same-length Inv-loop μ-loop
+same-length c = c .before .loop .inv .size
+
+returns : tie.Need-returns Inv-loop μ-loop
+returns c =
+    let a = c .before .before .before .args in
+    let loop = c .before .loop in
+    bounds-enough (a .heap .now) (a .count) (a .k) (loop .heap) (loop .hits) (loop .left) (loop .last) (loop .key) (c .if1 .taken) (loop .inv)
+
+same-length-2 : tie.Need-same-length-2 Inv-loop μ-loop
+same-length-2 c = c .before .before .loop .inv .size
+
+returns-2 : tie.Need-returns-2 Inv-loop μ-loop
+returns-2 c =
+    let a = c .before .before .before .before .args in
+    let loop = c .before .before .loop in
+    bounds-none (a .heap .now) (a .count) (a .k) (loop .heap) (loop .hits) (loop .left) (loop .last) (loop .key) (loop .inv)
+
+pub bound-of-spec : {M : Type 1} → statement M
+bound-of-spec =
+    tie.close
+    (tie.spec
+    Inv-loop
+    μ-loop
+    loop-holds
+    pop-requires
+    sub-left
+    add-hits
+    loop-less
+    loop-again
+    loop-less-2
+    loop-again-2
+    same-length
+    returns
+    same-length-2
+    returns-2)

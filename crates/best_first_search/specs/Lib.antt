@@ -1,0 +1,2 @@
+-- The contracts of the ranking of hits.
+pub mod Ranks

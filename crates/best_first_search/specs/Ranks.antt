@@ -1,0 +1,52 @@
+-- The contracts of the ranking: the first k hits of the vectors found, 'sorted, adjacent equal document ids lose the later' (document 01, 'Search').
+use Prim.Native.Nat.{ℕ, _-_, _*_, _^_, _≤_}
+use mathlib.Core.Path.{_≡_}
+use mathlib.Core.Logic.{_⊎_}
+use mathlib.Core.List.{List, map}
+use lib.Ieee.{Float}
+use lib.ListN.{length, take, drop}
+use lib.Seq.{sets}
+use Rattle.lists.specs.Lists.{part, keep}
+use Rattle.order.specs.Sorted.{sort}
+use Rattle.order.specs.Records.{records, Heap}
+use Rattle.walk.specs.Answer.{documentOf, distanceOf, dropRepeats}
+use Rattle.walk.specs.declared.Counts.{Counts}
+use Rattle.hit_queue.specs.Hits.{within, Measure, rankedQueue}
+
+-- the first k of hits
+abbrev pub firstOf : ℕ → List ℕ → List ℕ
+firstOf k hits = take k (dropRepeats (sort hits))
+
+-- a bound within which there are k of the hits, or the highest of all keys
+abbrev pub Enough : ℕ → ℕ → List ℕ → Type 0
+Enough k bound sorted = (bound ≡ 2 ^ 32 - 1) ⊎ (k ≤ length (dropRepeats (keep (within bound) sorted)))
+
+-- `bound_of` gives one for the hits of a queue, and changes nothing behind it
+pub record Bounds (heap : List ℕ) (count k bound : ℕ) (heap′ : List ℕ) : Type 0 where
+  pub enough : Enough k bound (sort (records 3 count heap))
+  pub behind : drop (count * 3) heap′ ≡ drop (count * 3) heap
+  pub size : length heap′ ≡ length heap
+
+-- `sample_bound` gives one for hits, and leaves their numbers
+pub record Sampled (hits : List ℕ) (k bound from found : ℕ) (heap heap′ : List ℕ) : Type 0 where
+  pub enough : Enough k bound (sort hits)
+  pub numbers : part from found heap′ ≡ part from found heap
+  pub size : length heap′ ≡ length heap
+
+-- `rank` leaves a queue whose first k are those of all hits
+pub record Ranked (hits : List ℕ) (k total : ℕ) (heap : List ℕ) : Type 0 where
+  pub room : total * 3 ≤ length heap
+  pub queue : Heap (records 3 total heap)
+  pub first : take k (rankedQueue total heap) ≡ firstOf k hits
+
+-- `first_hits` wants the numbers of vectors as `measure` does, and answer lists of at least k places
+pub record FirstHits (c : Counts) (heap : List ℕ) (from found k : ℕ) (ids : List ℕ) (distances : List Float) : Type 0 where
+  pub numbers : Measure c heap 0 from found
+  pub ids-room : k ≤ length ids
+  pub distances-room : k ≤ length distances
+
+-- and writes the ids and distances of the first k from the front
+pub record Firsts (hits : List ℕ) (k : ℕ) (ids : List ℕ) (distances : List Float) (r : ℕ) (ids′ : List ℕ) (distances′ : List Float) : Type 0 where
+  pub count-is : r ≡ length (firstOf k hits)
+  pub ids-are : ids′ ≡ sets ids 0 (map documentOf (firstOf k hits))
+  pub distances-are : distances′ ≡ sets distances 0 (map distanceOf (firstOf k hits))
