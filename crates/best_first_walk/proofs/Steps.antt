@@ -12,7 +12,7 @@ use lib.ListN.{length, getD, take, drop, set, replicate, length-set, length-appe
 use lib.Seq.{drop-drop, take-set-le, getD-drop, getD-set-same, getD-set-other, drop-set-lt, sets, length-sets}
 use Rattle.lists.specs.Lists.{part, isIn}
 use Rattle.lists.specs.Counting.{isIn-nil, isIn-here, isIn-later}
-use Rattle.lists.specs.Parts.{length-part, getD-sets-before, getD-sets-in, take-sets, part-sets-same, lent-part}
+use Rattle.lists.specs.Parts.{length-part, getD-sets-before, getD-sets-in, take-sets, part-sets-same, part-set-before, lent-part}
 use Rattle.lists.specs.Partition.{count, hit, hit-same, count-cons, count-Memᴰ, perm-length, count-perm, count-append}
 use Rattle.order.specs.declared.Record.{Record}
 use Rattle.order.specs.Sorted.{sort, insert}
@@ -32,7 +32,8 @@ use Rattle.walk.specs.declared.Counts.{Counts}
 use Rattle.walk.specs.Walk.{View, waitingNode, nodeNumber, Progress, hits}
 use Rattle.walk.specs.WalkLaws.{openedOne, pushedOne, withHits, Once, numbersOf}
 use Rattle.walk.specs.Search.{lent, Works}
-use Rattle.best_first_walk.specs.Walks.{foundAt, foundPart, Finds, Represents, Begins, PushedNode}
+use Rattle.best_first_walk.specs.Walks.{foundAt, foundPart, Finds, Represents, Begins, insertAll, PushedNodes}
+use Rattle.best_first_walk.specs.WalksLaws.{insertAll-one}
 use Rattle.walk.specs.LentLaws.{works-trans, works-sets}
 
 -- ---- lists
@@ -52,27 +53,17 @@ module _ {A : Type 0} where
   pub part-behind : (n at c : ℕ) (a b : List A) → n ≤ at → drop n a ≡ drop n b → part at c a ≡ part at c b
   part-behind n at c a b h e = ap (take c) (drop-more n at a b h e)
 
--- ---- a node is marked and pushed
+-- ---- a node is marked, and nodes are pushed
 
-pub marked-queue : (s : Shape) (work : List ℕ) (waiting child at : ℕ) → waiting < s .nodes → at ≡ marksAt s → Heap (records 2 waiting work)
-    → Heap (records 2 waiting (set work (at + child) 1))
-marked-queue s work waiting child at room e h =
-    let kept : records 2 waiting (set work (at + child) 1) ≡ records 2 waiting work =
-    records-same 2 waiting (set work (at + child) 1) work (le-refl 2) (take-set-le (waiting * 2) work (at + child) 1 (let t : waiting * 2 ≤ at + child = omega arith in t)) in
-    subst Heap (sym kept) h
-
-pub pushed-node : (s : Shape) (work work′ : List ℕ) (waiting child at : ℕ) (r : Record) → waiting < s .nodes → r .rest ≡ child → at ≡ marksAt s
-    → Pushed 2 waiting (set work (at + child) 1) r work′ → PushedNode s work waiting child (r .key) work′
-pushed-node s work work′ waiting child at r room e is q =
-    let p : Pushed 2 waiting (set work (marksAt s + child) 1) r work′ = subst (λ (n : ℕ). Pushed 2 waiting (set work (n + child) 1) r work′) is q in
-    let kept : records 2 waiting (set work (marksAt s + child) 1) ≡ records 2 waiting work =
-    records-same 2 waiting (set work (marksAt s + child) 1) work (le-refl 2) (take-set-le (waiting * 2) work (marksAt s + child) 1 (let t : waiting * 2 ≤ marksAt s + child = omega arith in t)) in
-    record {
-      queue = p .heap;
-      sorted = p .sorted ∙ ap₂ insert (value-is r ∙ ap (λ (n : ℕ). r .key * 2 ^ 64 + n) e) (ap sort kept);
-      behind = drop-more ((waiting + 1) * 2) (marksAt s) work′ (set work (marksAt s + child) 1) (omega arith) (p .behind);
-      size = p .size ∙ length-set work (marksAt s + child) 1;
-    }
+pub pushed-one : (s : Shape) (work work′ : List ℕ) (waiting child : ℕ) (r : Record) → waiting + 1 ≤ s .nodes → r .rest ≡ child → Pushed 2 waiting work r work′
+    → PushedNodes s work waiting ((r .key * 2 ^ 64 + child) ∷ []) work′
+pushed-one s work work′ waiting child r room e p = record {
+  queue = p .heap;
+  sorted = p .sorted ∙ ap (λ (x : ℕ). insert x (sort (records 2 waiting work))) (value-is r ∙ ap (λ (n : ℕ). r .key * 2 ^ 64 + n) e)
+      ∙ sym (insertAll-one (r .key * 2 ^ 64 + child) (sort (records 2 waiting work)));
+  behind = drop-more ((waiting + 1) * 2) (marksAt s) work′ work (omega arith) (p .behind);
+  size = p .size;
+}
 
 -- the mark of each node after one more
 mark-one : (i c : ℕ) (l : List ℕ) → i ≡ c → _≡_ {A = ℕ} (cond (isIn i (c ∷ l)) 1 0) 1
@@ -87,21 +78,27 @@ finds-same s c hit new work work′ found e f = record {
   are = ap (λ (l : List ℕ). sort (map hit (take found l))) e ∙ f .are;
 }
 
--- A represented progress with a child pushed
-module _ (s : Shape) (c : Counts) (hit : ℕ → ℕ) (view : View) (limits : Limits s) (nodes : c .nodes ≤ s .nodes) where
-  pub represents-pushed : (p : Progress) (work work′ : List ℕ) (waiting found child : ℕ) → child < c .nodes → Represents s c hit p work waiting found
-      → PushedNode s work waiting child (view .key child) work′ → Represents s c hit (pushedOne view child p) work′ (waiting + 1) found
-  represents-pushed p work work′ waiting found child below r q =
-      let found-kept : foundPart s work′ ≡ foundPart s work =
-      part-behind (hitsAt s) (foundAt s) (max (s .vectors) (s .entries) + 1) work′ work (let t : hitsAt s ≤ foundAt s = omega arith in t)
-      (drop-more (marksAt s) (hitsAt s) work′ (set work (marksAt s + child) 1) (omega arith) (q .behind)
-      ∙ drop-set-lt (hitsAt s) work (marksAt s + child) 1 (omega arith)) in
+-- a progress with a child marked, and with other nodes waiting
+abbrev pub markedOne : ℕ → Progress → Progress
+markedOne child p = record { waiting = p .waiting; pushed = child ∷ p .pushed; opened = p .opened; found = p .found }
+
+abbrev pub withWaiting : List ℕ → Progress → Progress
+withWaiting w p = record { waiting = w; pushed = p .pushed; opened = p .opened; found = p .found }
+
+module _ (s : Shape) (c : Counts) (hit : ℕ → ℕ) (nodes : c .nodes ≤ s .nodes) where
+  pub represents-marked : (p : Progress) (work : List ℕ) (waiting found child : ℕ) → child < c .nodes → waiting ≤ s .nodes → Represents s c hit p work waiting found
+      → Represents s c hit (markedOne child p) (set work (marksAt s + child) 1) waiting found
+  represents-marked p work waiting found child below few r =
+      let w : List ℕ = set work (marksAt s + child) 1 in
+      let front : records 2 waiting w ≡ records 2 waiting work =
+      records-same 2 waiting w work (le-refl 2) (take-set-le (waiting * 2) work (marksAt s + child) 1 (let t : waiting * 2 ≤ marksAt s + child = omega arith in t)) in
       record {
-        size = omega (arith, q .size, r .size);
-        queue = q .queue;
-        waits = q .sorted ∙ ap (insert (waitingNode view child)) (r .waits);
-        marks = λ i h. getD-behind (marksAt s) (marksAt s + i) work′ (set work (marksAt s + child) 1) 0 (omega arith) (q .behind) ∙ one i h (same-or-not i child);
-        finds = finds-same s c hit (p .found) work work′ found found-kept (r .finds);
+        size = omega (arith, length-set work (marksAt s + child) 1, r .size);
+        queue = subst Heap (sym front) (r .queue);
+        waits = ap sort front ∙ r .waits;
+        marks = λ i h. one i h (same-or-not i child);
+        finds = finds-same s c hit (p .found) work w found
+            (part-set-before (foundAt s) (max (s .vectors) (s .entries) + 1) work (marksAt s + child) 1 (let t : marksAt s + child < foundAt s = omega arith in t)) (r .finds);
       }
     where
       one : (i : ℕ) → i < c .nodes → (i ≡ child) ⊎ (i ≢ child) → getD (set work (marksAt s + child) 1) (marksAt s + i) 0 ≡ cond (isIn i (child ∷ p .pushed)) 1 0
@@ -111,6 +108,17 @@ module _ (s : Shape) (c : Counts) (hit : ℕ → ℕ) (view : View) (limits : Li
       one i h (inr n) =
           getD-set-other work (marksAt s + child) (marksAt s + i) 1 0 (λ e. n (omega arith)) ∙ r .marks i h
           ∙ ap {B = ℕ} (λ (b : Bool). cond b 1 0) (sym (isIn-later i child (p .pushed) n))
+
+  pub represents-pushed : (p : Progress) (work work′ new : List ℕ) (waiting found total : ℕ) → total ≡ waiting + length new → Represents s c hit p work waiting found
+      → PushedNodes s work waiting new work′ → Represents s c hit (withWaiting (insertAll new (p .waiting)) p) work′ total found
+  represents-pushed p work work′ new waiting found total e r q = record {
+    size = omega (arith, q .size, r .size);
+    queue = subst (λ (n : ℕ). Heap (records 2 n work′)) (sym e) (q .queue);
+    waits = ap (λ (n : ℕ). sort (records 2 n work′)) e ∙ q .sorted ∙ ap (insertAll new) (r .waits);
+    marks = λ i h. getD-behind (marksAt s) (marksAt s + i) work′ work 0 (omega arith) (q .behind) ∙ r .marks i h;
+    finds = finds-same s c hit (p .found) work work′ found
+        (part-behind (marksAt s) (foundAt s) (max (s .vectors) (s .entries) + 1) work′ work (let t : marksAt s ≤ foundAt s = omega arith in t) (q .behind)) (r .finds);
+  }
 
 -- ---- the least node is taken
 
@@ -186,10 +194,15 @@ module _ (s : Shape) (c : Counts) (hit : ℕ → ℕ) (p : Progress) (work ys : 
 
 -- ---- what the work list keeps
 
-pub works-pushed : (s : Shape) (work work′ : List ℕ) (waiting child key : ℕ) → child < s .nodes → PushedNode s work waiting child key work′ → Works s work work′
-works-pushed s work work′ waiting child key below q = record {
-  surplus = drop-more (marksAt s) (workSize s) work′ (set work (marksAt s + child) 1) (omega arith) (q .behind)
-      ∙ drop-set-lt (workSize s) work (marksAt s + child) 1 (omega arith);
+pub works-marked : (s : Shape) (work : List ℕ) (child : ℕ) → child < s .nodes → Works s work (set work (marksAt s + child) 1)
+works-marked s work child below = record {
+  surplus = drop-set-lt (workSize s) work (marksAt s + child) 1 (omega arith);
+  size = length-set work (marksAt s + child) 1;
+}
+
+pub works-pushed : (s : Shape) (work work′ new : List ℕ) (waiting : ℕ) → PushedNodes s work waiting new work′ → Works s work work′
+works-pushed s work work′ new waiting q = record {
+  surplus = drop-more (marksAt s) (workSize s) work′ work (omega arith) (q .behind);
   size = q .size;
 }
 
@@ -217,22 +230,25 @@ cleared s c hit work nodes size =
       finds = record { count = refl; held = allPass-nil (λ x. ltb x (c .vectors)); are = refl };
     }
 
-pub begins : (s : Shape) (c : Counts) (hit : ℕ → ℕ) (view : View) (work work′ : List ℕ) → Limits s → c .nodes ≤ s .nodes → 1 ≤ c .nodes → workSize s ≤ length work
-    → PushedNode s (sets work (marksAt s) (replicate (c .nodes) 0)) 0 0 (view .key 0) work′ → Begins s c hit view work work′
-begins s c hit view work work′ limits nodes some size q =
+pub begins : (s : Shape) (c : Counts) (hit : ℕ → ℕ) (view : View) (work work′ : List ℕ) → c .nodes ≤ s .nodes → 1 ≤ c .nodes → workSize s ≤ length work
+    → PushedNodes s (set (sets work (marksAt s) (replicate (c .nodes) 0)) (marksAt s) 1) 0 (waitingNode view 0 ∷ []) work′ → Begins s c hit view work work′
+begins s c hit view work work′ nodes some size q =
     let w : List ℕ = sets work (marksAt s) (replicate (c .nodes) 0) in
     let n : length {A = ℕ} (replicate (c .nodes) 0) ≡ c .nodes = length-replicate (c .nodes) 0 in
-    let first = represents-pushed s c hit view limits nodes (record { waiting = []; pushed = []; opened = []; found = [] }) w work′ 0 0 0 some (cleared s c hit work nodes size) q in
+    let at : marksAt s + 0 ≡ marksAt s = omega arith in
+    let empty : Progress = record { waiting = []; pushed = []; opened = []; found = [] } in
+    let marked = subst (λ (i : ℕ). Represents s c hit (markedOne 0 empty) (set w i 1) 0 0) at (represents-marked s c hit nodes empty w 0 0 0 some (omega arith) (cleared s c hit work nodes size)) in
+    let first = represents-pushed s c hit nodes (markedOne 0 empty) (set w (marksAt s) 1) work′ (waitingNode view 0 ∷ []) 0 0 1 refl marked q in
     record {
       start = record {
         size = first .size;
         queue = first .queue;
-        waits = first .waits ∙ insert-nil (waitingNode view 0);
+        waits = first .waits ∙ insertAll-one (waitingNode view 0) [] ∙ insert-nil (waitingNode view 0);
         marks = first .marks;
         finds = first .finds;
       };
       works = works-trans s work w work′ (works-sets s work (replicate (c .nodes) 0) (marksAt s) (omega (arith, n)))
-          (works-pushed s w work′ 0 0 (view .key 0) (omega arith) q);
+          (works-trans s w (set w (marksAt s) 1) work′ (subst (λ (i : ℕ). Works s w (set w i 1)) at (works-marked s w 0 (omega arith))) (works-pushed s (set w (marksAt s) 1) work′ (waitingNode view 0 ∷ []) 0 q));
     }
 
 -- the work list once its marks came back cleared

@@ -5,33 +5,33 @@ use native.Mathlib.Omega.{arith}
 use mathlib.Core.Path.{_≡_, refl, sym, ap, ap₂, _∙_, subst}
 use mathlib.Core.Logic.{_⊎_, inl, inr}
 use mathlib.Core.Bool.{Bool, true, false, not, _&&_, cond, false≢true}
-use mathlib.Core.List.{List, [], _∷_, map, List·Memᴰ·cases-cons}
+use mathlib.Core.List.{List, [], _∷_, _++_, map, map-append}
 use lib.Dec.{ltb, eqb}
 use lib.Ieee.{Float}
-use lib.ListN.{length, getD, drop, length-append, length-map, drop-of-length-le}
+use lib.ListN.{length, getD, take, drop, set, length-append, length-map, drop-of-length-le}
 use lib.Arith.{lt-of-le-ne}
-use lib.Seq.{drop-cons, sets}
-use borrow.Author.Tests.{ltb-true, eqb-true, eqb-false}
+use lib.Seq.{take-suc, take-all, drop-cons, sets}
+use borrow.Author.Tests.{lt-ltb, ltb-true, eqb-true, eqb-false}
 use Rattle.lists.specs.Lists.{part, isIn}
 use Rattle.lists.specs.Counting.{which}
 use Rattle.lists.specs.Parts.{getD-part, length-part}
 use Rattle.order.specs.declared.Record.{Record}
-use Rattle.order.specs.Sorted.{sort}
-use Rattle.order.specs.SortedLaws.{either}
+use Rattle.order.specs.Sorted.{sort, insert}
 use Rattle.order.specs.Records.{value, records}
 use Rattle.order.specs.Queue.{Popped}
 use Rattle.store.specs.declared.Shape.{Shape}
 use Rattle.store.specs.Store.{Limits, marksAt}
 use Rattle.walk.specs.declared.Counts.{Counts}
-use Rattle.walk.specs.Walk.{View, Progress, State, damaged, going, walk, walkFrom, Shown, shown, give, pushAll, children, hits, damage, none, whole}
+use Rattle.walk.specs.Walk.{View, waitingNode, Progress, State, damaged, going, walk, walkFrom, Shown, shown, give, pushAll, children, hits, damage, none, whole}
 use Rattle.walk.specs.WalkLaws.{openedOne, pushedOne, withHits, startProgress, Once, ChildrenBelow, once-kept, once-push, once-start, different-cons, different-below, walk-is, walk-suc, walk-zero, step-open, none-stays, damaged-stays, some-waiting, nil-waiting, give-damage, give-children, give-hits, give-over, pushAll-nil, pushAll-fresh, pushAll-again}
 use Rattle.walk.specs.StoreView.{allPass, childrenShown}
 use Rattle.walk.specs.StoreViewLaws.{and-left, and-right, allPass-nil, allPass-cons}
 use Rattle.walk.specs.Search.{lent, Works}
 use Rattle.hit_queue.specs.Hits.{newVectors, Gathered, GatherDamage}
-use Rattle.hit_queue.specs.HitsLaws.{vectors-held}
-use Rattle.best_first_walk.specs.Walks.{foundAt, foundPart, Represents, Begins, PushedNode, WalkEnds}
-use Rattle.best_first_walk.proofs.Steps.{waiting-length, represents-length, popped-waits, represents-opened, represents-pushed, represents-hits, popped-number, least-below, works-popped, works-pushed}
+use Rattle.hit_queue.specs.HitsLaws.{allPass-append, vectors-held}
+use Rattle.best_first_walk.specs.Walks.{foundAt, foundPart, Represents, Begins, insertAll, PushedNodes, WalkEnds}
+use Rattle.best_first_walk.specs.WalksLaws.{allPass-weaken, insertAll-nil, insertAll-one, insertAll-append, length-insertAll}
+use Rattle.best_first_walk.proofs.Steps.{waiting-length, represents-length, popped-waits, represents-opened, represents-marked, represents-pushed, represents-hits, withWaiting, popped-number, least-below, works-popped, works-marked, works-pushed}
 use Rattle.walk.specs.LentLaws.{works-refl, works-trans, works-sets}
 use Rattle.best_first_walk.specs.declared.Walked.the-variants as walked
 
@@ -92,10 +92,22 @@ abbrev pub Opens : Shape → Counts → (ℕ → ℕ) → View → ℕ → List 
 Opens s c hit view ef work₀ node work waiting found opened =
     (p : Progress) × Walking s c hit view ef work₀ p work waiting found opened × (walk view ef ≡ walkFrom view (ef - opened) (give view (shown view node) p))
 
-abbrev pub Pushes : Shape → Counts → (ℕ → ℕ) → View → ℕ → List ℕ → ℕ → List ℕ → List ℕ → ℕ → ℕ → ℕ → Type 0
-Pushes s c hit view ef work₀ node left work waiting found opened =
-    (p : Progress) × Walking s c hit view ef work₀ p work waiting found opened
-    × (walk view ef ≡ walkFrom view (ef - opened) (pushChecked view (childTest c node) left (going p)))
+-- The first j children of a list are marked, but none of them waits: the progress in which they do, the nodes that wait, and what the work list holds
+pub record Marking (s : Shape) (c : Counts) (hit : ℕ → ℕ) (view : View) (ef : ℕ) (work₀ : List ℕ) (p : Progress) (waits l : List ℕ) (j : ℕ) (work : List ℕ)
+    (waiting found opened : ℕ) : Type 0 where
+  pub holds : Represents s c hit (withWaiting waits p) work waiting found
+  pub later : p .waiting ≡ insertAll (map (waitingNode view) (take j l)) waits
+  pub held : allPass (λ x. ltb x (c .nodes)) (take j l) ≡ true
+  pub once : Once (c .nodes) p
+  pub few : length (p .found) ≤ view .most
+  pub nodes : length (p .opened) ≡ opened
+  pub budget : opened ≤ ef
+  pub works : Works s work₀ work
+
+abbrev pub Marks : Shape → Counts → (ℕ → ℕ) → View → ℕ → List ℕ → ℕ → List ℕ → ℕ → List ℕ → ℕ → ℕ → ℕ → Type 0
+Marks s c hit view ef work₀ node l j work waiting found opened =
+    (p : Progress) × (waits : List ℕ) × Marking s c hit view ef work₀ p waits l j work waiting found opened
+    × (walk view ef ≡ walkFrom view (ef - opened) (pushChecked view (childTest c node) (drop j l) (going p)))
 
 -- the same from an earlier work list on
 pub walking-from : (s : Shape) (c : Counts) (hit : ℕ → ℕ) (view : View) (ef : ℕ) (a b : List ℕ) (p : Progress) (work : List ℕ) (waiting found opened : ℕ) → Works s a b
@@ -109,14 +121,8 @@ waits-from s c hit view ef a b work waiting found opened k (p, w, e) = (p, walki
 
 -- the next child of a block
 pub next-child : (numbers : List ℕ) (start count j x : ℕ) → j < count → start + count ≤ length numbers → x ≡ getD numbers (start + j) 0
-    → drop j (part start count numbers) ≡ x ∷ drop (j + 1) (part start count numbers)
-next-child numbers start count j x h room e =
-    let l : List ℕ = part start count numbers in
-    drop-cons l j 0 (subst (λ (n : ℕ). j < n) (sym (length-part start count numbers room)) h)
-    ∙ ap₂ (λ (y : ℕ) (t : List ℕ). y ∷ t) (getD-part start count numbers j 0 h ∙ sym e) (ap (λ (n : ℕ). drop n l) (sym (add-one j)))
-
-pub no-child : (numbers : List ℕ) (start count j : ℕ) → count ≤ j → start + count ≤ length numbers → drop j (part start count numbers) ≡ []
-no-child numbers start count j h room = drop-of-length-le (part start count numbers) (subst (λ (n : ℕ). n ≤ j) (sym (length-part start count numbers room)) h)
+    → (j < length (part start count numbers)) × (getD (part start count numbers) j 0 ≡ x)
+next-child numbers start count j x h room e = (rw (length-part start count numbers room) h, getD-part start count numbers j 0 h ∙ sym e)
 
 -- whether a child is fresh, by a test whose marks begin at a place
 pub fresh-is : (s : Shape) (c : Counts) (work : List ℕ) (node child at : ℕ) (r b : Bool) → at ≡ marksAt s
@@ -232,15 +238,24 @@ module _ (s : Shape) (c : Counts) (hit : ℕ → ℕ) (view : View) (ef : ℕ) (
             (ap (λ (x : Shown). give view x p) sh ∙ ap (λ (b : Bool). give view (cond b (hits new) damage) p) (g .pass) ∙ give-hits view new p room),
       )
 
-  -- An inner node's children are to be pushed
-  pub pushes-start : (node : ℕ) (work : List ℕ) (waiting found opened : ℕ) (l : List ℕ) → Opens s c hit view ef work₀ node work waiting found opened
-      → shown view node ≡ cond (allPass (childTest c node) l) (children l) damage → Pushes s c hit view ef work node l work waiting found opened
-  pushes-start node work waiting found opened l (p, w, e) sh =
-      (p, record { holds = w .holds; once = w .once; few = w .few; nodes = w .nodes; budget = w .budget; works = works-refl s work }, e ∙ ap (walkFrom view (ef - opened)) (ap (λ (x : Shown). give view x p) sh ∙ checked-give view (childTest c node) (allPass (childTest c node) l) l p))
-
-  pub pushes-end : (node : ℕ) (work : List ℕ) (waiting found opened : ℕ) → Pushes s c hit view ef work₀ node [] work waiting found opened
-      → Waits s c hit view ef work₀ work waiting found opened
-  pushes-end node work waiting found opened (p, w, e) = (p, w, e ∙ ap (walkFrom view (ef - opened)) (checked-nil view (childTest c node) (going p)))
+  -- An inner node's children are to be marked
+  pub marks-start : (node : ℕ) (work : List ℕ) (waiting found opened : ℕ) (l : List ℕ) → Opens s c hit view ef work₀ node work waiting found opened
+      → shown view node ≡ cond (allPass (childTest c node) l) (children l) damage → Marks s c hit view ef work node l 0 work waiting found opened
+  marks-start node work waiting found opened l (p, w, e) sh = (
+    p,
+    p .waiting,
+    record {
+      holds = w .holds;
+      later = sym (insertAll-nil (p .waiting));
+      held = allPass-nil (λ x. ltb x (c .nodes));
+      once = w .once;
+      few = w .few;
+      nodes = w .nodes;
+      budget = w .budget;
+      works = works-refl s work;
+    },
+    e ∙ ap (walkFrom view (ef - opened)) (ap (λ (x : Shown). give view x p) sh ∙ checked-give view (childTest c node) (allPass (childTest c node) l) l p),
+  )
 
   -- a mark is set exactly if the node was pushed
   marked : (i : ℕ) (pushed : List ℕ) (mark : ℕ) → mark ≡ cond (isIn i pushed) 1 0 → (b : Bool) → eqb mark 0 ≡ b → isIn i pushed ≡ not b
@@ -255,57 +270,118 @@ module _ (s : Shape) (c : Counts) (hit : ℕ → ℕ) (view : View) (ef : ℕ) (
       go (inl t) = t
       go (inr f) = absurd (eqb-false mark 0 z (e ∙ ap {B = ℕ} (λ (b : Bool). cond b 1 0) f))
 
-  -- A child that is not fresh is damage
-  pub child-damage : (node child : ℕ) (left work : List ℕ) (waiting found opened : ℕ) → Pushes s c hit view ef work₀ node (child ∷ left) work waiting found opened
-      → (childTest c node child && eqb (getD work (marksAt s + child) 0) 0) ≡ false → walk view ef ≡ damaged
-  child-damage node child left work waiting found opened (p, w, e) f = go (which (childTest c node child))
-    where
-      go : (childTest c node child ≡ true) ⊎ (childTest c node child ≡ false) → walk view ef ≡ damaged
-      go (inr t) = damage-ends (ef - opened) (pushChecked view (childTest c node) (child ∷ left) (going p)) (checked-fails view (childTest c node) child left (going p) t) e
-      go (inl t) =
-          let low : child < c .nodes = ltb-true child (c .nodes) (and-right (ltb node child) (ltb child (c .nodes)) t) in
-          let mark : eqb (getD work (marksAt s + child) 0) 0 ≡ false = sym (ap (λ (b : Bool). b && eqb (getD work (marksAt s + child) 0) 0) t) ∙ f in
-          damage-ends (ef - opened) (pushChecked view (childTest c node) (child ∷ left) (going p))
-          (checked-again view (childTest c node) child left p (marked child (p .pushed) (getD work (marksAt s + child) 0) (w .holds .marks child low) false mark)) e
+  -- The next child of the list
+  module _ (node : ℕ) (l : List ℕ) (j child : ℕ) (work : List ℕ) (waiting found opened : ℕ) (k : Marks s c hit view ef work₀ node l j work waiting found opened)
+      (more : (j < length l) × (getD l j 0 ≡ child)) where
+    behind : List ℕ
+    behind = drop (j + 1) l
 
-  module _ (node child : ℕ) (left work : List ℕ) (waiting found opened : ℕ) (k : Pushes s c hit view ef work₀ node (child ∷ left) work waiting found opened)
-      (fresh : (childTest c node child && eqb (getD work (marksAt s + child) 0) 0) ≡ true) where
-    test : childTest c node child ≡ true
-    test = and-left (childTest c node child) (eqb (getD work (marksAt s + child) 0) 0) fresh
+    split : drop j l ≡ child ∷ drop (j + 1) l
+    split = drop-cons l j 0 (more .0) ∙ ap₂ (λ (y : ℕ) (t : List ℕ). y ∷ t) (more .1) (ap (λ (n : ℕ). drop n l) (sym (add-one j)))
 
-    pub child-low : child < c .nodes
-    child-low = ltb-true child (c .nodes) (and-right (ltb node child) (ltb child (c .nodes)) test)
+    due : walk view ef ≡ walkFrom view (ef - opened) (pushChecked view (childTest c node) (child ∷ drop (j + 1) l) (going (k .0)))
+    due = k .3 ∙ ap (λ (t : List ℕ). walkFrom view (ef - opened) (pushChecked view (childTest c node) t (going (k .0)))) split
 
-    unpushed : isIn child (k .0 .pushed) ≡ false
-    unpushed =
-        marked child (k .0 .pushed) (getD work (marksAt s + child) 0) (k .1 .holds .marks child child-low) true
-        (and-right (childTest c node child) (eqb (getD work (marksAt s + child) 0) 0) fresh)
+    -- that is not fresh is damage
+    pub child-damage : (childTest c node child && eqb (getD work (marksAt s + child) 0) 0) ≡ false → walk view ef ≡ damaged
+    child-damage f = go (which (childTest c node child))
+      where
+        go : (childTest c node child ≡ true) ⊎ (childTest c node child ≡ false) → walk view ef ≡ damaged
+        go (inr t) =
+            damage-ends (ef - opened) (pushChecked view (childTest c node) (child ∷ drop (j + 1) l) (going (k .0))) (checked-fails view (childTest c node) child (drop (j + 1) l) (going (k .0)) t) due
+        go (inl t) =
+            let low : child < c .nodes = ltb-true child (c .nodes) (and-right (ltb node child) (ltb child (c .nodes)) t) in
+            let mark : eqb (getD work (marksAt s + child) 0) 0 ≡ false = sym (ap (λ (b : Bool). b && eqb (getD work (marksAt s + child) 0) 0) t) ∙ f in
+            damage-ends (ef - opened) (pushChecked view (childTest c node) (child ∷ drop (j + 1) l) (going (k .0)))
+            (checked-again view (childTest c node) child (drop (j + 1) l) (k .0) (marked child (k .0 .pushed) (getD work (marksAt s + child) 0) (k .2 .holds .marks child low) false mark)) due
 
-    -- so there is room for it
-    pub child-room : waiting < s .nodes
-    child-room =
+    -- that is fresh is marked
+    module _ (fresh : (childTest c node child && eqb (getD work (marksAt s + child) 0) 0) ≡ true) where
+      test : childTest c node child ≡ true
+      test = and-left (childTest c node child) (eqb (getD work (marksAt s + child) 0) 0) fresh
+
+      below-nodes : ltb child (c .nodes) ≡ true
+      below-nodes = and-right (ltb node child) (ltb child (c .nodes)) test
+
+      pub child-low : child < c .nodes
+      child-low = ltb-true child (c .nodes) below-nodes
+
+      unpushed : isIn child (k .0 .pushed) ≡ false
+      unpushed =
+          marked child (k .0 .pushed) (getD work (marksAt s + child) 0) (k .2 .holds .marks child child-low) true
+          (and-right (childTest c node child) (eqb (getD work (marksAt s + child) 0) 0) fresh)
+
+      grown : take (j + 1) l ≡ take j l ++ (child ∷ [])
+      grown = ap (λ (n : ℕ). take n l) (add-one j) ∙ take-suc l j 0 (more .0) ∙ ap (λ (x : ℕ). take j l ++ (x ∷ [])) (more .1)
+
+      pub child-marked : waiting ≤ s .nodes → Marks s c hit view ef work₀ node l (j + 1) (set work (marksAt s + child) 1) waiting found opened
+      child-marked few =
+          let p = k .0 in
+          let w = k .2 in
+          let nodes′ : List ℕ = map (waitingNode view) (take j l) in (
+            pushedOne view child p,
+            k .1,
+            record {
+              holds = represents-marked s c hit within (withWaiting (k .1) p) work waiting found child child-low few (w .holds);
+              later = ap (insert (waitingNode view child)) (w .later)
+                  ∙ sym (ap (λ (t : List ℕ). insertAll (map (waitingNode view) t) (k .1)) grown ∙ ap (λ (t : List ℕ). insertAll t (k .1)) (map-append (waitingNode view) (take j l) (child ∷ []))
+                  ∙ insertAll-append nodes′ (waitingNode view child ∷ []) (k .1) ∙ insertAll-one (waitingNode view child) (insertAll nodes′ (k .1)));
+              held = ap (allPass (λ x. ltb x (c .nodes))) grown ∙ allPass-append (λ x. ltb x (c .nodes)) (take j l) (child ∷ [])
+                  ∙ ap₂ _&&_ (w .held) (allPass-cons (λ x. ltb x (c .nodes)) child [] ∙ ap₂ _&&_ below-nodes (allPass-nil (λ x. ltb x (c .nodes))));
+              once = once-push view (c .nodes) fits p child child-low unpushed (w .once);
+              few = w .few;
+              nodes = w .nodes;
+              budget = w .budget;
+              works = works-trans s work₀ work (set work (marksAt s + child) 1) (w .works) (works-marked s work child (omega (arith, child-low, within)));
+            },
+            due ∙ ap (walkFrom view (ef - opened)) (checked-fresh view (childTest c node) child (drop (j + 1) l) p test unpushed),
+          )
+
+  -- All children of a list are marked
+  module _ (node : ℕ) (l : List ℕ) (j : ℕ) (work : List ℕ) (waiting found opened : ℕ) (k : Marks s c hit view ef work₀ node l j work waiting found opened) (all : length l ≤ j) where
+    whole-list : take j l ≡ l
+    whole-list = take-all j l all
+
+    -- there is room for them
+    pub children-room : waiting + length l ≤ s .nodes
+    children-room =
         let p = k .0 in
-        let o = k .1 .once in
-        let all : length (child ∷ p .pushed) ≤ c .nodes = different-below (c .nodes) (child ∷ p .pushed) (different-cons child (p .pushed) unpushed (o .different))
-        (λ x m. either (List·Memᴰ·cases-cons m) (λ q. subst (λ (y : ℕ). y < c .nodes) (sym q) child-low) (λ j. o .below x j)) in
-        omega (arith, represents-length s c hit p work waiting found (k .1 .holds), waiting-length p (c .nodes) o, all, within)
+        let m = k .2 in
+        omega (
+          arith,
+          represents-length s c hit (withWaiting (k .1) p) work waiting found (m .holds),
+          ap length (m .later),
+          length-insertAll (map (waitingNode view) (take j l)) (k .1),
+          length-map (take j l) (waitingNode view),
+          ap length whole-list,
+          waiting-length p (c .nodes) (m .once),
+          different-below (c .nodes) (p .pushed) (m .once .different) (m .once .below),
+          within,
+        )
 
-    -- A fresh child is pushed
-    pub child-pushed : (work′ : List ℕ) → PushedNode s work waiting child (view .key child) work′
-        → Pushes s c hit view ef work₀ node left work′ (waiting + 1) found opened
-    child-pushed work′ q =
+    pub children-held : allPass (λ x. ltb x (s .nodes)) l ≡ true
+    children-held = allPass-weaken (λ x. ltb x (c .nodes)) (λ x. ltb x (s .nodes)) l
+        (λ x h. lt-ltb x (s .nodes) (omega (arith, ltb-true x (c .nodes) h, within))) (ap (allPass (λ x. ltb x (c .nodes))) (sym whole-list) ∙ k .2 .held)
+
+    -- and then they wait
+    pub children-pushed : (work′ new : List ℕ) (total : ℕ) → new ≡ map (waitingNode view) l → total ≡ waiting + length l → PushedNodes s work waiting new work′
+        → Waits s c hit view ef work₀ work′ total found opened
+    children-pushed work′ new total is n q =
         let p = k .0 in
-        let w = k .1 in (
-          pushedOne view child p,
+        let m = k .2 in
+        let r = represents-pushed s c hit within (withWaiting (k .1) p) work work′ new waiting found total (omega (arith, n, ap length is, length-map l (waitingNode view))) (m .holds) q in
+        let waits : p .waiting ≡ insertAll new (k .1) = m .later ∙ ap (λ (t : List ℕ). insertAll (map (waitingNode view) t) (k .1)) whole-list ∙ ap (λ (t : List ℕ). insertAll t (k .1)) (sym is) in (
+          p,
           record {
-            holds = represents-pushed s c hit view limits within p work work′ waiting found child child-low (w .holds) q;
-            once = once-push view (c .nodes) fits p child child-low unpushed (w .once);
-            few = w .few;
-            nodes = w .nodes;
-            budget = w .budget;
-            works = works-trans s work₀ work work′ (w .works) (works-pushed s work work′ waiting child (view .key child) (omega (arith, child-low, within)) q);
+            holds = record { size = r .size; queue = r .queue; waits = r .waits ∙ sym waits; marks = r .marks; finds = r .finds };
+            once = m .once;
+            few = m .few;
+            nodes = m .nodes;
+            budget = m .budget;
+            works = works-trans s work₀ work work′ (m .works) (works-pushed s work work′ new waiting q);
           },
-          k .2 ∙ ap (walkFrom view (ef - opened)) (checked-fresh view (childTest c node) child left p test unpushed),
+          k .3 ∙ ap (λ (t : List ℕ). walkFrom view (ef - opened) (pushChecked view (childTest c node) t (going p))) (drop-of-length-le l all)
+              ∙ ap (walkFrom view (ef - opened)) (checked-nil view (childTest c node) (going p)),
         )
 
   -- ---- how the walk ends

@@ -2,15 +2,17 @@
 use Prim.Native.Nat.{ℕ, _+_, _-_, _*_, _^_, _≤_, _<_, max}
 use mathlib.Core.Path.{_≡_}
 use mathlib.Core.Bool.{Bool, true, cond}
-use mathlib.Core.List.{List, map}
+use mathlib.Core.List.{List, [], _∷_, map}
 use lib.Dec.{ltb}
 use lib.Ieee.{Float}
-use lib.ListN.{length, getD, take, drop, set}
+use lib.ListN.{length, getD, take, drop}
 use Rattle.lists.specs.Lists.{part, isIn}
 use Rattle.order.specs.Sorted.{sort, insert}
 use Rattle.order.specs.Records.{records, Heap}
 use Rattle.store.specs.declared.Shape.{Shape}
-use Rattle.store.specs.Store.{Limits, workSize, marksAt, hitsAt}
+use Rattle.store.specs.Store.{Limits, vectorAt, workSize, marksAt, hitsAt}
+use Rattle.distance.specs.Distance.{distance}
+use Rattle.distance.specs.TotalOrder.{keyOf}
 use Rattle.walk.specs.declared.Wanted.{Wanted}
 use Rattle.walk.specs.declared.Counts.{Counts}
 use Rattle.best_first_walk.specs.declared.Walked.{Walked}
@@ -54,19 +56,36 @@ pub record Begins (s : Shape) (c : Counts) (hit : ℕ → ℕ) (view : View) (wo
   pub start : Represents s c hit (startProgress view) work′ 1 0
   pub works : Works s work work′
 
--- `push_node` wants room in the queue before the marks
-pub record PushNode (s : Shape) (work : List ℕ) (waiting child : ℕ) : Type 0 where
+-- nodes as they wait, by their numbers: the key of the distance from the query before the number
+abbrev pub nodeFor : Shape → List Float → List Float → ℕ → ℕ
+nodeFor s floats query i = keyOf (distance query (vectorAt (s .dimension) floats (s .vectors + i))) * 2 ^ 64 + i
+
+abbrev pub nodesOf : Shape → List Float → List Float → List ℕ → List ℕ
+nodesOf s floats query l = map (nodeFor s floats query) l
+
+-- inserted one after the other
+unfoldable pub insertAll : List ℕ → List ℕ → List ℕ
+unfolding insert
+insertAll [] l = l
+insertAll (x ∷ xs) l = insertAll xs (insert x l)
+
+-- to push some nodes there is room in the queue before the marks
+pub record PushNodes (s : Shape) (work : List ℕ) (waiting count : ℕ) : Type 0 where
   pub size : workSize s ≤ length work
   pub limits : Limits s
-  pub below : child < s .nodes
-  pub room : waiting < s .nodes
+  pub room : waiting + count ≤ s .nodes
   pub queue : Heap (records 2 waiting work)
 
--- `push_node` marks a node and puts it in the queue; nothing behind them changes
-pub record PushedNode (s : Shape) (work : List ℕ) (waiting child key : ℕ) (work′ : List ℕ) : Type 0 where
-  pub queue : Heap (records 2 (waiting + 1) work′)
-  pub sorted : sort (records 2 (waiting + 1) work′) ≡ insert (key * 2 ^ 64 + child) (sort (records 2 waiting work))
-  pub behind : drop (marksAt s) work′ ≡ drop (marksAt s) (set work (marksAt s + child) 1)
+-- numbers of nodes stand in a list
+pub record Children (s : Shape) (numbers : List ℕ) (start count : ℕ) : Type 0 where
+  pub inside : start + count ≤ length numbers
+  pub held : allPass (λ x. ltb x (s .nodes)) (part start count numbers) ≡ true
+
+-- nodes were put into the queue; nothing behind it changed
+pub record PushedNodes (s : Shape) (work : List ℕ) (waiting : ℕ) (new work′ : List ℕ) : Type 0 where
+  pub queue : Heap (records 2 (waiting + length new) work′)
+  pub sorted : sort (records 2 (waiting + length new) work′) ≡ insertAll new (sort (records 2 waiting work))
+  pub behind : drop (marksAt s) work′ ≡ drop (marksAt s) work
   pub size : length work′ ≡ length work
 
 -- how a walk ended

@@ -1,9 +1,12 @@
--- The hits' part of the work list has room for every hit, and for one number more than there are hits. Assumes nothing.
+-- The hits' part of the work list has room for every hit, and for one number more than there are hits. Nodes that are pushed one list after the other are
+-- those of both lists. Assumes nothing.
 use Prim.Native.Nat.{ℕ, _+_, _*_, _≤_, _<_, max}
 use native.Mathlib.Omega.{arith}
-use mathlib.Core.Path.{_≡_}
-use mathlib.Core.List.{List}
-use lib.ListN.{length}
+use mathlib.Core.Path.{_≡_, refl, sym, ap, ap₂, _∙_, subst}
+use mathlib.Core.Bool.{Bool, true, _&&_}
+use mathlib.Core.List.{List, [], _∷_, _++_, map}
+use lib.Ieee.{Float}
+use lib.ListN.{length, length-append}
 use Rattle.lists.specs.Parts.{length-part}
 use Rattle.store.specs.declared.Shape.{Shape}
 use Rattle.store.specs.Store.{Limits, hitsAt, workSize}
@@ -11,7 +14,14 @@ use Rattle.walk.specs.declared.Wanted.{Wanted}
 use Rattle.walk.specs.declared.Wanted.the-variants.{Everything, Label}
 use Rattle.walk.specs.declared.Counts.{Counts}
 use Rattle.hit_queue.specs.Hits.{mostOf}
-use Rattle.best_first_walk.specs.Walks.{hitsPart, foundAt, foundPart}
+use Rattle.order.specs.Sorted.{sort, insert}
+use Rattle.order.specs.SortedLaws.{length-insert}
+use Rattle.order.specs.Records.{records, Heap}
+use Rattle.walk.specs.StoreView.{allPass, storeView}
+use Rattle.walk.specs.StoreViewLaws.{and-left, and-right, allPass-nil, allPass-cons}
+use Rattle.walk.specs.Walk.{waitingNode}
+use Rattle.walk.specs.Search.{lent}
+use Rattle.best_first_walk.specs.Walks.{hitsPart, foundAt, foundPart, insertAll, nodesOf, PushedNodes}
 
 pub hits-room : (s : Shape) (c : Counts) (wanted : Wanted) (work : List ℕ) → c .vectors ≤ s .vectors → c .entries ≤ s .entries → workSize s ≤ length work
     → mostOf c wanted * 3 ≤ length (hitsPart s work)
@@ -25,3 +35,58 @@ few-hits s c (Label hash) v e = omega arith
 
 pub length-found : (s : Shape) (work : List ℕ) → Limits s → workSize s ≤ length work → length (foundPart s work) ≡ max (s .vectors) (s .entries) + 1
 length-found s work limits size = length-part (foundAt s) (max (s .vectors) (s .entries) + 1) work (omega (arith, limits .vectors-low))
+
+-- numbers that pass a test pass a weaker one
+pub allPass-weaken : (t u : ℕ → Bool) (l : List ℕ) → ((x : ℕ) → t x ≡ true → u x ≡ true) → allPass t l ≡ true → allPass u l ≡ true
+allPass-weaken t u [] weaker h = allPass-nil u
+allPass-weaken t u (x ∷ xs) weaker h =
+    let both : (t x && allPass t xs) ≡ true = sym (allPass-cons t x xs) ∙ h in
+    allPass-cons u x xs ∙ ap₂ _&&_ (weaker x (and-left (t x) (allPass t xs) both)) (allPass-weaken t u xs weaker (and-right (t x) (allPass t xs) both))
+
+-- ---- nodes that are pushed
+
+pub insertAll-nil : (l : List ℕ) → insertAll [] l ≡ l
+unfolding insertAll
+insertAll-nil l = refl
+
+pub insertAll-one : (x : ℕ) (l : List ℕ) → insertAll (x ∷ []) l ≡ insert x l
+unfolding insertAll
+insertAll-one x l = refl
+
+pub insertAll-append : (xs ys l : List ℕ) → insertAll (xs ++ ys) l ≡ insertAll ys (insertAll xs l)
+unfolding insertAll
+insertAll-append [] ys l = refl
+insertAll-append (x ∷ xs) ys l = insertAll-append xs ys (insert x l)
+
+pub length-insertAll : (xs l : List ℕ) → length (insertAll xs l) ≡ length xs + length l
+unfolding insertAll
+length-insertAll [] l = omega arith
+length-insertAll (x ∷ xs) l = omega (arith, length-insertAll xs (insert x l), length-insert x l)
+
+pub pushed-none : (s : Shape) (work : List ℕ) (waiting : ℕ) → Heap (records 2 waiting work) → PushedNodes s work waiting [] work
+pushed-none s work waiting queue =
+    let same : waiting + 0 ≡ waiting = omega arith in
+    record {
+      queue = subst (λ (n : ℕ). Heap (records 2 n work)) (sym same) queue;
+      sorted = ap (λ (n : ℕ). sort (records 2 n work)) same ∙ sym (insertAll-nil (sort (records 2 waiting work)));
+      behind = refl;
+      size = refl;
+    }
+
+pub pushed-append : (s : Shape) (work work₁ work₂ : List ℕ) (waiting one : ℕ) (xs ys : List ℕ) → one ≡ waiting + length xs → PushedNodes s work waiting xs work₁
+    → PushedNodes s work₁ one ys work₂ → PushedNodes s work waiting (xs ++ ys) work₂
+pushed-append s work work₁ work₂ waiting one xs ys e a b =
+    let all : one + length ys ≡ waiting + length (xs ++ ys) = omega (arith, e, length-append xs ys) in
+    record {
+      queue = subst (λ (n : ℕ). Heap (records 2 n work₂)) all (b .queue);
+      sorted = ap (λ (n : ℕ). sort (records 2 n work₂)) (sym all) ∙ b .sorted
+          ∙ ap (insertAll ys) (ap (λ (n : ℕ). sort (records 2 n work₁)) e ∙ a .sorted) ∙ sym (insertAll-append xs ys (sort (records 2 waiting work)));
+      behind = b .behind ∙ a .behind;
+      size = b .size ∙ a .size;
+    }
+
+-- nodes wait as the store's view has them
+pub nodes-wait : (s : Shape) (c : Counts) (floats : List Float) (numbers hashes : List ℕ) (query : List Float) (wanted : Wanted) (l : List ℕ)
+    → nodesOf s floats query l ≡ map (waitingNode (storeView s c (lent floats numbers hashes) query wanted)) l
+unfolding storeView
+nodes-wait s c floats numbers hashes query wanted l = refl

@@ -1,7 +1,9 @@
 // The best-first walk over a lent store, whatever numbers stand in it (document 01, 'Search').
+use distance::total::key;
 use hit_queue::Added;
 use hit_queue::add_hits;
 use hit_queue::distance_key;
+use hit_queue::distances;
 use order::Record;
 use order::pop;
 use order::push;
@@ -13,12 +15,14 @@ use walk::look::look_at;
 use walk::look::wide;
 ghost use mathlib.Core.Path.{_≡_};
 ghost use mathlib.Core.Bool.{_&&_};
-ghost use Prim.Native.Nat.{_+_, _*_, _<_, _≤_};
+ghost use mathlib.Core.List.{[], _∷_};
+ghost use Prim.Native.Nat.{_+_, _*_, _^_, _<_, _≤_};
 ghost use lib.Dec.{ltb, eqb};
 ghost use lib.ListN.{length, getD, replicate};
+ghost use Rattle.lists.specs.Lists.{part};
 ghost use Rattle.store.specs.Store.{Limits};
 ghost use Rattle.walk.specs.Search.{FloatsLent, NumbersLent, HashesLent, WorkLent};
-ghost use Rattle.best_first_walk.specs.Walks.{foundAt, BeginsAny, PushNode, PushedNode, Walks};
+ghost use Rattle.best_first_walk.specs.Walks.{foundAt, BeginsAny, PushNodes, PushedNodes, Children, nodesOf, Walks};
 
 // How a walk ended: with vectors found, each of them a hit, or at damage. It is whole if no node waited.
 pub enum Walked {
@@ -65,13 +69,12 @@ fn fresh_child(work: &[u32], marks_at: usize, nodes: usize, parent: usize, child
     work[marks_at + child] == 0
 }
 
-// Marks a node as pushed, and puts it with its distance's key into the queue of waiting nodes.
+// Puts a node with its distance's key into the queue of waiting nodes.
 fn push_node(shape: Shape, work: &mut [u32], waiting: usize, child: usize, key: u32)
-    requires { ⌜ PushNode shape (now work) waiting child ⌝ }
-    ensures { λ _. ⌜ PushedNode shape (now (work .entry)) waiting child key (now (work .exit)) ⌝ }
+    requires { ⌜ PushNodes shape (now work) waiting 1 ⌝ }
+    requires { ⌜ child < shape .nodes ⌝ }
+    ensures { λ _. ⌜ PushedNodes shape (now (work .entry)) waiting ((key * 2 ^ 64 + child) ∷ []) (now (work .exit)) ⌝ }
 {
-    let at = shape.marks_at() + child;
-    work[at] = 1;
     push(
         work,
         waiting,
@@ -83,7 +86,7 @@ fn push_node(shape: Shape, work: &mut [u32], waiting: usize, child: usize, key: 
     );
 }
 
-// Begins a walk: no node is marked, and the root is pushed.
+// Begins a walk: the root alone is marked, and it waits.
 fn begin(shape: Shape, counts: Counts, floats: &[f32], work: &mut [u32], query: &[f32])
     requires { ⌜ FloatsLent shape (now floats) ⌝ }
     requires { ⌜ WorkLent shape counts (now work) ⌝ }
@@ -92,8 +95,112 @@ fn begin(shape: Shape, counts: Counts, floats: &[f32], work: &mut [u32], query: 
     let start = shape.marks_at();
     let end = start + counts.nodes;
     clear(&mut work[start..end]);
+    work[start] = 1;
     let key = distance_key(floats, query, shape.dimension, shape.vectors);
     push_node(shape, work, 0, 0, key);
+}
+
+// Puts four nodes into the queue of waiting nodes; their distances are made side by side.
+fn push_four(
+    shape: Shape,
+    floats: &[f32],
+    numbers: &[u32],
+    work: &mut [u32],
+    query: &[f32],
+    waiting: usize,
+    at: usize,
+)
+    requires { ⌜ FloatsLent shape (now floats) ⌝ }
+    requires { ⌜ PushNodes shape (now work) waiting 4 ⌝ }
+    requires { ⌜ Children shape (now numbers) at 4 ⌝ }
+    ensures { λ _. ⌜ PushedNodes shape (now (work .entry)) waiting (nodesOf shape (now (floats .entry)) (now (query .entry)) (part at 4 (now (numbers .entry)))) (now (work .exit)) ⌝ }
+{
+    let a = wide(numbers[at]);
+    let b = wide(numbers[at + 1]);
+    let c = wide(numbers[at + 2]);
+    let d = wide(numbers[at + 3]);
+    let v = shape.vectors;
+    let four = distances(floats, query, shape.dimension, v + a, v + b, v + c, v + d);
+    push_node(shape, work, waiting, a, key(four.a));
+    push_node(shape, work, waiting + 1, b, key(four.b));
+    push_node(shape, work, waiting + 2, c, key(four.c));
+    push_node(shape, work, waiting + 3, d, key(four.d));
+}
+
+// Puts a node into the queue of waiting nodes.
+fn push_one(
+    shape: Shape,
+    floats: &[f32],
+    numbers: &[u32],
+    work: &mut [u32],
+    query: &[f32],
+    waiting: usize,
+    at: usize,
+)
+    requires { ⌜ FloatsLent shape (now floats) ⌝ }
+    requires { ⌜ PushNodes shape (now work) waiting 1 ⌝ }
+    requires { ⌜ Children shape (now numbers) at 1 ⌝ }
+    ensures { λ _. ⌜ PushedNodes shape (now (work .entry)) waiting (nodesOf shape (now (floats .entry)) (now (query .entry)) (part at 1 (now (numbers .entry)))) (now (work .exit)) ⌝ }
+{
+    let child = wide(numbers[at]);
+    let key = distance_key(floats, query, shape.dimension, shape.vectors + child);
+    push_node(shape, work, waiting, child, key);
+}
+
+// Puts nodes into the queue of waiting nodes, one at a time.
+fn push_rest(
+    shape: Shape,
+    floats: &[f32],
+    numbers: &[u32],
+    work: &mut [u32],
+    query: &[f32],
+    waiting: usize,
+    start: usize,
+    count: usize,
+)
+    requires { ⌜ FloatsLent shape (now floats) ⌝ }
+    requires { ⌜ PushNodes shape (now work) waiting count ⌝ }
+    requires { ⌜ Children shape (now numbers) start count ⌝ }
+    ensures { λ _. ⌜ PushedNodes shape (now (work .entry)) waiting (nodesOf shape (now (floats .entry)) (now (query .entry)) (part start count (now (numbers .entry)))) (now (work .exit)) ⌝ }
+{
+    let mut j = 0;
+    while j < count {
+        push_one(shape, floats, numbers, work, query, waiting + j, start + j);
+        j += 1;
+    }
+}
+
+// Puts the children of a node into the queue of waiting nodes, four at a time.
+fn push_children(
+    shape: Shape,
+    floats: &[f32],
+    numbers: &[u32],
+    work: &mut [u32],
+    query: &[f32],
+    waiting: usize,
+    start: usize,
+    count: usize,
+)
+    requires { ⌜ FloatsLent shape (now floats) ⌝ }
+    requires { ⌜ PushNodes shape (now work) waiting count ⌝ }
+    requires { ⌜ Children shape (now numbers) start count ⌝ }
+    ensures { λ _. ⌜ PushedNodes shape (now (work .entry)) waiting (nodesOf shape (now (floats .entry)) (now (query .entry)) (part start count (now (numbers .entry)))) (now (work .exit)) ⌝ }
+{
+    let mut j = 0;
+    while 4 <= count - j {
+        push_four(shape, floats, numbers, work, query, waiting + j, start + j);
+        j += 4;
+    }
+    push_rest(
+        shape,
+        floats,
+        numbers,
+        work,
+        query,
+        waiting + j,
+        start + j,
+        count - j,
+    );
 }
 
 // The walk: the least waiting node is taken and opened, until none waits, or `ef_search` nodes are opened, or the store is damaged.
@@ -181,11 +288,12 @@ pub fn best_first_walk(
                         end = Walked::Damaged;
                         break 'walk;
                     }
-                    let key = distance_key(floats, query, shape.dimension, shape.vectors + child);
-                    push_node(shape, work, waiting, child, key);
-                    waiting += 1;
+                    let at = marks_at + child;
+                    work[at] = 1;
                     j += 1;
                 }
+                push_children(shape, floats, numbers, work, query, waiting, start, count);
+                waiting += count;
             }
         }
     }

@@ -1,4 +1,4 @@
--- Gathering the vectors of a leaf's list: what holds once the first j of its numbers were looked at. Assumes nothing.
+-- Gathering the vectors of a leaf's list: one list after another, and what holds once the first j of its numbers were looked at. Assumes nothing.
 use Prim.Native.Nat.{ℕ, suc, _+_, _≤_, _<_}
 use native.Mathlib.Numerals.{add-one}
 use native.Mathlib.Omega.{arith}
@@ -20,17 +20,18 @@ use Rattle.store.specs.Store.{ownersAt}
 use Rattle.walk.specs.declared.Wanted.the-variants.{Everything, Label}
 use Rattle.walk.specs.declared.Counts.{Counts}
 use Rattle.hit_queue.specs.declared.Added.{Added}
-use Rattle.hit_queue.specs.Hits.{passes, has, newVectors, Gathered, GatherDamage, AddedVectors, AddedEntries, AddedHits}
+use Rattle.hit_queue.specs.declared.Added.the-variants as added
+use Rattle.hit_queue.specs.Hits.{passes, has, newVectors, Gathered, GatherDamage, Gathers, AddedVectors, AddedEntries, AddedHits}
 use Rattle.hit_queue.specs.HitsLaws.{allPass-append}
 
-allPass-one : (t : ℕ → Bool) (x : ℕ) (b : Bool) → t x ≡ b → allPass t (x ∷ []) ≡ b
+pub allPass-one : (t : ℕ → Bool) (x : ℕ) (b : Bool) → t x ≡ b → allPass t (x ∷ []) ≡ b
 allPass-one t x b e = allPass-cons t x [] ∙ ap₂ _&&_ e (allPass-nil t) ∙ go b
   where
     go : (b : Bool) → (b && true) ≡ b
     go true = refl
     go false = refl
 
-and-false : (a : Bool) → (a && false) ≡ false
+pub and-false : (a : Bool) → (a && false) ≡ false
 and-false true = refl
 and-false false = refl
 
@@ -67,6 +68,62 @@ module _ (wants : ℕ → Bool) (vector : ℕ → ℕ) where
           ap (λ (k : ℕ). take k (set found total v)) same ∙ take-set-le total found total v (let z : total ≤ total = omega arith in z)
           ∙ sym (append-nil (take total found)) ∙ ap (λ (l : List ℕ). take total found ++ l) (sym (new-other x f))
 
+-- ---- one list after another
+
+module _ (test wants : ℕ → Bool) (vector : ℕ → ℕ) (most : ℕ) where
+  -- no number, and one that passes
+  pub gathered-none : (before : ℕ) (found : List ℕ) → before ≤ most → Gathered test wants vector most [] before found before found
+  gathered-none before found few =
+      let nothing : newVectors wants vector [] ≡ [] = ap (map vector) (keep-nil wants) in
+      record {
+        pass = allPass-nil test;
+        count = omega (arith, ap length nothing);
+        few = few;
+        vectors = sym (append-nil (take before found)) ∙ ap (λ (n : List ℕ). take before found ++ n) (sym nothing);
+      }
+
+  pub gathered-one : (x v total total′ : ℕ) (found found′ : List ℕ) → total < length found → test x ≡ true → v ≡ vector x → total′ ≡ total + cond (wants x) 1 0 → total′ ≤ most
+      → found′ ≡ set found total v → Gathered test wants vector most (x ∷ []) total found total′ found′
+  gathered-one x v total total′ found found′ room t e n few is = record {
+    pass = allPass-one test x true t;
+    count = omega (arith, n, new-count wants vector x);
+    few = few;
+    vectors = ap (take total′) is ∙ new-written wants vector x total total′ v found room e n;
+  }
+
+  module _ (xs ys : List ℕ) (before : ℕ) where
+    pub gathered-append : (one two : ℕ) (found found₁ found₂ : List ℕ) → Gathered test wants vector most xs before found one found₁
+        → Gathered test wants vector most ys one found₁ two found₂ → Gathered test wants vector most (xs ++ ys) before found two found₂
+    gathered-append one two found found₁ found₂ a b =
+        let old : List ℕ = newVectors wants vector xs in
+        let new : List ℕ = newVectors wants vector ys in
+        let all : newVectors wants vector (xs ++ ys) ≡ old ++ new = new-append wants vector xs ys in
+        record {
+          pass = allPass-append test xs ys ∙ ap₂ _&&_ (a .pass) (b .pass);
+          count = omega (arith, a .count, b .count, ap length all, length-append old new);
+          few = b .few;
+          vectors = b .vectors ∙ ap (λ (p : List ℕ). p ++ new) (a .vectors) ∙ append-assoc (take before found) old new
+              ∙ ap (λ (p : List ℕ). take before found ++ p) (sym all);
+        }
+
+    -- damage in the first, and behind it
+    pub damage-append : GatherDamage test wants vector most xs before → GatherDamage test wants vector most (xs ++ ys) before
+    damage-append (inl f) = inl (allPass-append test xs ys ∙ ap (λ (b : Bool). b && allPass test ys) f)
+    damage-append (inr over) =
+        inr (omega (arith, over, ap length (new-append wants vector xs ys), length-append (newVectors wants vector xs) (newVectors wants vector ys)))
+
+    pub damage-behind : (one : ℕ) (found found₁ : List ℕ) → Gathered test wants vector most xs before found one found₁
+        → GatherDamage test wants vector most ys one → GatherDamage test wants vector most (xs ++ ys) before
+    damage-behind one found found₁ a (inl f) = inl (allPass-append test xs ys ∙ ap (λ (b : Bool). allPass test xs && b) f ∙ and-false (allPass test xs))
+    damage-behind one found found₁ a (inr over) =
+        inr (omega (arith, over, a .count, ap length (new-append wants vector xs ys), length-append (newVectors wants vector xs) (newVectors wants vector ys)))
+
+    -- whatever came of the second
+    pub gathers-append : (one : ℕ) (found found₁ found₂ : List ℕ) (r : Added) → Gathered test wants vector most xs before found one found₁
+        → Gathers test wants vector most ys one found₁ r found₂ → Gathers test wants vector most (xs ++ ys) before found r found₂
+    gathers-append one found found₁ found₂ added.Damaged a b = damage-behind one found found₁ a b
+    gathers-append one found found₁ found₂ (added.Hits two) a b = gathered-append one two found found₁ found₂ a b
+
 -- ---- after the first j
 
 pub record Gathering (test wants : ℕ → Bool) (vector : ℕ → ℕ) (most : ℕ) (l : List ℕ) (before : ℕ) (found₀ : List ℕ) (j total : ℕ) (found : List ℕ) : Type 0 where
@@ -75,17 +132,7 @@ pub record Gathering (test wants : ℕ → Bool) (vector : ℕ → ℕ) (most : 
 
 module _ (test wants : ℕ → Bool) (vector : ℕ → ℕ) (most : ℕ) (l : List ℕ) (before : ℕ) (found₀ : List ℕ) where
   pub gather-start : before ≤ most → Gathering test wants vector most l before found₀ 0 before found₀
-  gather-start few =
-      let nothing : newVectors wants vector [] ≡ [] = ap (map vector) (keep-nil wants) in
-      record {
-        so-far = record {
-          pass = allPass-nil test;
-          count = omega (arith, ap length nothing);
-          few = few;
-          vectors = sym (append-nil (take before found₀)) ∙ ap (λ (n : List ℕ). take before found₀ ++ n) (sym nothing);
-        };
-        size = refl;
-      }
+  gather-start few = record { so-far = gathered-none test wants vector most before found₀ few; size = refl }
 
   -- the next number and what is behind it
   next : (j : ℕ) → j < length l → take (j + 1) l ≡ take j l ++ (getD l j 0 ∷ [])
@@ -98,44 +145,29 @@ module _ (test wants : ℕ → Bool) (vector : ℕ → ℕ) (most : ℕ) (l : Li
   pub gather-next : (j total total′ x v : ℕ) (found : List ℕ) → Gathering test wants vector most l before found₀ j total found → j < length l
       → most < length found₀ → getD l j 0 ≡ x → test x ≡ true → v ≡ vector x → total′ ≡ total + cond (wants x) 1 0 → total′ ≤ most
       → Gathering test wants vector most l before found₀ (j + 1) total′ (set found total v)
-  gather-next j total total′ x v found g h room at t e n few =
-      let old : List ℕ = newVectors wants vector (take j l) in
-      let new : List ℕ = newVectors wants vector (x ∷ []) in
-      let one : take (j + 1) l ≡ take j l ++ (x ∷ []) = next j h ∙ ap (λ (y : ℕ). take j l ++ (y ∷ [])) at in
-      let grown : newVectors wants vector (take (j + 1) l) ≡ old ++ new = ap (newVectors wants vector) one ∙ new-append wants vector (take j l) (x ∷ []) in
-      record {
-        so-far = record {
-          pass = ap (allPass test) one ∙ allPass-append test (take j l) (x ∷ []) ∙ ap₂ _&&_ (g .so-far .pass) (allPass-one test x true t);
-          count = omega (arith, g .so-far .count, n, new-count wants vector x, ap length grown, length-append old new);
-          few = few;
-          vectors = new-written wants vector x total total′ v found (omega (arith, g .so-far .few, room, g .size)) e n
-              ∙ ap (λ (p : List ℕ). p ++ new) (g .so-far .vectors) ∙ append-assoc (take before found₀) old new
-              ∙ ap (λ (p : List ℕ). take before found₀ ++ p) (sym grown);
-        };
-        size = length-set found total v ∙ g .size;
-      }
+  gather-next j total total′ x v found g h room at t e n few = record {
+    so-far = subst (λ (k : List ℕ). Gathered test wants vector most k before found₀ total′ (set found total v))
+        (sym (next j h ∙ ap (λ (y : ℕ). take j l ++ (y ∷ [])) at))
+        (gathered-append test wants vector most (take j l) (x ∷ []) before total total′ found₀ found (set found total v) (g .so-far)
+        (gathered-one test wants vector most x v total total′ found (set found total v) (omega (arith, g .so-far .few, room, g .size)) t e n few refl));
+    size = length-set found total v ∙ g .size;
+  }
 
   -- damage: the next number does not pass, or it is one hit too many
+  next-damaged : (j total x : ℕ) (found : List ℕ) → Gathering test wants vector most l before found₀ j total found → j < length l → getD l j 0 ≡ x
+      → GatherDamage test wants vector most (x ∷ []) total → GatherDamage test wants vector most l before
+  next-damaged j total x found g h at d =
+      subst (λ (k : List ℕ). GatherDamage test wants vector most k before) (sym (split j h ∙ ap (λ (y : ℕ). take j l ++ (y ∷ drop (suc j) l)) at))
+      (damage-behind test wants vector most (take j l) (x ∷ drop (suc j) l) before total found₀ found (g .so-far)
+      (damage-append test wants vector most (x ∷ []) (drop (suc j) l) total d))
+
   pub gather-fails : (j total x : ℕ) (found : List ℕ) → Gathering test wants vector most l before found₀ j total found → j < length l → getD l j 0 ≡ x
       → test x ≡ false → GatherDamage test wants vector most l before
-  gather-fails j total x found g h at f =
-      inl
-      (ap (allPass test) (split j h) ∙ allPass-append test (take j l) (getD l j 0 ∷ drop (suc j) l)
-      ∙ ap (λ (b : Bool). allPass test (take j l) && b)
-      (allPass-append test (getD l j 0 ∷ []) (drop (suc j) l) ∙ ap (λ (b : Bool). b && allPass test (drop (suc j) l)) (allPass-one test (getD l j 0) false (ap test at ∙ f)))
-      ∙ and-false (allPass test (take j l)))
+  gather-fails j total x found g h at f = next-damaged j total x found g h at (inl (allPass-one test x false f))
 
   pub gather-over : (j total x : ℕ) (found : List ℕ) → Gathering test wants vector most l before found₀ j total found → j < length l → getD l j 0 ≡ x
       → most < total + cond (wants x) 1 0 → GatherDamage test wants vector most l before
-  gather-over j total x found g h at over =
-      let old : List ℕ = newVectors wants vector (take j l) in
-      let new : List ℕ = newVectors wants vector (getD l j 0 ∷ []) in
-      let later : List ℕ = newVectors wants vector (drop (suc j) l) in
-      let all : newVectors wants vector l ≡ old ++ (new ++ later) =
-      ap (newVectors wants vector) (split j h) ∙ new-append wants vector (take j l) (getD l j 0 ∷ drop (suc j) l)
-      ∙ ap (λ (n : List ℕ). old ++ n) (new-append wants vector (getD l j 0 ∷ []) (drop (suc j) l)) in
-      let one : length new ≡ cond (wants x) 1 0 = ap (λ (y : ℕ). length (newVectors wants vector (y ∷ []))) at ∙ new-count wants vector x in
-      inr (omega (arith, over, one, g .so-far .count, ap length all, length-append old (new ++ later), length-append new later))
+  gather-over j total x found g h at over = next-damaged j total x found g h at (inr (omega (arith, over, new-count wants vector x)))
 
   -- the end of the list
   pub gather-end : (j total : ℕ) (found : List ℕ) → Gathering test wants vector most l before found₀ j total found → length l ≤ j

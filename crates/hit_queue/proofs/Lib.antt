@@ -1,4 +1,5 @@
 -- Laws that only this crate's proofs need.
+pub mod Entries
 pub mod Gather
 pub mod Measuring
 pub mod Taking

@@ -144,18 +144,3 @@ measured-next c h bound before total total′ at count j m heap₀ heap heap′ 
 pub hit-is : (s : Shape) (floats : List Float) (numbers : List ℕ) (query : List Float) (distance′ : Float) (v x r : ℕ) → r ≡ hitOf distance′ (getD numbers v 0) v
     → distance′ ≡ distance query (vectorAt (s .dimension) floats v) → v ≡ x → r ≡ hitFor s floats numbers query x
 hit-is s floats numbers query distance′ v x r e d is = e ∙ ap (λ (f : Float). hitOf f (getD numbers v 0) v) d ∙ ap (hitFor s floats numbers query) is
-
--- one number, and four
-pub one-is : (h : ℕ → ℕ) (heap : List ℕ) (at r : ℕ) → at + 1 ≤ length heap → r ≡ h (getD heap at 0) → r ∷ [] ≡ map h (part at 1 heap)
-one-is h heap at r room e =
-    ap (λ (x : ℕ). x ∷ []) e ∙ ap (map h) (sym (part-cons at 0 heap 0 (omega arith) ∙ ap (λ (l : List ℕ). getD heap at 0 ∷ l) (part-zero (suc at) heap)))
-
-pub four-are : (h : ℕ → ℕ) (heap : List ℕ) (at p q r s : ℕ) → at + 4 ≤ length heap → p ≡ h (getD heap at 0) → q ≡ h (getD heap (at + 1) 0) → r ≡ h (getD heap (at + 2) 0)
-    → s ≡ h (getD heap (at + 3) 0) → p ∷ q ∷ r ∷ s ∷ [] ≡ map h (part at 4 heap)
-four-are h heap at p q r s room a b c d =
-    ap₂ (λ (x : ℕ) (l : List ℕ). x ∷ l) a
-    (ap₂ (λ (x : ℕ) (l : List ℕ). x ∷ l) b (ap₂ (λ (x : ℕ) (l : List ℕ). x ∷ l) c (one-is h heap (at + 3) s (omega arith) d) ∙ next 1 (at + 2) (at + 3) (omega arith) (omega arith)) ∙ next 2 (at + 1) (at + 2) (omega arith) (omega arith))
-    ∙ next 3 at (at + 1) (omega arith) (omega arith)
-  where
-    next : (n i j : ℕ) → i < length heap → j ≡ suc i → h (getD heap i 0) ∷ map h (part j n heap) ≡ map h (part i (suc n) heap)
-    next n i j below e = ap (λ (k : ℕ). h (getD heap i 0) ∷ map h (part k n heap)) e ∙ ap (map h) (sym (part-cons i n heap 0 below))

@@ -15,7 +15,7 @@ use walk::look::wide;
 ghost use mathlib.Core.Path.{_≡_};
 ghost use mathlib.Core.List.{[], _∷_};
 ghost use Prim.Native.Nat.{_+_, _*_, _<_, _≤_};
-ghost use lib.ListN.{length, getD};
+ghost use lib.ListN.{length, getD, set};
 ghost use Rattle.order.specs.Records.{value, records};
 ghost use Rattle.distance.specs.Distance.{distance};
 ghost use Rattle.distance.specs.TotalOrder.{keyOf};
@@ -23,8 +23,8 @@ ghost use Rattle.store.specs.Store.{vectorAt};
 ghost use Rattle.walk.specs.Answer.{hitOf, dropAfter};
 ghost use Rattle.lists.specs.Lists.{part};
 ghost use Rattle.walk.specs.Search.{FloatsLent, NumbersLent, HashesLent};
-ghost use lib.Dec.{eqb};
-ghost use mathlib.Core.Bool.{cond};
+ghost use lib.Dec.{eqb, ltb};
+ghost use mathlib.Core.Bool.{_&&_, cond};
 ghost use Rattle.hit_queue.specs.Hits.{mostOf, hitsOf, AddHits, AddedVectors, AddedEntries, AddedHits, PushWithin, Measure, Measured, TakeHits, Takes, CountRest};
 ghost use Rattle.order.specs.Sorted.{sort};
 
@@ -97,9 +97,78 @@ fn add_vectors(
     end
 }
 
-// Adds the owners of the entries of a leaf's list that have a hash to the vectors found. Every entry is checked, whatever its hash; an owner that is
-// not kept is written over by the next.
-fn add_entries(
+// Whether four numbers are all below a bound.
+fn all_below(bound: usize, a: usize, b: usize, c: usize, d: usize) -> bool
+    ensures { λ r. ⌜ r ≡ (ltb a bound && (ltb b bound && (ltb c bound && ltb d bound))) ⌝ }
+{
+    (a < bound) & ((b < bound) & ((c < bound) & (d < bound)))
+}
+
+// Writes an entry's owner behind the vectors found, and counts it if the entry has a hash. An owner that is not counted is written over by the next.
+fn write_owner(
+    hashes: &[u64],
+    found: &mut [u32],
+    total: usize,
+    hash: u64,
+    entry: usize,
+    owner: u32,
+) -> usize
+    requires { ⌜ entry < length (now hashes) ⌝ }
+    requires { ⌜ total < length (now found) ⌝ }
+    ensures { λ r. ⌜ r ≡ total + cond (eqb (getD (now (hashes .entry)) entry 0) hash) 1 0 ⌝ }
+    ensures { λ r. ⌜ r ≤ total + 1 ⌝ }
+    ensures { λ r. ⌜ now (found .exit) ≡ set (now (found .entry)) total owner ⌝ }
+{
+    found[total] = owner;
+    total + same(hashes[entry], hash)
+}
+
+// Adds the owners of the four entries whose numbers stand at a place, those that have a hash. There is room for four more hits, so that none is one
+// too many.
+fn add_four(
+    counts: Counts,
+    numbers: &[u32],
+    hashes: &[u64],
+    found: &mut [u32],
+    before: usize,
+    hash: u64,
+    owners_at: usize,
+    at: usize,
+) -> Added
+    requires { ⌜ «owners_at» + counts .entries ≤ length (now numbers) ⌝ }
+    requires { ⌜ counts .entries ≤ length (now hashes) ⌝ }
+    requires { ⌜ AddHits (now numbers) (now found) before (counts .entries) at 4 ⌝ }
+    requires { ⌜ before + 4 ≤ counts .entries ⌝ }
+    ensures { λ r. ⌜ AddedEntries counts (now (numbers .entry)) (now (hashes .entry)) hash «owners_at» (part at 4 (now (numbers .entry))) before (now (found .entry)) r (now (found .exit)) ⌝ }
+{
+    let a = wide(numbers[at]);
+    let b = wide(numbers[at + 1]);
+    let c = wide(numbers[at + 2]);
+    let d = wide(numbers[at + 3]);
+    if !all_below(counts.entries, a, b, c, d) {
+        return Added::Damaged;
+    }
+    let a_owner = numbers[owners_at + a];
+    let b_owner = numbers[owners_at + b];
+    let c_owner = numbers[owners_at + c];
+    let d_owner = numbers[owners_at + d];
+    if !all_below(
+        counts.vectors,
+        wide(a_owner),
+        wide(b_owner),
+        wide(c_owner),
+        wide(d_owner),
+    ) {
+        return Added::Damaged;
+    }
+    let one = write_owner(hashes, found, before, hash, a, a_owner);
+    let two = write_owner(hashes, found, one, hash, b, b_owner);
+    let three = write_owner(hashes, found, two, hash, c, c_owner);
+    Added::Hits(write_owner(hashes, found, three, hash, d, d_owner))
+}
+
+// The same for as many entries as there are numbers from a place on, one at a time.
+fn add_rest(
     counts: Counts,
     numbers: &[u32],
     hashes: &[u64],
@@ -140,6 +209,57 @@ fn add_entries(
             break;
         }
         j += 1;
+    }
+    end
+}
+
+// Adds the owners of the entries of a leaf's list that have a hash to the vectors found, four at a time. Every entry is checked, whatever its hash.
+fn add_entries(
+    counts: Counts,
+    numbers: &[u32],
+    hashes: &[u64],
+    found: &mut [u32],
+    before: usize,
+    hash: u64,
+    owners_at: usize,
+    start: usize,
+    count: usize,
+) -> Added
+    requires { ⌜ «owners_at» + counts .entries ≤ length (now numbers) ⌝ }
+    requires { ⌜ counts .entries ≤ length (now hashes) ⌝ }
+    requires { ⌜ AddHits (now numbers) (now found) before (counts .entries) start count ⌝ }
+    ensures { λ r. ⌜ AddedEntries counts (now (numbers .entry)) (now (hashes .entry)) hash «owners_at» (part start count (now (numbers .entry))) before (now (found .entry)) r (now (found .exit)) ⌝ }
+{
+    let mut total = before;
+    let mut read = 0;
+    let end: Added;
+    loop {
+        let at = start + read;
+        let left = count - read;
+        if (left < 4) | (counts.entries < total + 4) {
+            end = add_rest(
+                counts,
+                numbers,
+                hashes,
+                found,
+                total,
+                hash,
+                owners_at,
+                at,
+                left,
+            );
+            break;
+        }
+        match add_four(counts, numbers, hashes, found, total, hash, owners_at, at) {
+            Added::Damaged => {
+                end = Added::Damaged;
+                break;
+            }
+            Added::Hits(more) => {
+                total = more;
+                read += 4;
+            }
+        }
     }
     end
 }
@@ -196,7 +316,7 @@ fn hit(numbers: &[u32], vector: usize, distance: f32) -> Record
 }
 
 // The distances from the query to four vectors.
-fn distances(
+pub fn distances(
     floats: &[f32],
     query: &[f32],
     dimension: usize,

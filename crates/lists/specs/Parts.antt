@@ -1,13 +1,13 @@
 -- Laws of `part` (reading a run of elements) and of lib.Seq's `sets` (writing one), and what a lent part that comes back is.
 --
 -- In order: a part's length and elements, parts of parts, of `_++_` and after a store; a run of stores, read element by
--- element, before, in and after it, by `take`, `drop` and `part`; two runs; a part that is written back; lent parts.
-use mathlib.Core.Path.{_≡_, refl, sym, ap, _∙_}
+-- element, before, in and after it, by `take`, `drop` and `part`; two runs; a part that is written back; lent parts; one element and four.
+use mathlib.Core.Path.{_≡_, refl, sym, ap, ap₂, _∙_}
 use mathlib.Core.Logic.{_⊎_, inl, inr}
 use Prim.Native.Nat.{ℕ, zero, suc, _+_, _-_, _≤_, _<_}
 use native.Mathlib.Nat.{not-suc-le-zero, le-of-suc-le-suc, add-zero, zero-add, add-suc, sub-zero, zero-sub, suc-sub-suc, le-of-eq}
 use native.Mathlib.Omega.{arith}
-use mathlib.Core.List.{List, [], _∷_, _++_, append-assoc}
+use mathlib.Core.List.{List, [], _∷_, _++_, map, append-assoc}
 use lib.ListN.{length, getD, set, take, drop, length-set, length-drop, take-append-drop}
 use lib.Seq.{sets, sets-eq, slice, length-sets, length-take-le, take-length, take-nil, drop-nil, take-suc, drop-cons, take-append-seam, take-append-le, drop-append-le, drop-append-add, drop-at, getD-set-same, getD-set-other, set-set, set-comm, take-set-le, take-set-lt, drop-set-lt, drop-set-add, getD-take, getD-drop, take-take, drop-drop, take-add, ext-getD}
 use Rattle.lists.specs.Lists.{part}
@@ -48,6 +48,21 @@ module _ {ℓ} {A : Type ℓ} where
   pub part-snoc : (s c : ℕ) (l : List A) (d : A) → s + c < length l → part s (suc c) l ≡ part s c l ++ (getD l (s + c) d ∷ [])
   part-snoc s c l d h =
       take-suc (drop s l) c d (rw length-drop (omega arith)) ∙ ap (λ (x : A). part s c l ++ (x ∷ [])) (getD-drop s l c d)
+
+  -- one element, and four
+  pub part-one : (s : ℕ) (l : List A) (d : A) → s + 1 ≤ length l → part s 1 l ≡ getD l s d ∷ []
+  part-one s l d h = part-cons s 0 l d (omega arith) ∙ ap (λ (t : List A). getD l s d ∷ t) (part-zero (suc s) l)
+
+  pub part-four : (s : ℕ) (l : List A) (d : A) → s + 4 ≤ length l
+      → part s 4 l ≡ getD l s d ∷ getD l (s + 1) d ∷ getD l (s + 2) d ∷ getD l (s + 3) d ∷ []
+  part-four s l d h =
+      more 3 s (s + 1) (omega arith) (omega arith)
+      ∙ ap (λ (t : List A). getD l s d ∷ t) (more 2 (s + 1) (s + 2) (omega arith) (omega arith)
+      ∙ ap (λ (t : List A). getD l (s + 1) d ∷ t) (more 1 (s + 2) (s + 3) (omega arith) (omega arith)
+      ∙ ap (λ (t : List A). getD l (s + 2) d ∷ t) (part-one (s + 3) l d (omega arith))))
+    where
+      more : (n i j : ℕ) → i < length l → j ≡ suc i → part i (suc n) l ≡ getD l i d ∷ part j n l
+      more n i j below e = part-cons i n l d below ∙ ap (λ (k : ℕ). getD l i d ∷ part k n l) (sym e)
 
   -- a part of a part
   pub part-part : (a m s c : ℕ) (l : List A) → s + c ≤ m → part s c (part a m l) ≡ part (a + s) c l
@@ -280,3 +295,15 @@ module _ {ℓ} {A : Type ℓ} where
   pub lent-front : (l : List A) (e : ℕ) (ys : List A) → e ≤ length l → length ys ≡ e → ys ++ drop e l ≡ sets l zero ys
   lent-front l e ys g n =
       sym (sets-eq ys l zero (omega arith) ∙ ap (λ (k : ℕ). ys ++ drop k l) (zero-add (length ys) ∙ n))
+
+-- ---- what a function gives for one element, and for four
+
+module _ {A B : Type 0} (f : A → B) (l : List A) (at : ℕ) (d : A) where
+  pub one-mapped : (x : B) → at + 1 ≤ length l → x ≡ f (getD l at d) → x ∷ [] ≡ map f (part at 1 l)
+  one-mapped x room e = ap (λ (y : B). y ∷ []) e ∙ ap (map f) (sym (part-one at l d room))
+
+  pub four-mapped : (p q r s : B) → at + 4 ≤ length l → p ≡ f (getD l at d) → q ≡ f (getD l (at + 1) d) → r ≡ f (getD l (at + 2) d) → s ≡ f (getD l (at + 3) d)
+      → p ∷ q ∷ r ∷ s ∷ [] ≡ map f (part at 4 l)
+  four-mapped p q r s room a b c e =
+      ap₂ (λ (y : B) (t : List B). y ∷ t) a (ap₂ (λ (y : B) (t : List B). y ∷ t) b (ap₂ (λ (y : B) (t : List B). y ∷ t) c (ap (λ (y : B). y ∷ []) e)))
+      ∙ ap (map f) (sym (part-four at l d room))

@@ -1,18 +1,18 @@
--- `begin` meets its contract: cleared marks, and the root pushed. Assumes nothing.
+-- `begin` meets its contract: cleared marks, the root marked, and the root pushed. Assumes nothing.
 use Rattle.best_first_walk.proofs.Steps.{cleared-is, view-key, begins}
 use Rattle.walk.specs.LentLaws.{vector-within}
 use Rattle.walk.specs.Search.{lent}
-use Rattle.best_first_walk.specs.Walks.{PushedNode}
+use Rattle.best_first_walk.specs.Walks.{PushedNodes}
 use Rattle.walk.specs.StoreView.{storeView}
-use Rattle.store.specs.Store.{marksAt}
+use Rattle.store.specs.Store.{marksAt, workSize}
 use Rattle.order.specs.RecordsLaws.{heap-none}
 use lib.Seq.{sets, length-sets}
-use lib.ListN.{take, drop, replicate}
-use mathlib.Core.List.{_++_}
-use mathlib.Core.Path.{_≡_, refl, sym, subst₂}
+use lib.ListN.{length, take, drop, set, replicate, length-set}
+use mathlib.Core.List.{List, [], _∷_, _++_}
+use mathlib.Core.Path.{_≡_, refl, sym, ap, subst₂, _∙_}
 use native.Mathlib.Omega.{arith}
 use native.Mathlib.Nat.{add-zero}
-use Prim.Native.Nat.{ℕ, _+_, _-_}
+use Prim.Native.Nat.{ℕ, _+_, _-_, _*_, _^_, _≤_}
 use borrow.Author.Needs.{needs}
 use Rattle.best_first_walk.proofs.begin.Statement.{statement}
 use Rattle.best_first_walk.proofs.begin.Tie as tie
@@ -33,6 +33,22 @@ cleared : (d : tie.After-clear)
 cleared d =
     let e = entry d in
     cleared-is (e .args .shape) (e .args .counts) (e .args .work .now) (d .clear .last .0) (start d) (end d) (e .pre .1 .nodes) (e .pre .1 .size) (d .before .before .before .marks-at .ensures) refl (d .clear .ensures)
+
+-- and the root is marked
+abbrev marked : tie.After-clear → List ℕ
+marked d = set (sets (entry d .args .work .now) (marksAt (entry d .args .shape)) (replicate (entry d .args .counts .nodes) 0)) (marksAt (entry d .args .shape)) 1
+
+marked-is : (d : tie.After-clear)
+    → set (take (start d) (entry d .args .work .now) ++ (d .clear .last .0 ++ drop (end d - start d) (drop (start d) (entry d .args .work .now)))) (start d) 1 ≡ marked d
+marked-is d =
+    ap (λ (w : List ℕ). set w (start d) 1) (cleared d)
+    ∙ ap (λ (i : ℕ). set (sets (entry d .args .work .now) (marksAt (entry d .args .shape)) (replicate (entry d .args .counts .nodes) 0)) i 1) (d .before .before .before .marks-at .ensures)
+
+marked-size : (d : tie.After-clear) → length (marked d) ≡ length (entry d .args .work .now)
+marked-size d =
+    let e = entry d in
+    length-set (sets (e .args .work .now) (marksAt (e .args .shape)) (replicate (e .args .counts .nodes) 0)) (marksAt (e .args .shape)) 1
+    ∙ length-sets (e .args .work .now) (marksAt (e .args .shape)) (replicate (e .args .counts .nodes) 0)
 
 marks-at-requires : tie.Need-marks-at-requires
 marks-at-requires c κs = search needs
@@ -55,6 +71,12 @@ part-clear-end c = search needs
 clear-requires : tie.Need-clear-requires
 clear-requires c κs = search needs
 
+mul-work : tie.Need-mul-work
+mul-work c = search needs
+
+slice-write-work : tie.Need-slice-write-work
+slice-write-work c = search needs
+
 distance-key-requires : tie.Need-distance-key-requires
 distance-key-requires c κs =
     let e = entry (c .before .before) in
@@ -63,28 +85,31 @@ distance-key-requires c κs =
 push-node-requires : tie.Need-push-node-requires
 push-node-requires c κs =
     let d = c .before .before .before .before in
-    let e = entry d in
-    record {
-      size = rw (cleared d) (omega (arith, length-sets (e .args .work .now) (marksAt (e .args .shape)) (replicate (e .args .counts .nodes) 0), e .pre .1 .size));
-      limits = e .pre .1 .limits;
-      below = e .pre .1 .limits .nodes-low;
-      room = e .pre .1 .limits .nodes-low;
-      queue = heap-none 2 _;
-    }
+    let e = entry d in (
+      record {
+        size = rw (marked-is d) (omega (arith, marked-size d, e .pre .1 .size));
+        limits = e .pre .1 .limits;
+        room = e .pre .1 .limits .nodes-low;
+        queue = heap-none 2 _;
+      },
+      e .pre .1 .limits .nodes-low,
+    )
 
 same-length : tie.Need-same-length
-same-length c = search needs
+same-length c =
+    let d = c .before .before .before .before .before .before .before in
+    c .before .before .push-node .kept .1 .0 ∙ ap length (marked-is d) ∙ marked-size d
 
 returns : tie.Need-returns
 returns c =
-    let p = c .before .before in
-    let d = p .before .before .before .before .before in
+    let p = c .before .before .push-node in
+    let d = c .before .before .before .before .before .before .before in
     let e = entry d in
     λ hit numbers hashes wanted.
     let view = storeView (e .args .shape) (e .args .counts) (lent (e .args .floats .now) numbers hashes) (e .args .query .now) wanted in
-    let key = view-key (e .args .shape) (e .args .counts) (e .args .floats .now) numbers hashes (e .args .query .now) wanted 0 (e .args .shape .vectors) _ (sym (add-zero (e .args .shape .vectors))) (p .before .before .distance-key .ensures) in
-    begins (e .args .shape) (e .args .counts) hit view (e .args .work .now) _ (e .pre .1 .limits) (e .pre .1 .nodes) (e .pre .1 .some) (e .pre .1 .size)
-    (subst₂ (λ work key. PushedNode (e .args .shape) work 0 0 key (p .push-node .last .1 .0)) (cleared d) key (p .push-node .ensures))
+    let key = view-key (e .args .shape) (e .args .counts) (e .args .floats .now) numbers hashes (e .args .query .now) wanted 0 (e .args .shape .vectors) _ (sym (add-zero (e .args .shape .vectors))) (c .before .before .before .before .distance-key .ensures) in
+    begins (e .args .shape) (e .args .counts) hit view (e .args .work .now) _ (e .pre .1 .nodes) (e .pre .1 .some) (e .pre .1 .size)
+    (subst₂ (λ work key. PushedNodes (e .args .shape) work 0 ((key * 2 ^ 64 + 0) ∷ []) (p .last .1 .0)) (marked-is d) key (p .ensures))
 
 pub begin-spec : {M : Type 1} → statement M
 begin-spec =
@@ -97,6 +122,8 @@ begin-spec =
     part-clear-start
     part-clear-end
     clear-requires
+    mul-work
+    slice-write-work
     distance-key-requires
     push-node-requires
     same-length

@@ -1,16 +1,15 @@
 -- `best_first_walk` meets its contract: both loops keep what `Walking` says, and each way out is one of its ends. The measures are the budget and the
 -- children that are left. Assumes nothing.
-use Rattle.best_first_walk.proofs.Walking.{Waits, Opens, Pushes, childTest, children-shown, waits-from, next-child, no-child, fresh-is, waits-start, few-wait, opens, opens-below, found-length, opens-damage, leaf-damage, leaf-hits, pushes-start, pushes-end, child-damage, child-low, child-room, child-pushed, ends-damaged, ends-whole, ends-cut}
-use Rattle.best_first_walk.proofs.Steps.{view-key}
-use Rattle.best_first_walk.specs.Walks.{foundAt, foundPart, PushedNode}
-use Rattle.best_first_walk.specs.WalksLaws.{few-hits, length-found}
+use Rattle.best_first_walk.proofs.Walking.{Waits, Opens, Marks, childTest, children-shown, waits-from, next-child, fresh-is, waits-start, few-wait, opens, opens-below, found-length, opens-damage, leaf-damage, leaf-hits, marks-start, child-damage, child-low, child-marked, children-room, children-held, children-pushed, ends-damaged, ends-whole, ends-cut}
+use Rattle.best_first_walk.specs.Walks.{foundAt, foundPart, nodesOf, PushedNodes}
+use Rattle.best_first_walk.specs.WalksLaws.{few-hits, length-found, nodes-wait}
 use Rattle.hit_queue.specs.Hits.{AddHits, Gathers, passes, has, vectorOf, newVectors, hitFor, mostOf}
 use Rattle.hit_queue.specs.HitsLaws.{view-most, list-shown, vector-held}
 use Rattle.hit_queue.specs.declared.Added.{Added}
 use Rattle.hit_queue.specs.declared.Added.the-variants as added
 use Rattle.walk.specs.declared.look.Look.{Look}
 use Rattle.walk.specs.declared.look.Look.the-variants as look
-use Rattle.walk.specs.LentLaws.{lent-is, vector-within, works-trans, works-sets}
+use Rattle.walk.specs.LentLaws.{lent-is, works-trans, works-sets}
 use Rattle.walk.specs.Search.{lent, WorkLent, Works, Looks}
 use Rattle.walk.specs.StoreView.{allPass, storeView}
 use Rattle.walk.specs.StoreViewLaws.{store-children-below}
@@ -22,7 +21,7 @@ use Rattle.lists.specs.Parts.{length-part, lent-part}
 use borrow.Author.Needs.{needs}
 use borrow.Author.Tests.{not-true, not-false}
 use lib.Dec.{eqb}
-use lib.ListN.{length, getD, take, drop}
+use lib.ListN.{length, getD, take, drop, set}
 use lib.Seq.{sets}
 use mathlib.Core.Bool.{Bool, true, false, _&&_, cond}
 use mathlib.Core.List.{List, _∷_, _++_, map}
@@ -33,13 +32,13 @@ use Rattle.best_first_walk.proofs.best_first_walk.Statement.{statement}
 use Rattle.best_first_walk.proofs.best_first_walk.Tie as tie
 
 abbrev Inv-loop : tie.InvT-loop
-Inv-loop shape counts ef-search floats numbers hashes work₀ query wanted nodes marks-at found-at found-end waiting₀ opened found node start count j₀ work waiting j =
+Inv-loop shape counts ef-search floats numbers hashes work₀ query wanted nodes marks-at found-at found-end waiting opened found node start count j₀ work j =
     (j ≤ count)
     × (start + count ≤ length numbers)
-    × Pushes shape counts (hitFor shape floats numbers query) (storeView shape counts (lent floats numbers hashes) query wanted) ef-search work₀ node (drop j (part start count numbers)) work waiting found opened
+    × Marks shape counts (hitFor shape floats numbers query) (storeView shape counts (lent floats numbers hashes) query wanted) ef-search work₀ node (part start count numbers) j work waiting found opened
 
 abbrev μ-loop : tie.MeasureT-loop
-μ-loop shape counts ef-search floats numbers hashes work₀ query wanted nodes marks-at found-at found-end waiting₀ opened found node start count j₀ work waiting j = count - j
+μ-loop shape counts ef-search floats numbers hashes work₀ query wanted nodes marks-at found-at found-end waiting opened found node start count j₀ work j = count - j
 
 abbrev Inv-walk : tie.InvT-walk
 Inv-walk shape counts ef-search floats numbers hashes work₀ query wanted nodes marks-at found-at found-end waiting₀ opened₀ found₀ work waiting opened found =
@@ -294,34 +293,29 @@ at-inner i = entry (begun (turn (least (inner i))))
 abbrev children : Inner → List ℕ
 children i = part (i .shown2 .given .0 .0 .start) (i .shown2 .given .0 .0 .count) (at-inner i .args .numbers .now)
 
--- the children that are still to be pushed
-abbrev Left : Child → List ℕ → Type 0
-Left k left =
+-- the children of which the first j are marked
+abbrev Marked : Child → Type 0
+Marked k =
     let i = parent k in
     let p = least (inner i) in
     let e = at-inner i in
-    Pushes (e .args .shape) (e .args .counts) (hit e) (view e) (e .args .ef-search) (work p) (node p) left (k .loop .work) (k .loop .waiting) (turn p .walk .hits) (turn p .walk .opened + 1)
+    Marks (e .args .shape) (e .args .counts) (hit e) (view e) (e .args .ef-search) (work p) (node p) (children i) (k .loop .j) (k .loop .work) (turn p .walk .waiting - 1) (turn p .walk .hits) (turn p .walk .opened + 1)
 
 child-works : (k : Child) → Works (at-inner (parent k) .args .shape) (at-inner (parent k) .args .work .now) (k .loop .work)
 child-works k =
     let p = least (inner (parent k)) in
     let e = at-inner (parent k) in
-    works-trans (e .args .shape) (e .args .work .now) (work p) (k .loop .work) (opened-works p) (k .loop .inv .2 .1 .works)
+    works-trans (e .args .shape) (e .args .work .now) (work p) (k .loop .work) (opened-works p) (k .loop .inv .2 .2 .works)
 
 -- the next of them
 abbrev number : Read → ℕ
 number r = r .wide .result
 
-abbrev behind : Read → List ℕ
-behind r = drop (child r .loop .j + 1) (children (parent (child r)))
-
-next : (r : Read) → Left (child r) (number r ∷ behind r)
+next : (r : Read) → (child r .loop .j < length (children (parent (child r)))) × (getD (children (parent (child r))) (child r .loop .j) 0 ≡ number r)
 next r =
     let k = child r in
     let i = parent k in
-    subst (Left k)
-    (next-child (at-inner i .args .numbers .now) (i .shown2 .given .0 .0 .start) (i .shown2 .given .0 .0 .count) (k .loop .j) (number r) (r .before .before .loop-test .taken) (k .loop .inv .1) (r .wide .ensures .0))
-    (k .loop .inv .2)
+    next-child (at-inner i .args .numbers .now) (i .shown2 .given .0 .0 .start) (i .shown2 .given .0 .0 .count) (k .loop .j) (number r) (r .before .before .loop-test .taken) (k .loop .inv .1) (r .wide .ensures .0)
 
 -- whether it is fresh
 fresh : (a : Asked) (b : Bool) → a .fresh-child .result ≡ b
@@ -339,15 +333,26 @@ low a is =
     let p = least (inner (parent k)) in
     let e = at-inner (parent k) in
     let w = lends e in
-    child-low (e .args .shape) (e .args .counts) (hit e) (view e) (e .args .ef-search) (work p) (w .limits) (w .nodes) (w .some) (below e) (node p) (number (read a)) (behind (read a)) (k .loop .work) (k .loop .waiting) (turn p .walk .hits) (turn p .walk .opened + 1) (next (read a)) (fresh a true is)
+    child-low (e .args .shape) (e .args .counts) (hit e) (view e) (e .args .ef-search) (work p) (w .limits) (w .nodes) (w .some) (below e) (node p) (children (parent k)) (k .loop .j) (number (read a)) (k .loop .work) (turn p .walk .waiting - 1) (turn p .walk .hits) (turn p .walk .opened + 1) (k .loop .inv .2) (next (read a)) (fresh a true is)
 
-room : (a : Asked) → a .fresh-child .result ≡ true → child (read a) .loop .waiting < at-inner (parent (child (read a))) .args .shape .nodes
-room a is =
-    let k = child (read a) in
-    let p = least (inner (parent k)) in
-    let e = at-inner (parent k) in
-    let w = lends e in
-    child-room (e .args .shape) (e .args .counts) (hit e) (view e) (e .args .ef-search) (work p) (w .limits) (w .nodes) (w .some) (below e) (node p) (number (read a)) (behind (read a)) (k .loop .work) (k .loop .waiting) (turn p .walk .hits) (turn p .walk .opened + 1) (next (read a)) (fresh a true is)
+-- all of them are marked
+module _ (k : Child) (left : parent k .shown2 .given .0 .0 .count ≤ k .loop .j) where
+  many : length (children (parent k)) ≡ parent k .shown2 .given .0 .0 .count
+  many = let block = parent k .shown2 .given .0 .0 in length-part (block .start) (block .count) (at-inner (parent k) .args .numbers .now) (k .loop .inv .1)
+
+  all : length (children (parent k)) ≤ k .loop .j
+  all = omega (arith, many, left)
+
+  room : turn (least (inner (parent k))) .walk .waiting - 1 + parent k .shown2 .given .0 .0 .count ≤ at-inner (parent k) .args .shape .nodes
+  room =
+      let p = least (inner (parent k)) in
+      let e = at-inner (parent k) in
+      let w = lends e in
+      omega (
+        arith,
+        many,
+        children-room (e .args .shape) (e .args .counts) (hit e) (view e) (e .args .ef-search) (work p) (w .limits) (w .nodes) (w .some) (below e) (node p) (children (parent k)) (k .loop .j) (k .loop .work) (turn p .walk .waiting - 1) (turn p .walk .hits) (turn p .walk .opened + 1) (k .loop .inv .2) all,
+      )
 
 -- ---- the needs, in the order of the code
 
@@ -475,24 +480,9 @@ loop-holds c =
     let shown = shows (inner i) (look.Inner (i .shown2 .given .0 .0)) (i .shown2 .given .1) in (
       omega arith,
       shown .0,
-      pushes-start (e .args .shape) (e .args .counts) (hit e) (view e) (e .args .ef-search) (first (begun (turn p))) (w .limits) (w .nodes) (w .some) (below e) (node p) (work p) (turn p .walk .waiting - 1) (turn p .walk .hits) (turn p .walk .opened + 1) (children i)
+      marks-start (e .args .shape) (e .args .counts) (hit e) (view e) (e .args .ef-search) (first (begun (turn p))) (w .limits) (w .nodes) (w .some) (below e) (node p) (work p) (turn p .walk .waiting - 1) (turn p .walk .hits) (turn p .walk .opened + 1) (children i)
           (opened p) (shown .1 (e .args .floats .now) (e .args .query .now) ∙ children-shown (e .args .shape) (e .args .counts) (e .args .floats .now) (e .args .numbers .now) (e .args .hashes .now) (node p) (children i)),
     )
-
-walk-less-2 : tie.Need-walk-less-2 Inv-loop μ-loop Inv-walk μ-walk
-walk-less-2 c = search needs
-
-walk-again-2 : tie.Need-walk-again-2 Inv-loop μ-loop Inv-walk μ-walk
-walk-again-2 c =
-    let k = c .before in
-    let i = parent k in
-    let p = least (inner i) in
-    let e = at-inner i in
-    let w = lends e in
-    let block = i .shown2 .given .0 .0 in
-    waits-from (e .args .shape) (e .args .counts) (hit e) (view e) (e .args .ef-search) (first (begun (turn p))) (work p) (k .loop .work) (k .loop .waiting) (turn p .walk .hits) (turn p .walk .opened + 1) (opened p .1 .works)
-    (pushes-end (e .args .shape) (e .args .counts) (hit e) (view e) (e .args .ef-search) (work p) (w .limits) (w .nodes) (w .some) (below e) (node p) (k .loop .work) (k .loop .waiting) (turn p .walk .hits) (turn p .walk .opened + 1)
-    (subst (Left k) (no-child (e .args .numbers .now) (block .start) (block .count) (k .loop .j) (c .loop-test .left) (k .loop .inv .1)) (k .loop .inv .2)))
 
 add-wide : tie.Need-add-wide Inv-loop μ-loop Inv-walk μ-walk
 add-wide c =
@@ -512,48 +502,26 @@ fresh-child-requires : tie.Need-fresh-child-requires Inv-loop μ-loop Inv-walk �
 fresh-child-requires c κs =
     let k = child (c .before) in
     let e = at-inner (parent k) in
-    omega (arith, marks (begun (turn (least (inner (parent k))))), lends e .nodes, k .loop .inv .2 .1 .holds .size)
+    omega (arith, marks (begun (turn (least (inner (parent k))))), lends e .nodes, k .loop .inv .2 .2 .holds .size)
 
-add-distance-key : tie.Need-add-distance-key Inv-loop μ-loop Inv-walk μ-walk
-add-distance-key c =
-    let r = read (c .before .before) in
-    omega (arith, r .wide .ensures .1, lends (at-inner (parent (child r))) .limits .vectors-high)
-
-distance-key-requires : tie.Need-distance-key-requires Inv-loop μ-loop Inv-walk μ-walk
-distance-key-requires c κs =
-    let a = c .before .before in
+add-at : tie.Need-add-at Inv-loop μ-loop Inv-walk μ-walk
+add-at c =
+    let a = c .before in
     let e = at-inner (parent (child (read a))) in
-    vector-within (e .args .shape) (e .args .floats .now) (e .args .shape .vectors + number (read a)) (e .args .shape .vectors + e .args .shape .nodes) (e .pre .0 .limits) (e .pre .0 .size)
-    (omega (arith, low a (not-false _ (c .before .if3 .left)), lends e .nodes)) (omega arith)
+    omega (arith, low a (not-false _ (c .if3 .left)), marks (begun (turn (least (inner (parent (child (read a))))))), lends e .nodes, lends e .limits .nodes-high)
 
-push-node-requires : tie.Need-push-node-requires Inv-loop μ-loop Inv-walk μ-walk
-push-node-requires c κs =
-    let a = c .before .before .before .before in
+mul-work : tie.Need-mul-work Inv-loop μ-loop Inv-walk μ-walk
+mul-work c =
+    let a = c .before in
+    let e = at-inner (parent (child (read a))) in
+    omega (arith, low a (not-false _ (c .if3 .left)), marks (begun (turn (least (inner (parent (child (read a))))))), lends e .nodes, lends e .limits .nodes-high)
+
+slice-write-work : tie.Need-slice-write-work Inv-loop μ-loop Inv-walk μ-walk
+slice-write-work c =
+    let a = c .before in
     let k = child (read a) in
     let e = at-inner (parent k) in
-    let yes : a .fresh-child .result ≡ true = not-false _ (c .before .before .before .if3 .left) in
-    record {
-      size = k .loop .inv .2 .1 .holds .size;
-      limits = lends e .limits;
-      below = omega (arith, low a yes, lends e .nodes);
-      room = room a yes;
-      queue = k .loop .inv .2 .1 .holds .queue;
-    }
-
--- the child is pushed
-abbrev Pushed : Type 0
-Pushed = tie.After-push-node Inv-loop μ-loop Inv-walk μ-walk
-
-abbrev asked : Pushed → Asked
-asked q = q .before .before .before .before .before
-
-is-fresh : (q : Pushed) → asked q .fresh-child .result ≡ true
-is-fresh q = not-false _ (q .before .before .before .before .if3 .left)
-
-add-waiting : tie.Need-add-waiting Inv-loop μ-loop Inv-walk μ-walk
-add-waiting c =
-    let q = c .before .before in
-    omega (arith, room (asked q) (is-fresh q), lends (at-inner (parent (child (read (asked q))))) .limits .nodes-high)
+    omega (arith, low a (not-false _ (c .if3 .left)), marks (begun (turn (least (inner (parent k))))), lends e .nodes, k .loop .inv .2 .2 .holds .size)
 
 add-j : tie.Need-add-j Inv-loop μ-loop Inv-walk μ-walk
 add-j c = search needs
@@ -563,19 +531,60 @@ loop-less c = search needs
 
 loop-again : tie.Need-loop-again Inv-loop μ-loop Inv-walk μ-walk
 loop-again c =
-    let q = c .before .before in
-    let a = asked q in
+    let a = c .before in
     let r = read a in
     let k = child r in
     let p = least (inner (parent k)) in
     let e = at-inner (parent k) in
-    let w = lends e in
-    let key = view-key (e .args .shape) (e .args .counts) (e .args .floats .now) (e .args .numbers .now) (e .args .hashes .now) (e .args .query .now) (e .args .wanted) (number r) _ _ refl (q .before .before .distance-key .ensures) in (
+    let w = lends e in (
       omega (arith, r .before .before .loop-test .taken),
       k .loop .inv .1,
-      child-pushed (e .args .shape) (e .args .counts) (hit e) (view e) (e .args .ef-search) (work p) (w .limits) (w .nodes) (w .some) (below e) (node p) (number r) (behind r) (k .loop .work) (k .loop .waiting) (turn p .walk .hits) (turn p .walk .opened + 1) (next r) (fresh a true (is-fresh q)) _
-          (subst (λ (key : ℕ). PushedNode (e .args .shape) (k .loop .work) (k .loop .waiting) (number r) key (q .push-node .last .1 .0)) key (q .push-node .ensures)),
+      subst (λ (at : ℕ). Marks (e .args .shape) (e .args .counts) (hit e) (view e) (e .args .ef-search) (work p) (node p) (children (parent k)) (k .loop .j + 1) (set (k .loop .work) (at + number r) 1) (turn p .walk .waiting - 1) (turn p .walk .hits) (turn p .walk .opened + 1))
+          (sym (marks (begun (turn p))))
+          (child-marked (e .args .shape) (e .args .counts) (hit e) (view e) (e .args .ef-search) (work p) (w .limits) (w .nodes) (w .some) (below e) (node p) (children (parent k)) (k .loop .j) (number r) (k .loop .work) (turn p .walk .waiting - 1) (turn p .walk .hits) (turn p .walk .opened + 1) (k .loop .inv .2) (next r) (fresh a true (not-false _ (c .if3 .left)))
+          (omega (arith, few (turn p)))),
     )
+
+push-children-requires : tie.Need-push-children-requires Inv-loop μ-loop Inv-walk μ-walk
+push-children-requires c κs =
+    let k = c .before .before in
+    let left = c .before .loop-test .left in
+    let p = least (inner (parent k)) in
+    let e = at-inner (parent k) in
+    let w = lends e in
+    let m = k .loop .inv .2 .2 in (
+      e .pre .0,
+      (
+        record { size = m .holds .size; limits = w .limits; room = room k left; queue = m .holds .queue },
+        record {
+          inside = k .loop .inv .1;
+          held = children-held (e .args .shape) (e .args .counts) (hit e) (view e) (e .args .ef-search) (work p) (w .limits) (w .nodes) (w .some) (below e) (node p) (children (parent k)) (k .loop .j) (k .loop .work) (turn p .walk .waiting - 1) (turn p .walk .hits) (turn p .walk .opened + 1) (k .loop .inv .2) (all k left);
+        },
+      ),
+    )
+
+add-waiting : tie.Need-add-waiting Inv-loop μ-loop Inv-walk μ-walk
+add-waiting c =
+    let k = c .before .before .before .before .before in
+    omega (arith, room k (c .before .before .before .before .loop-test .left), lends (at-inner (parent k)) .limits .nodes-high)
+
+walk-less-2 : tie.Need-walk-less-2 Inv-loop μ-loop Inv-walk μ-walk
+walk-less-2 c = search needs
+
+walk-again-2 : tie.Need-walk-again-2 Inv-loop μ-loop Inv-walk μ-walk
+walk-again-2 c =
+    let pushed = c .before .before .push-children in
+    let k = c .before .before .before .before .before in
+    let left = c .before .before .before .before .loop-test .left in
+    let i = parent k in
+    let p = least (inner i) in
+    let e = at-inner i in
+    let w = lends e in
+    let total = turn p .walk .waiting - 1 + i .shown2 .given .0 .0 .count in
+    waits-from (e .args .shape) (e .args .counts) (hit e) (view e) (e .args .ef-search) (first (begun (turn p))) (work p) (pushed .last .1 .1 .1 .0) total (turn p .walk .hits) (turn p .walk .opened + 1) (opened p .1 .works)
+    (children-pushed (e .args .shape) (e .args .counts) (hit e) (view e) (e .args .ef-search) (work p) (w .limits) (w .nodes) (w .some) (below e) (node p) (children i) (k .loop .j) (k .loop .work) (turn p .walk .waiting - 1) (turn p .walk .hits) (turn p .walk .opened + 1) (k .loop .inv .2) (all k left)
+    (pushed .last .1 .1 .1 .0) (nodesOf (e .args .shape) (e .args .floats .now) (e .args .query .now) (children i)) total
+    (nodes-wait (e .args .shape) (e .args .counts) (e .args .floats .now) (e .args .numbers .now) (e .args .hashes .now) (e .args .query .now) (e .args .wanted) (children i)) (omega (arith, many k left)) (pushed .ensures))
 
 same-length : tie.Need-same-length Inv-loop μ-loop Inv-walk μ-walk
 same-length c = ended-works (c .before) .size
@@ -648,7 +657,7 @@ returns-5 c =
     let w = lends e in
     record {
       ends = ends-damaged (e .args .shape) (e .args .counts) (hit e) (view e) (e .args .ef-search) (first (begun (turn p))) (w .limits) (w .nodes) (w .some) (below e) _
-          (child-damage (e .args .shape) (e .args .counts) (hit e) (view e) (e .args .ef-search) (work p) (w .limits) (w .nodes) (w .some) (below e) (node p) (number r) (behind r) (k .loop .work) (k .loop .waiting) (turn p .walk .hits) (turn p .walk .opened + 1) (next r) (fresh a false (not-true _ (c .if3 .taken))));
+          (child-damage (e .args .shape) (e .args .counts) (hit e) (view e) (e .args .ef-search) (work p) (w .limits) (w .nodes) (w .some) (below e) (node p) (children (parent k)) (k .loop .j) (number r) (k .loop .work) (turn p .walk .waiting - 1) (turn p .walk .hits) (turn p .walk .opened + 1) (k .loop .inv .2) (next r) (fresh a false (not-true _ (c .if3 .taken))));
       works = child-works k;
     }
 
@@ -682,20 +691,21 @@ best-first-walk-spec =
     walk-again
     enum-known-shown-2
     loop-holds
-    walk-less-2
-    walk-again-2
     add-wide
     mul-wide
     shared-slice-read-wide
     wide-requires
     fresh-child-requires
-    add-distance-key
-    distance-key-requires
-    push-node-requires
-    add-waiting
+    add-at
+    mul-work
+    slice-write-work
     add-j
     loop-less
     loop-again
+    push-children-requires
+    add-waiting
+    walk-less-2
+    walk-again-2
     same-length
     returns
     same-length-2

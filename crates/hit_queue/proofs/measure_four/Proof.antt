@@ -1,5 +1,6 @@
 -- `measure_four` meets its contract: each of the four numbers is held, so its vector is within the floats. Assumes nothing.
-use Rattle.hit_queue.proofs.Measuring.{number-held, hit-is, four-are}
+use Rattle.hit_queue.proofs.Measuring.{number-held, hit-is}
+use Rattle.lists.specs.Parts.{four-mapped}
 use Rattle.hit_queue.specs.Hits.{hitFor, Measured}
 use Rattle.order.specs.Records.{value}
 use Rattle.walk.specs.LentLaws.{vector-within}
@@ -143,7 +144,7 @@ returns c =
     let four = d .distances .ensures in
     let is = hit-is (a .shape) (a .floats .now) (a .numbers .now) (a .query .now) in
     subst (λ (hits : List ℕ). Measured (a .bound) hits (a .count) (a .heap .now) (pushed .result) (pushed .last .0))
-    (four-are (hitFor (a .shape) (a .floats .now) (a .numbers .now) (a .query .now)) (a .heap .now) (a .at) _ _ _ _ (entry w .pre .1 .1 .inside)
+    (four-mapped (hitFor (a .shape) (a .floats .now) (a .numbers .now) (a .query .now)) (a .heap .now) (a .at) 0 _ _ _ _ (entry w .pre .1 .1 .inside)
     (is _ (first w) _ _ (h1 .hit .ensures) (four .0) (w .before .before .before .before .before .before .wide .ensures .0))
     (is _ (second w) _ _ (h2 .hit2 .ensures) (four .1 .0) (w .before .before .before .before .wide2 .ensures .0))
     (is _ (third w) _ _ (h3 .hit3 .ensures) (four .1 .1 .0) (w .before .before .wide3 .ensures .0))

@@ -1,5 +1,6 @@
 -- `measure_one` meets its contract: the number is held, so its vector is within the floats. Assumes nothing.
-use Rattle.hit_queue.proofs.Measuring.{number-held, hit-is, one-is}
+use Rattle.hit_queue.proofs.Measuring.{number-held, hit-is}
+use Rattle.lists.specs.Parts.{one-mapped}
 use Rattle.hit_queue.specs.Hits.{hitFor, Measured}
 use Rattle.walk.specs.LentLaws.{vector-within}
 use mathlib.Core.List.{List}
@@ -54,7 +55,7 @@ returns c =
     let w = h .before .before in
     let a = entry w .args in
     subst (λ (hits : List ℕ). Measured (a .bound) hits (a .count) (a .heap .now) (pushed .result) (pushed .last .0))
-    (one-is (hitFor (a .shape) (a .floats .now) (a .numbers .now) (a .query .now)) (a .heap .now) (a .at) _ (entry w .pre .1 .1 .inside)
+    (one-mapped (hitFor (a .shape) (a .floats .now) (a .numbers .now) (a .query .now)) (a .heap .now) (a .at) 0 _ (entry w .pre .1 .1 .inside)
     (hit-is (a .shape) (a .floats .now) (a .numbers .now) (a .query .now) _ (number w) _ _ (h .hit .ensures) (h .before .distance-to .ensures) (w .wide .ensures .0)))
     (pushed .ensures)
 

@@ -1,0 +1,273 @@
+-- `push_four` meets its contract: one node after the other, their distances side by side. Assumes nothing.
+use Rattle.best_first_walk.proofs.Pushing.{child-held, node-is}
+use Rattle.lists.specs.Parts.{four-mapped}
+use Rattle.best_first_walk.specs.Walks.{nodeFor, PushNodes, PushedNodes}
+use Rattle.best_first_walk.specs.WalksLaws.{pushed-append}
+use Rattle.distance.specs.TotalOrder.{keyOf}
+use Rattle.order.specs.Records.{records, Heap}
+use Rattle.walk.specs.LentLaws.{vector-within}
+use lib.ListN.{length}
+use mathlib.Core.List.{List, [], _∷_}
+use mathlib.Core.Path.{_≡_, refl, ap, _∙_, subst}
+use native.Mathlib.Omega.{arith}
+use Prim.Native.Nat.{ℕ, _+_, _*_, _^_, _≤_, _<_}
+use borrow.Author.Needs.{needs}
+use Rattle.best_first_walk.proofs.push_four.Statement.{statement}
+use Rattle.best_first_walk.proofs.push_four.Tie as tie
+
+-- the four numbers are read
+abbrev Read : Type 0
+Read = tie.After-wide4
+
+abbrev entry : Read → tie.Start
+entry r = r .before .before .before .before .before .before .before .before .before .before .before .before
+
+abbrev a : Read → ℕ
+a r = r .before .before .before .before .before .before .wide .result
+
+abbrev b : Read → ℕ
+b r = r .before .before .before .before .wide2 .result
+
+abbrev c′ : Read → ℕ
+c′ r = r .before .before .wide3 .result
+
+abbrev d : Read → ℕ
+d r = r .wide4 .result
+
+low-a : (r : Read) → a r < entry r .args .shape .nodes
+low-a r =
+    let e = entry r in
+    child-held (e .args .shape) (e .args .numbers .now) (e .args .at) 4 0 (e .args .at) (a r) (e .pre .1 .1) (omega arith) (omega arith) (r .before .before .before .before .before .before .wide .ensures .0)
+
+low-b : (r : Read) → b r < entry r .args .shape .nodes
+low-b r =
+    let e = entry r in
+    child-held (e .args .shape) (e .args .numbers .now) (e .args .at) 4 1 (e .args .at + 1) (b r) (e .pre .1 .1) (omega arith) refl (r .before .before .before .before .wide2 .ensures .0)
+
+low-c : (r : Read) → c′ r < entry r .args .shape .nodes
+low-c r =
+    let e = entry r in
+    child-held (e .args .shape) (e .args .numbers .now) (e .args .at) 4 2 (e .args .at + 2) (c′ r) (e .pre .1 .1) (omega arith) refl (r .before .before .wide3 .ensures .0)
+
+low-d : (r : Read) → d r < entry r .args .shape .nodes
+low-d r =
+    let e = entry r in
+    child-held (e .args .shape) (e .args .numbers .now) (e .args .at) 4 3 (e .args .at + 3) (d r) (e .pre .1 .1) (omega arith) refl (r .wide4 .ensures .0)
+
+-- a centroid lies within the floats
+within : (r : Read) (i : ℕ) → i < entry r .args .shape .nodes
+    → (entry r .args .shape .vectors + i) * entry r .args .shape .dimension + entry r .args .shape .dimension ≤ length (entry r .args .floats .now)
+within r i h =
+    let e = entry r in
+    vector-within (e .args .shape) (e .args .floats .now) (e .args .shape .vectors + i) (e .args .shape .vectors + e .args .shape .nodes) (e .pre .0 .limits) (e .pre .0 .size) (omega (arith, h)) (omega arith)
+
+-- each is pushed
+abbrev Pushed1 : Type 0
+Pushed1 = tie.After-push-node
+
+abbrev Pushed2 : Type 0
+Pushed2 = tie.After-push-node2
+
+abbrev Pushed3 : Type 0
+Pushed3 = tie.After-push-node3
+
+abbrev read1 : Pushed1 → Read
+read1 p = p .before .before .before .before
+
+abbrev first : Pushed2 → Pushed1
+first p = p .before .before .before .before .before
+
+abbrev second : Pushed3 → Pushed2
+second p = p .before .before .before .before .before
+
+after1 : (p : Pushed1) → PushNodes (entry (read1 p) .args .shape) (p .push-node .last .1 .0) (entry (read1 p) .args .waiting + 1) 1
+after1 p =
+    let e = entry (read1 p) in
+    let q = p .push-node .ensures in
+    record { size = omega (arith, e .pre .1 .0 .size, q .size); limits = e .pre .1 .0 .limits; room = omega (arith, e .pre .1 .0 .room); queue = q .queue }
+
+after2 : (p : Pushed2) → PushNodes (entry (read1 (first p)) .args .shape) (p .push-node2 .last .1 .0) (entry (read1 (first p)) .args .waiting + 2) 1
+after2 p =
+    let e = entry (read1 (first p)) in
+    let q = p .push-node2 .ensures in
+    record {
+      size = omega (arith, after1 (first p) .size, q .size);
+      limits = e .pre .1 .0 .limits;
+      room = omega (arith, e .pre .1 .0 .room);
+      queue = subst (λ (n : ℕ). Heap (records 2 n (p .push-node2 .last .1 .0))) (let t : e .args .waiting + 1 + 1 ≡ e .args .waiting + 2 = omega arith in t) (q .queue);
+    }
+
+after3 : (p : Pushed3) → PushNodes (entry (read1 (first (second p))) .args .shape) (p .push-node3 .last .1 .0) (entry (read1 (first (second p))) .args .waiting + 3) 1
+after3 p =
+    let e = entry (read1 (first (second p))) in
+    let q = p .push-node3 .ensures in
+    record {
+      size = omega (arith, after2 (second p) .size, q .size);
+      limits = e .pre .1 .0 .limits;
+      room = omega (arith, e .pre .1 .0 .room);
+      queue = subst (λ (n : ℕ). Heap (records 2 n (p .push-node3 .last .1 .0))) (let t : e .args .waiting + 2 + 1 ≡ e .args .waiting + 3 = omega arith in t) (q .queue);
+    }
+
+mul-wide : tie.Need-mul-wide
+mul-wide c = search needs
+
+shared-slice-read-wide : tie.Need-shared-slice-read-wide
+shared-slice-read-wide c = search needs
+
+wide-requires : tie.Need-wide-requires
+wide-requires c κs = search needs
+
+add-wide : tie.Need-add-wide
+add-wide c = search needs
+
+mul-wide-2 : tie.Need-mul-wide-2
+mul-wide-2 c = search needs
+
+shared-slice-read-wide-2 : tie.Need-shared-slice-read-wide-2
+shared-slice-read-wide-2 c = search needs
+
+wide-requires-2 : tie.Need-wide-requires-2
+wide-requires-2 c κs = search needs
+
+add-wide-2 : tie.Need-add-wide-2
+add-wide-2 c = search needs
+
+mul-wide-3 : tie.Need-mul-wide-3
+mul-wide-3 c = search needs
+
+shared-slice-read-wide-3 : tie.Need-shared-slice-read-wide-3
+shared-slice-read-wide-3 c = search needs
+
+wide-requires-3 : tie.Need-wide-requires-3
+wide-requires-3 c κs = search needs
+
+add-wide-3 : tie.Need-add-wide-3
+add-wide-3 c = search needs
+
+mul-wide-4 : tie.Need-mul-wide-4
+mul-wide-4 c = search needs
+
+shared-slice-read-wide-4 : tie.Need-shared-slice-read-wide-4
+shared-slice-read-wide-4 c = search needs
+
+wide-requires-4 : tie.Need-wide-requires-4
+wide-requires-4 c κs = search needs
+
+add-distances : tie.Need-add-distances
+add-distances c = search needs
+
+add-distances-2 : tie.Need-add-distances-2
+add-distances-2 c = search needs
+
+add-distances-3 : tie.Need-add-distances-3
+add-distances-3 c = search needs
+
+add-distances-4 : tie.Need-add-distances-4
+add-distances-4 c = search needs
+
+distances-requires : tie.Need-distances-requires
+distances-requires c κs = (within c (a c) (low-a c), (within c (b c) (low-b c), (within c (c′ c) (low-c c), within c (d c) (low-d c))))
+
+key-requires : tie.Need-key-requires
+key-requires c κs = search needs
+
+push-node-requires : tie.Need-push-node-requires
+push-node-requires c κs =
+    let r = c .before .before .before in
+    let w = entry r .pre .1 .0 in
+    (record { size = w .size; limits = w .limits; room = omega (arith, w .room); queue = w .queue }, low-a r)
+
+add-push-node : tie.Need-add-push-node
+add-push-node c = search needs
+
+key-requires-2 : tie.Need-key-requires-2
+key-requires-2 c κs = search needs
+
+push-node-requires-2 : tie.Need-push-node-requires-2
+push-node-requires-2 c κs = let p = c .before .before .before .before in (after1 p, low-b (read1 p))
+
+add-push-node-2 : tie.Need-add-push-node-2
+add-push-node-2 c =
+    let w = entry (read1 (first (c .before .before .before))) .pre .1 .0 in
+    omega (arith, w .room, w .limits .nodes-high)
+
+key-requires-3 : tie.Need-key-requires-3
+key-requires-3 c κs = search needs
+
+push-node-requires-3 : tie.Need-push-node-requires-3
+push-node-requires-3 c κs = let p = c .before .before .before .before in (after2 p, low-c (read1 (first p)))
+
+add-push-node-3 : tie.Need-add-push-node-3
+add-push-node-3 c =
+    let w = entry (read1 (first (second (c .before .before .before)))) .pre .1 .0 in
+    omega (arith, w .room, w .limits .nodes-high)
+
+key-requires-4 : tie.Need-key-requires-4
+key-requires-4 c κs = search needs
+
+push-node-requires-4 : tie.Need-push-node-requires-4
+push-node-requires-4 c κs = let p = c .before .before .before .before in (after3 p, low-d (read1 (first (second p))))
+
+same-length : tie.Need-same-length
+same-length c = search needs
+
+returns : tie.Need-returns
+returns c =
+    let last = c .before .before .push-node4 in
+    let three = c .before .before .before .before .before .before .before in
+    let two = second three in
+    let one = first two in
+    let r = read1 one in
+    let e = entry r in
+    let s = e .args .shape in
+    let f = nodeFor s (e .args .floats .now) (e .args .query .now) in
+    let at = one .before .before .before .distances .ensures in
+    let node = node-is s (e .args .floats .now) (e .args .query .now) in
+    let first-two = pushed-append s (e .args .work .now) (one .push-node .last .1 .0) (two .push-node2 .last .1 .0) (e .args .waiting) (e .args .waiting + 1) (_ ∷ []) (_ ∷ []) refl (one .push-node .ensures) (two .push-node2 .ensures) in
+    let first-three = pushed-append s (e .args .work .now) (two .push-node2 .last .1 .0) (three .push-node3 .last .1 .0) (e .args .waiting) (e .args .waiting + 2) (_ ∷ _ ∷ []) (_ ∷ []) refl first-two (three .push-node3 .ensures) in
+    let all = pushed-append s (e .args .work .now) (three .push-node3 .last .1 .0) (last .last .1 .0) (e .args .waiting) (e .args .waiting + 3) (_ ∷ _ ∷ _ ∷ []) (_ ∷ []) refl first-three (last .ensures) in
+    subst (λ (l : List ℕ). PushedNodes s (e .args .work .now) (e .args .waiting) l (last .last .1 .0))
+    (four-mapped f (e .args .numbers .now) (e .args .at) 0 _ _ _ _ (e .pre .1 .1 .inside)
+    (node _ (a r) _ _ (one .before .key .ensures ∙ ap keyOf (at .0)) refl (r .before .before .before .before .before .before .wide .ensures .0))
+    (node _ (b r) _ _ (two .before .key2 .ensures ∙ ap keyOf (at .1 .0)) refl (r .before .before .before .before .wide2 .ensures .0))
+    (node _ (c′ r) _ _ (three .before .key3 .ensures ∙ ap keyOf (at .1 .1 .0)) refl (r .before .before .wide3 .ensures .0))
+    (node _ (d r) _ _ (c .before .before .before .key4 .ensures ∙ ap keyOf (at .1 .1 .1)) refl (r .wide4 .ensures .0)))
+    all
+
+pub push-four-spec : {M : Type 1} → statement M
+push-four-spec =
+    tie.close
+    (tie.spec
+    mul-wide
+    shared-slice-read-wide
+    wide-requires
+    add-wide
+    mul-wide-2
+    shared-slice-read-wide-2
+    wide-requires-2
+    add-wide-2
+    mul-wide-3
+    shared-slice-read-wide-3
+    wide-requires-3
+    add-wide-3
+    mul-wide-4
+    shared-slice-read-wide-4
+    wide-requires-4
+    add-distances
+    add-distances-2
+    add-distances-3
+    add-distances-4
+    distances-requires
+    key-requires
+    push-node-requires
+    add-push-node
+    key-requires-2
+    push-node-requires-2
+    add-push-node-2
+    key-requires-3
+    push-node-requires-3
+    add-push-node-3
+    key-requires-4
+    push-node-requires-4
+    same-length
+    returns)
