@@ -6,22 +6,16 @@ ghost use Prim.Native.Nat.{_+_, _*_, _^_, _%_, _<_, _≤_};
 ghost use mathlib.Core.Path.{_≡_};
 ghost use Rattle.distance.specs.Root.{Root, Nearest, magnitude};
 
-// The integer root: lo * lo <= n < hi * hi, and the gap is halved until hi is lo + 1.
+// The integer root, by Newton's steps from above: a step leads below s while s * s is above n, and never below the root.
 fn integer_root(n: u64) -> u64
     requires { ⌜ n < 2 ^ 50 ⌝ }
     ensures { λ r. ⌜ (r * r ≤ n) × (n < (r + 1) * (r + 1)) ⌝ }
 {
-    let mut lo: u64 = 0;
-    let mut hi: u64 = 0x0200_0000;
-    while lo + 1 < hi {
-        let mid = (lo + hi) / 2;
-        if mid * mid <= n {
-            lo = mid;
-        } else {
-            hi = mid;
-        }
+    let mut s: u64 = 0x0200_0000;
+    while n < s * s {
+        s = (s + n / s) / 2;
     }
-    lo
+    s
 }
 
 // The pattern of the root of n * 2^(2k), rounded. An odd integer root is above the halfway point, and a carry out of the 24 digits goes into the exponent.
