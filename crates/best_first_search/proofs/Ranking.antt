@@ -10,7 +10,7 @@ use lib.Ieee.{Float}
 use lib.ListN.{length, take, drop, length-append, length-map}
 use lib.Seq.{sets}
 use Rattle.lists.specs.Lists.{part, keep}
-use Rattle.lists.specs.Parts.{length-part, part-append-parts}
+use Rattle.lists.specs.Parts.{length-part, part-append-parts, drop-more, part-behind}
 use Rattle.lists.specs.Counting.{keep-append}
 use Rattle.order.specs.declared.Record.{Record}
 use Rattle.order.specs.Sorted.{sort, Sorted}
@@ -23,8 +23,8 @@ use Rattle.walk.specs.Answer.{documentOf, distanceOf, dropAfter, dropRepeats}
 use Rattle.walk.specs.AnswerLaws.{drop-nil, drop-same, drop-other}
 use Rattle.walk.specs.StoreView.{allPass}
 use Rattle.hit_queue.specs.declared.Taken.{Taken}
-use Rattle.hit_queue.specs.Hits.{within, Measure, Measured, rankedQueue, Takes}
-use Rattle.hit_queue.specs.HitsLaws.{document-popped, key-is, drop-more, part-later}
+use Rattle.hit_queue.specs.Hits.{within, Measure, Measured, Takes}
+use Rattle.hit_queue.specs.HitsLaws.{document-popped, key-is}
 use Rattle.best_first_search.specs.Ranks.{firstOf, Enough, Bounds, Sampled, Ranked, Firsts}
 use Rattle.best_first_search.proofs.Runs.{lastOf, after-append, runs-more, sort-keep, first-within, sorted-before, runs-within}
 
@@ -138,7 +138,7 @@ module _ (c : Counts) (h : ℕ → ℕ) (k from found : ℕ) (heap : List ℕ) (
       → Bounds heap₁ total k bound heap₂ → Sampled (map h (part from found heap)) k bound from found heap heap₂
   sampled bound total heap₁ heap₂ few m b = record {
     enough = go (b .enough);
-    numbers = part-later (total * 3) from found heap₂ heap (omega (arith, m .few, long, few, w .apart)) (b .behind ∙ m .behind);
+    numbers = part-behind (total * 3) from found heap₂ heap (omega (arith, m .few, long, few, w .apart)) (b .behind ∙ m .behind);
     size = b .size ∙ m .size;
   }
     where

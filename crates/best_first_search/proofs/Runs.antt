@@ -1,11 +1,11 @@
 -- Runs of equal document ids in sorted hits: a hit more never makes them fewer, so hits behind the first k runs of some are not among the first k of all.
 -- Assumes nothing.
-use Prim.Native.Nat.{ℕ, suc, _+_, _-_, _*_, _/_, _^_, _≤_, _<_}
+use Prim.Native.Nat.{ℕ, suc, _+_, _-_, _/_, _^_, _≤_, _<_}
 use native.Mathlib.Omega.{arith}
-use mathlib.Core.Path.{_≡_, refl, sym, ap, ap₂, _∙_, subst}
+use mathlib.Core.Path.{_≡_, refl, sym, ap, _∙_, subst}
 use mathlib.Core.Logic.{_⊎_, inl, inr}
 use mathlib.Core.Bool.{Bool, true, false, not, false≢true}
-use mathlib.Core.List.{List, [], _∷_, _++_, map, append-assoc, List·Memᴰ, List·Memᴰ·head, List·Memᴰ·tail, List·Memᴰ·not-nil, List·Memᴰ·cases-cons, List·Memᴰ·append-cases, Memᴰ·append-right}
+use mathlib.Core.List.{List, [], _∷_, _++_, List·Memᴰ, List·Memᴰ·head, List·Memᴰ·not-nil, List·Memᴰ·cases-cons, Memᴰ·append-right}
 use lib.Dec.{leb}
 use lib.ListN.{length, take, length-append}
 use lib.Seq.{take-append-le}
@@ -14,7 +14,7 @@ use Rattle.lists.specs.Lists.{keep}
 use Rattle.lists.specs.Counting.{which, keep-nil, keep-pass, keep-fail, keep-append, keep-all, keep-none}
 use Rattle.lists.specs.Partition.{perm-keep}
 use Rattle.order.specs.Sorted.{sort, insert, inserts, Least, Sorted}
-use Rattle.order.specs.SortedLaws.{either, le-or-lt, insert-nil, insert-le, insert-gt, inserts-nil, inserts-cons, sort-append, sort-append-comm, sort-perm, perm-sort, sort-of-sorted, sort-sorted, least-mem}
+use Rattle.order.specs.SortedLaws.{either, le-or-lt, insert-le, insert-gt, inserts-nil, inserts-cons, sort-append, sort-append-comm, sort-perm, perm-sort, sort-of-sorted, sort-sorted, least-mem}
 use Rattle.order.specs.RecordsLaws.{same-or-not}
 use Rattle.walk.specs.Answer.{documentOf, dropAfter, dropRepeats}
 use Rattle.walk.specs.AnswerLaws.{drop-nil, drop-same, drop-other}

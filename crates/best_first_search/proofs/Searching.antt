@@ -1,7 +1,7 @@
 -- From the walk and its first k hits to the answer. Assumes nothing.
 use Prim.Native.Nat.{ℕ, _+_, _*_, _≤_, max}
 use native.Mathlib.Omega.{arith}
-use mathlib.Core.Path.{_≡_, refl, sym, ap, _∙_, subst, subst₂}
+use mathlib.Core.Path.{_≡_, refl, sym, ap, _∙_, subst}
 use mathlib.Core.Bool.{Bool, true}
 use mathlib.Core.List.{List, map}
 use lib.Dec.{ltb}
@@ -21,8 +21,8 @@ use Rattle.walk.specs.Answer.{documentOf, distanceOf, dropRepeats, ranked, answ
 use Rattle.walk.specs.AnswerLaws.{ranked-is}
 use Rattle.walk.specs.StoreView.{allPass}
 use Rattle.walk.specs.Search.{Answers, SearchEnds}
-use Rattle.hit_queue.specs.Hits.{mostOf, Measure}
-use Rattle.best_first_walk.specs.Walks.{hitsPart, foundIn, foundAt, foundPart, Finds, EndsAs, WalkEnds}
+use Rattle.hit_queue.specs.Hits.{mostOf}
+use Rattle.best_first_walk.specs.Walks.{hitsPart, foundIn, foundAt, foundPart, EndsAs, WalkEnds}
 use Rattle.best_first_walk.specs.WalksLaws.{few-hits}
 use Rattle.best_first_search.specs.Ranks.{firstOf, FirstHits, Firsts}
 use Rattle.best_first_walk.specs.declared.Walked.the-variants as walked

@@ -2,9 +2,9 @@
 -- nothing.
 use Prim.Native.Nat.{ℕ, _+_, _-_, _*_, _^_, _≤_, _<_}
 use native.Mathlib.Omega.{arith}
-use mathlib.Core.Path.{_≡_, refl, sym, ap, ap₂, _∙_, subst}
+use mathlib.Core.Path.{_≡_, sym, ap, _∙_, subst}
 use mathlib.Core.Bool.{Bool, true}
-use mathlib.Core.List.{List, [], _∷_, _++_, map, map-append}
+use mathlib.Core.List.{List, _++_, map, map-append}
 use lib.Dec.{ltb}
 use lib.Ieee.{Float}
 use lib.ListN.{length, getD, length-map}
@@ -21,7 +21,7 @@ use Rattle.walk.specs.StoreView.{allPass}
 use Rattle.walk.specs.StoreViewLaws.{and-left, and-right, allPass-Memᴰ}
 use Rattle.hit_queue.specs.HitsLaws.{allPass-append}
 use Rattle.best_first_walk.specs.Walks.{nodeFor, PushNodes, Children, PushedNodes}
-use Rattle.best_first_walk.specs.WalksLaws.{pushed-none, pushed-append}
+use Rattle.best_first_walk.specs.WalksLaws.{pushed-append}
 
 -- ---- numbers of nodes
 

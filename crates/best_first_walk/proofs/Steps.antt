@@ -9,10 +9,10 @@ use lib.Dec.{ltb}
 use mathlib.Core.List.{List, [], _∷_, _++_, map, map-append}
 use lib.Ieee.{Float}
 use lib.ListN.{length, getD, take, drop, set, replicate, length-set, length-append, length-replicate, getD-replicate, length-map}
-use lib.Seq.{drop-drop, take-set-le, getD-drop, getD-set-same, getD-set-other, drop-set-lt, sets, length-sets}
+use lib.Seq.{take-set-le, getD-set-same, getD-set-other, drop-set-lt, sets, length-sets}
 use Rattle.lists.specs.Lists.{part, isIn}
 use Rattle.lists.specs.Counting.{isIn-nil, isIn-here, isIn-later}
-use Rattle.lists.specs.Parts.{length-part, getD-sets-before, getD-sets-in, take-sets, part-sets-same, part-set-before, lent-part}
+use Rattle.lists.specs.Parts.{length-part, getD-sets-before, getD-sets-in, take-sets, part-sets-same, part-set-before, lent-part, drop-more, getD-behind, part-behind}
 use Rattle.lists.specs.Partition.{count, hit, hit-same, count-cons, count-Memᴰ, perm-length, count-perm, count-append}
 use Rattle.order.specs.declared.Record.{Record}
 use Rattle.order.specs.Sorted.{sort, insert}
@@ -21,7 +21,7 @@ use Rattle.order.specs.Records.{value, records, Heap}
 use Rattle.order.specs.RecordsLaws.{value-is, records-zero, records-same, length-records, heap-none, same-or-not}
 use Rattle.order.specs.Queue.{Pushed, Popped}
 use Rattle.store.specs.declared.Shape.{Shape}
-use Rattle.store.specs.Store.{Limits, vectorAt, marksAt, hitsAt, workSize}
+use Rattle.store.specs.Store.{Limits, vectorAt, marksAt, workSize}
 use Rattle.distance.specs.Distance.{distance}
 use Rattle.distance.specs.TotalOrder.{keyOf}
 use Rattle.walk.specs.StoreView.{allPass, storeView}
@@ -30,28 +30,11 @@ use Rattle.hit_queue.specs.HitsLaws.{allPass-append}
 use Rattle.walk.specs.declared.Wanted.{Wanted}
 use Rattle.walk.specs.declared.Counts.{Counts}
 use Rattle.walk.specs.Walk.{View, waitingNode, nodeNumber, Progress, hits}
-use Rattle.walk.specs.WalkLaws.{openedOne, pushedOne, withHits, Once, numbersOf}
+use Rattle.walk.specs.WalkLaws.{openedOne, withHits, Once, numbersOf}
 use Rattle.walk.specs.Search.{lent, Works}
 use Rattle.best_first_walk.specs.Walks.{foundAt, foundPart, Finds, Represents, Begins, insertAll, PushedNodes}
 use Rattle.best_first_walk.specs.WalksLaws.{insertAll-one}
 use Rattle.walk.specs.LentLaws.{works-trans, works-sets}
-
--- ---- lists
-
-module _ {A : Type 0} where
-  pub drop-more : (n m : ℕ) (a b : List A) → n ≤ m → drop n a ≡ drop n b → drop m a ≡ drop m b
-  drop-more n m a b h e =
-      let split : n + (m - n) ≡ m = omega arith in
-      ap (λ (k : ℕ). drop k a) (sym split) ∙ sym (drop-drop (m - n) n a) ∙ ap (drop (m - n)) e ∙ drop-drop (m - n) n b ∙ ap (λ (k : ℕ). drop k b) split
-
-  pub getD-behind : (n i : ℕ) (a b : List A) (d : A) → n ≤ i → drop n a ≡ drop n b → getD a i d ≡ getD b i d
-  getD-behind n i a b d h e =
-      let split : n + (i - n) ≡ i = omega arith in
-      ap (λ (k : ℕ). getD a k d) (sym split) ∙ sym (getD-drop n a (i - n) d) ∙ ap (λ (t : List A). getD t (i - n) d) e ∙ getD-drop n b (i - n) d
-      ∙ ap (λ (k : ℕ). getD b k d) split
-
-  pub part-behind : (n at c : ℕ) (a b : List A) → n ≤ at → drop n a ≡ drop n b → part at c a ≡ part at c b
-  part-behind n at c a b h e = ap (take c) (drop-more n at a b h e)
 
 -- ---- a node is marked, and nodes are pushed
 

@@ -1,5 +1,5 @@
 -- The walk's loops: what holds of the work list and the walk's state at each turn, and how each way out ends. Assumes nothing.
-use Prim.Native.Nat.{ℕ, suc, _+_, _-_, _*_, _^_, _≤_, _<_, max}
+use Prim.Native.Nat.{ℕ, suc, _+_, _-_, _^_, _≤_, _<_, max}
 use native.Mathlib.Numerals.{add-one}
 use native.Mathlib.Omega.{arith}
 use mathlib.Core.Path.{_≡_, refl, sym, ap, ap₂, _∙_, subst}
@@ -23,7 +23,7 @@ use Rattle.store.specs.declared.Shape.{Shape}
 use Rattle.store.specs.Store.{Limits, marksAt}
 use Rattle.walk.specs.declared.Counts.{Counts}
 use Rattle.walk.specs.Walk.{View, waitingNode, Progress, State, damaged, going, walk, walkFrom, Shown, shown, give, pushAll, children, hits, damage, none, whole}
-use Rattle.walk.specs.WalkLaws.{openedOne, pushedOne, withHits, startProgress, Once, ChildrenBelow, once-kept, once-push, once-start, different-cons, different-below, walk-is, walk-suc, walk-zero, step-open, none-stays, damaged-stays, some-waiting, nil-waiting, give-damage, give-children, give-hits, give-over, pushAll-nil, pushAll-fresh, pushAll-again}
+use Rattle.walk.specs.WalkLaws.{openedOne, pushedOne, withHits, startProgress, Once, ChildrenBelow, once-kept, once-push, once-start, different-below, walk-is, walk-suc, walk-zero, step-open, none-stays, damaged-stays, some-waiting, nil-waiting, give-damage, give-children, give-hits, give-over, pushAll-nil, pushAll-fresh, pushAll-again}
 use Rattle.walk.specs.StoreView.{allPass, childrenShown}
 use Rattle.walk.specs.StoreViewLaws.{and-left, and-right, allPass-nil, allPass-cons}
 use Rattle.walk.specs.Search.{lent, Works}

@@ -147,30 +147,7 @@ fn push_one(
     push_node(shape, work, waiting, child, key);
 }
 
-// Puts nodes into the queue of waiting nodes, one at a time.
-fn push_rest(
-    shape: Shape,
-    floats: &[f32],
-    numbers: &[u32],
-    work: &mut [u32],
-    query: &[f32],
-    waiting: usize,
-    start: usize,
-    count: usize,
-)
-    requires { ⌜ FloatsLent shape (now floats) ⌝ }
-    requires { ⌜ PushNodes shape (now work) waiting count ⌝ }
-    requires { ⌜ Children shape (now numbers) start count ⌝ }
-    ensures { λ _. ⌜ PushedNodes shape (now (work .entry)) waiting (nodesOf shape (now (floats .entry)) (now (query .entry)) (part start count (now (numbers .entry)))) (now (work .exit)) ⌝ }
-{
-    let mut j = 0;
-    while j < count {
-        push_one(shape, floats, numbers, work, query, waiting + j, start + j);
-        j += 1;
-    }
-}
-
-// Puts the children of a node into the queue of waiting nodes, four at a time.
+// Puts the children of a node into the queue of waiting nodes, four at a time, and the last three at most one by one.
 fn push_children(
     shape: Shape,
     floats: &[f32],
@@ -187,20 +164,15 @@ fn push_children(
     ensures { λ _. ⌜ PushedNodes shape (now (work .entry)) waiting (nodesOf shape (now (floats .entry)) (now (query .entry)) (part start count (now (numbers .entry)))) (now (work .exit)) ⌝ }
 {
     let mut j = 0;
-    while 4 <= count - j {
-        push_four(shape, floats, numbers, work, query, waiting + j, start + j);
-        j += 4;
+    while j < count {
+        if 4 <= count - j {
+            push_four(shape, floats, numbers, work, query, waiting + j, start + j);
+            j += 4;
+        } else {
+            push_one(shape, floats, numbers, work, query, waiting + j, start + j);
+            j += 1;
+        }
     }
-    push_rest(
-        shape,
-        floats,
-        numbers,
-        work,
-        query,
-        waiting + j,
-        start + j,
-        count - j,
-    );
 }
 
 // The walk: the least waiting node is taken and opened, until none waits, or `ef_search` nodes are opened, or the store is damaged.

@@ -23,9 +23,9 @@ use Rattle.curator.specs.declared.refusal.StateRefusal.the-variants.{InvalidSta
 use Rattle.curator.specs.declared.refusal.StoreRefusal.the-variants.{ListTooShort, NodesFull, Damaged}
 use Rattle.curator.specs.Limits.{stateSound, indexShape}
 use Rattle.curator.specs.Rows.{Row, row, Lengths, firstOf, stateRow, storeShort, listsShort, buildRows}
-use Rattle.curator.specs.RowLaws.{NoneHolds, FirstAt, refusalAt, refused-first, fine-none, no-rows, row-stops, row-passes, rows-then}
+use Rattle.curator.specs.RowLaws.{FirstAt, refusalAt, refused-first, fine-none, no-rows, row-stops, row-passes, rows-then}
 use Rattle.curator.specs.StateLaws.{Sound, and-all, sound-facts}
-use Rattle.curator.specs.Calls.{factsOf, lengthsOf, heldEntries}
+use Rattle.curator.specs.Calls.{lengthsOf, heldEntries}
 use Rattle.curator.specs.Changes.{Part, workPart, Freed, freeOf, Left, ownersDamaged, tooManyNodes, buildCheck}
 use Rattle.build.specs.Asked.{ownersBad, buildChecked, Ready}
 

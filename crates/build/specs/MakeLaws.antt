@@ -1,16 +1,16 @@
 -- What the making of the tree and the finishing passes leave, taken together, is what a build leaves.
-use Prim.Native.Nat.{ℕ, zero, suc, _+_, _*_, _≤_, _<_}
+use Prim.Native.Nat.{ℕ, _+_, _*_, _≤_, _<_}
 use mathlib.Core.Bool.{Bool, true, false}
 use mathlib.Core.List.{List, [], _∷_}
 use mathlib.Core.Path.{_≡_, refl, sym, ap, _∙_, subst}
 use native.Mathlib.Omega.{arith}
-use borrow.Author.Tests.{ltb-true, ltb-false, lt-ltb, le-ltb}
+use borrow.Author.Tests.{ltb-true, ltb-false, le-ltb}
 use lib.Dec.{ltb}
 use lib.Ieee.{Float}
 use lib.ListN.{length, getD}
 use lib.Seq.{sets, length-sets}
-use Rattle.lists.specs.Lists.{part, joined, countFrom}
-use Rattle.lists.specs.Parts.{length-part, getD-part, getD-sets-before, part-sets-before, part-sets-same, sets-comm, sets-sets-same, sets-self}
+use Rattle.lists.specs.Lists.{part, joined}
+use Rattle.lists.specs.Parts.{length-part, getD-part, part-sets-before, part-sets-same, sets-comm, sets-sets-same, sets-self}
 use Rattle.store.specs.declared.Shape.{Shape}
 use Rattle.store.specs.Store.{Store, ownersAt, orderAt, nodesAt, linksAt, entryOrderAt, filtersAt, numbersSize, workSize}
 use Rattle.cluster.specs.Lent.{vectorsIn}

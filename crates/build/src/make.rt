@@ -1,6 +1,5 @@
 // The making of the tree, and of what is laid out with it.
 ghost use denote.Ref.{now};
-ghost use Prim.Native.Nat.{_≤_};
 ghost use mathlib.Core.Path.{_≡_};
 ghost use Rattle.curator.specs.Calls.{builtWith};
 ghost use Rattle.curator.specs.Changes.{Builds};

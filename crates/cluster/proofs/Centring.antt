@@ -14,7 +14,7 @@ use Rattle.cluster.specs.Lent.{vectorsIn, vectorsFrom, assignment, withM
 use Rattle.cluster.specs.Vectors.{length-vectorsIn, vectorOf-vectorsIn, vectorOf-vectorsFrom, vectorsFrom-write, row-end}
 use Rattle.cluster.specs.Alike.{alike-refl, alike-trans, alike-sets, alike-vectors, alike-widen}
 use Rattle.cluster.specs.Laws.{length-assignment, length-withMark, withMark-below, withMark-assignment, recentred-none, recentred-some, length-recentred, length-recentre, vectorOf-recentre, length-firstCentres, vectorOf-firstCentres}
-use Rattle.cluster.proofs.Writes.{write-turn, write-end, unwritten}
+use Rattle.lists.specs.Writes.{write-turn, write-end, unwritten}
 use Rattle.cluster.proofs.Sums.{part-written, vector-before}
 
 -- ---- k centres, the first j of them written

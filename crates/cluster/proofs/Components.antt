@@ -6,13 +6,13 @@ use native.Mathlib.Omega.{arith}
 use lib.ListN.{length, getD, set, take, replicate, length-replicate, getD-replicate, length-map}
 use lib.Seq.{sets}
 use lib.Ieee.{Float, nan, binary32, add, div}
+use Rattle.lists.specs.Maps.{getD-map}
 use Rattle.lists.specs.Lists.{part}
 use Rattle.lists.specs.Parts.{length-part, getD-part}
 use Rattle.distance.specs.Vector.{zero32}
 use Rattle.cluster.specs.Clusters.{addVectors}
-use Rattle.cluster.specs.Vectors.{getD-map}
 use Rattle.cluster.specs.Laws.{length-addVectors, getD-addVectors}
-use Rattle.cluster.proofs.Writes.{write-turn, unwritten, before-written}
+use Rattle.lists.specs.Writes.{write-turn, unwritten, before-written}
 
 pub zero-turn : (l m : List Float) (to n i : ℕ) → m ≡ sets l to (take i (replicate n zero32)) → i < n
     → set m (to + i) zero32 ≡ sets l to (take (i + 1) (replicate n zero32))

@@ -1,5 +1,4 @@
 -- What only the proofs of `cluster` need.
-pub mod Writes
 pub mod Components
 pub mod Sums
 pub mod Choice

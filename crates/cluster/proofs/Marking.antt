@@ -12,7 +12,7 @@ use Rattle.cluster.specs.Clusters.{nearest}
 use Rattle.cluster.specs.Lent.{vectorsIn, vectorsFrom, assignment, Room}
 use Rattle.cluster.specs.Vectors.{vectorOf-vectorsIn, length-vectorsIn}
 use Rattle.cluster.specs.Laws.{length-assignment, getD-assignment, nearest-below}
-use Rattle.cluster.proofs.Writes.{write-turn, write-end}
+use Rattle.lists.specs.Writes.{write-turn, write-end}
 
 module _ (floats : List Float) (ids work₀ : List ℕ) (d n at k : ℕ) (room : Room floats ids d n at (k * d)) where
   abbrev centres : List (List Float)

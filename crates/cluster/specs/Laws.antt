@@ -9,13 +9,13 @@ use lib.IntN.{pos}
 use lib.Dec.{eqb}
 use lib.ListN.{length, getD, replicate, length-map, length-replicate}
 use lib.Ieee.{Float, nan, inf, binary32, add, div, lt, ofInt}
+use Rattle.lists.specs.Maps.{getD-map}
 use Rattle.lists.specs.Lists.{keep, countFrom}
 use Rattle.lists.specs.Counting.{length-countFrom, getD-countFrom}
 use Rattle.distance.specs.Vector.{zero32}
 use Rattle.distance.specs.Distance.{distance}
 use Rattle.cluster.specs.Clusters.{vectorOf, addVectors, sumFrom, meanOf, nearestFrom, nearest, members, recentred, recentreFrom, recentre, firstCentres, clusterCount, lastCentres}
 use Rattle.cluster.specs.Lent.{assignment, withMark}
-use Rattle.cluster.specs.Vectors.{getD-map}
 
 -- ---- sums and means
 

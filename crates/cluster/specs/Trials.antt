@@ -1,7 +1,6 @@
 -- The clusters of document 01's worked example: (1, 0), (0, 1) and (0.6, 0.8), B 2.
 use mathlib.Core.List.{List, [], _∷_, map}
 use mathlib.Core.Path.{_≡_, refl}
-use Prim.Native.Nat.{ℕ}
 use lib.Ieee.{Float, binary32, ofBits}
 use Rattle.cluster.specs.Clusters.{clusters}
 

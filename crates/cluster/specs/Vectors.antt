@@ -1,29 +1,23 @@
 -- Laws of `vectorsIn` and `vectorsFrom`: the vectors that a float list holds, one after the other.
 use Prim.Native.Nat.{ℕ, zero, suc, _+_, _*_, _≤_, _<_}
-use mathlib.Core.Path.{_≡_, refl, sym, ap, _∙_}
+use mathlib.Core.Path.{_≡_, sym, ap, _∙_}
 use mathlib.Core.Logic.{_⊎_, inl, inr}
 use mathlib.Core.Bool.{true, false}
-use mathlib.Core.List.{List, [], _∷_, map}
-use native.Mathlib.Nat.{suc-mul, zero-add, mul-le-mul-right, not-suc-le-zero, le-of-suc-le-suc}
+use mathlib.Core.List.{List, [], map}
+use native.Mathlib.Nat.{suc-mul, zero-add, mul-le-mul-right}
 use native.Mathlib.Omega.{arith}
 use borrow.Author.Tests.{ltb-true, ltb-false}
 use lib.Dec.{ltb}
 use lib.ListN.{length, getD, set, take, drop, length-map, length-set, length-drop}
 use lib.Seq.{sets, ext-getD, getD-set-same, getD-set-other, drop-drop}
 use lib.Ieee.{Float}
+use Rattle.lists.specs.Maps.{getD-map}
 use Rattle.lists.specs.Lists.{part, countFrom}
 use Rattle.lists.specs.Parts.{part-part, length-part, part-sets-same, part-sets-before, part-sets-after, drop-sets-add}
 use Rattle.lists.specs.Counting.{which, length-countFrom, getD-countFrom}
 use Rattle.store.specs.Store.{vectorAt}
 use Rattle.cluster.specs.Clusters.{vectorOf}
 use Rattle.cluster.specs.Lent.{vectorsIn, vectorsFrom}
-
--- an element of a mapped list
-pub getD-map {ℓ κ} : {A : Type ℓ} {B : Type κ} (f : A → B) (l : List A) (i : ℕ) (d : A) (e : B) → i < length l
-    → getD (map f l) i e ≡ f (getD l i d)
-getD-map f [] i d e h = absurd (not-suc-le-zero h)
-getD-map f (x ∷ xs) zero d e h = refl
-getD-map f (x ∷ xs) (suc i) d e h = getD-map f xs i d e (le-of-suc-le-suc h)
 
 -- a vector ends before a later one begins
 pub row-end : (d i j : ℕ) → i < j → i * d + d ≤ j * d

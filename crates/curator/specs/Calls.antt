@@ -1,6 +1,6 @@
 -- What a call is about: the facts of the state that its rows look at, what the store holds, and the labels of an add.
-use Prim.Native.Nat.{ℕ, zero, suc, _+_, _*_}
-use mathlib.Core.Bool.{Bool, true, false}
+use Prim.Native.Nat.{ℕ, _+_}
+use mathlib.Core.Bool.{true, false}
 use mathlib.Core.List.{List, [], _∷_, map}
 use lib.Ieee.{Float}
 use lib.ListN.{length, take, drop}
@@ -11,7 +11,6 @@ use Rattle.store.specs.Store.{Store, ownersAt}
 use Rattle.cluster.specs.Lent.{vectorsIn}
 use Rattle.tree.specs.Tree.{Splitting}
 use Rattle.tree.specs.Nodes.{Entries}
-use Rattle.walk.specs.declared.Counts.{Counts}
 use Rattle.curator.specs.declared.CuratorParams.{CuratorParams}
 use Rattle.curator.specs.declared.Capacities.{Capacities}
 use Rattle.curator.specs.declared.CuratorIndex.{CuratorIndex}

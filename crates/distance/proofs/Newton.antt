@@ -1,10 +1,10 @@
 -- Newton's step for an integer root: from above it leads down, since n / s is below s there, and never below the root, since the mean of s and n / s is
 -- not below the root of their product. Assumes nothing.
-use Prim.Native.Nat.{ℕ, zero, suc, _+_, _-_, _*_, _/_, _%_, _<_, _≤_}
+use Prim.Native.Nat.{ℕ, zero, suc, _+_, _-_, _*_, _/_, _<_, _≤_}
 use native.Mathlib.Nat.{div-mul-le-self, div-add-mod', mod-lt, mul-le-mul-right}
 use native.Mathlib.Omega.{arith}
 use mathlib.Core.Logic.{_⊎_, inl, inr}
-use mathlib.Core.Path.{_≡_, subst, sym}
+use mathlib.Core.Path.{_≡_, subst}
 use Rattle.distance.specs.RootLaws.{below-or-not, square-le}
 
 -- a quotient from above

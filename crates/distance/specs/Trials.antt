@@ -1,5 +1,4 @@
--- Values beside document 01's trial echoes (those are crates/trial_echoes/specs/Table.antt), computed from the definitions.
-use Prim.Native.Nat.{ℕ}
+-- Values beside document 01's trial echoes (those are crates/trial_table/specs/Table.antt), computed from the definitions.
 use mathlib.Core.Path.{_≡_, refl}
 use mathlib.Core.Bool.{true}
 use mathlib.Core.List.{[], _∷_, map}

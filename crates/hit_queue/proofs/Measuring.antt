@@ -1,19 +1,18 @@
 -- Making the queue of hits: the hits of one number after the other come to those before. Assumes nothing.
-use Prim.Native.Nat.{ℕ, zero, suc, _+_, _-_, _*_, _/_, _^_, _≤_, _<_}
+use Prim.Native.Nat.{ℕ, zero, suc, _+_, _-_, _*_, _^_, _≤_, _<_}
 use native.Mathlib.Omega.{arith}
 use mathlib.Core.Path.{_≡_, refl, sym, ap, ap₂, _∙_, subst}
-use mathlib.Core.Logic.{_⊎_, inl, inr}
-use mathlib.Core.Bool.{Bool, true, false, _&&_}
+use mathlib.Core.Bool.{Bool, true, false}
 use mathlib.Core.List.{List, [], _∷_, _++_, map, map-append, append-assoc, List·Memᴰ}
 use lib.Dec.{leb, ltb}
 use lib.Ieee.{Float}
-use lib.ListN.{length, getD, take, drop, length-append, length-map}
+use lib.ListN.{length, getD, drop, length-append, length-map}
 use borrow.Author.Tests.{ltb-true, le-leb, lt-leb}
 use Rattle.lists.specs.Lists.{part, keep}
-use Rattle.lists.specs.Parts.{part-zero, part-append-parts, length-part, getD-part, part-cons}
+use Rattle.lists.specs.Parts.{part-zero, part-append-parts, length-part, getD-part, drop-more, part-behind}
 use Rattle.lists.specs.Counting.{getD-Memᴰ, keep-nil, keep-pass, keep-fail, keep-append}
 use Rattle.order.specs.declared.Record.{Record}
-use Rattle.order.specs.Sorted.{sort, insert}
+use Rattle.order.specs.Sorted.{sort}
 use Rattle.order.specs.SortedLaws.{sort-cons, sort-append-comm, sort-append-cong}
 use Rattle.order.specs.Records.{value, records, Heap}
 use Rattle.order.specs.Queue.{Pushed}
@@ -22,10 +21,10 @@ use Rattle.store.specs.Store.{vectorAt}
 use Rattle.distance.specs.Distance.{distance}
 use Rattle.walk.specs.declared.Counts.{Counts}
 use Rattle.walk.specs.StoreView.{allPass}
-use Rattle.walk.specs.StoreViewLaws.{and-left, and-right, allPass-cons, allPass-Memᴰ}
+use Rattle.walk.specs.StoreViewLaws.{and-right, allPass-Memᴰ}
 use Rattle.walk.specs.Answer.{hitOf}
 use Rattle.hit_queue.specs.Hits.{hitFor, within, Measured, Measure}
-use Rattle.hit_queue.specs.HitsLaws.{allPass-append, key-is, drop-more, part-later}
+use Rattle.hit_queue.specs.HitsLaws.{allPass-append, key-is}
 
 -- ---- hits are added
 
@@ -101,7 +100,7 @@ module _ (c : Counts) (bound before total at count m : ℕ) (heap heap′ hits :
     where
       go : (n : ℕ) → count - m ≡ n → part (at + m) n heap′ ≡ part (at + m) n heap
       go zero e = part-zero (at + m) heap′ ∙ sym (part-zero (at + m) heap)
-      go (suc n) e = part-later (total * 3) (at + m) (suc n) heap′ heap (omega (arith, d .few, few, w .apart, e)) (d .behind)
+      go (suc n) e = part-behind (total * 3) (at + m) (suc n) heap′ heap (omega (arith, d .few, few, w .apart, e)) (d .behind)
 
   pub measure-rest : Measure c heap′ total (at + m) (count - m)
   measure-rest = record {
@@ -138,7 +137,7 @@ measured-next c h bound before total total′ at count j m heap₀ heap heap′ 
     kept : (n : ℕ) → m ≡ n → part (at + j) n heap ≡ part (at + j) n heap₀
     kept zero e = part-zero (at + j) heap ∙ sym (part-zero (at + j) heap₀)
     kept (suc n) e =
-        part-later (total * 3) (at + j) (suc n) heap heap₀
+        part-behind (total * 3) (at + j) (suc n) heap heap₀
         (omega (arith, a .few, length-map (part at j heap₀) h, length-part at j heap₀ (let t : at + j ≤ length heap₀ = omega (arith, w .inside, le) in t), w .apart, le, e)) (a .behind)
 
 pub hit-is : (s : Shape) (floats : List Float) (numbers : List ℕ) (query : List Float) (distance′ : Float) (v x r : ℕ) → r ≡ hitOf distance′ (getD numbers v 0) v

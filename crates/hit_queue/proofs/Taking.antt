@@ -1,5 +1,5 @@
 -- Taking hits out of a queue: what was kept so far, and what is still to come. Assumes nothing.
-use Prim.Native.Nat.{ℕ, _+_, _-_, _*_, _/_, _%_, _^_, _≤_, _<_}
+use Prim.Native.Nat.{ℕ, _+_, _-_, _*_, _/_, _^_, _≤_, _<_}
 use native.Mathlib.Nat.{zero-add}
 use native.Mathlib.Omega.{arith}
 use mathlib.Core.Path.{_≡_, refl, sym, ap, ap₂, _∙_}
@@ -15,8 +15,8 @@ use Rattle.order.specs.Records.{value, records, Heap}
 use Rattle.order.specs.RecordsLaws.{value-is, records-zero}
 use Rattle.order.specs.Queue.{Popped}
 use Rattle.distance.specs.TotalOrder.{ofKey}
-use Rattle.walk.specs.Answer.{documentOf, distanceOf, dropAfter, dropRepeats}
-use Rattle.walk.specs.AnswerLaws.{drop-nil, drop-same, drop-other, repeats-nil, repeats-cons}
+use Rattle.walk.specs.Answer.{documentOf, distanceOf, dropAfter}
+use Rattle.walk.specs.AnswerLaws.{drop-nil, drop-same, drop-other}
 use Rattle.hit_queue.specs.Hits.{rankedQueue, Takes}
 use Rattle.hit_queue.specs.HitsLaws.{repeats-after, document-popped}
 

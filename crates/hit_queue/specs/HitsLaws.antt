@@ -6,8 +6,7 @@ use mathlib.Core.Logic.{_⊎_, inl, inr}
 use mathlib.Core.Bool.{Bool, true, false, _&&_, cond}
 use mathlib.Core.List.{List, [], _∷_, _++_, map, map-map, map-id}
 use lib.Dec.{ltb, eqb}
-use lib.ListN.{getD, take, drop}
-use lib.Seq.{drop-drop}
+use lib.ListN.{getD, drop}
 use lib.Ieee.{Float}
 use Rattle.lists.specs.Counting.{which, keep-nil, keep-pass, keep-fail, keep-all}
 use Rattle.lists.specs.Lists.{part, keep}
@@ -87,15 +86,6 @@ document-popped r h = ap documentOf (value-is r) ∙ (let t : (r .key * 2 ^ 64 +
 
 pub key-is : (r : Record) → r .rest < 2 ^ 64 → value r / 2 ^ 64 ≡ r .key
 key-is r h = ap (λ (n : ℕ). n / 2 ^ 64) (value-is r) ∙ (let t : (r .key * 2 ^ 64 + r .rest) / 2 ^ 64 ≡ r .key = omega arith in t)
-
--- what stands behind a place is the same
-pub drop-more : (n m : ℕ) (a b : List ℕ) → n ≤ m → drop n a ≡ drop n b → drop m a ≡ drop m b
-drop-more n m a b h e =
-    let split : n + (m - n) ≡ m = omega arith in
-    ap (λ (k : ℕ). drop k a) (sym split) ∙ sym (drop-drop (m - n) n a) ∙ ap (drop (m - n)) e ∙ drop-drop (m - n) n b ∙ ap (λ (k : ℕ). drop k b) split
-
-pub part-later : (n at c : ℕ) (a b : List ℕ) → n ≤ at → drop n a ≡ drop n b → part at c a ≡ part at c b
-part-later n at c a b h e = ap (take c) (drop-more n at a b h e)
 
 -- the front of the numbers that are to be measured
 pub measure-front : (c : Counts) (heap : List ℕ) (before at count m : ℕ) → m ≤ count → Measure c heap before at count → Measure c heap before at m

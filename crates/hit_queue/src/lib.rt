@@ -435,43 +435,6 @@ fn measure_one(
     push_within(heap, count, bound, record)
 }
 
-// Adds the hits of as many vectors as there are numbers from a place on, one at a time.
-fn measure_rest(
-    shape: Shape,
-    counts: Counts,
-    floats: &[f32],
-    numbers: &[u32],
-    heap: &mut [u32],
-    count: usize,
-    query: &[f32],
-    bound: u32,
-    at: usize,
-    left: usize,
-) -> usize
-    requires { ⌜ FloatsLent shape (now floats) ⌝ }
-    requires { ⌜ NumbersLent shape counts (now numbers) ⌝ }
-    requires { ⌜ Measure counts (now heap) count at left ⌝ }
-    ensures { λ r. ⌜ Measured bound (hitsOf shape (now (floats .entry)) (now (numbers .entry)) (now (query .entry)) (part at left (now (heap .entry)))) count (now (heap .entry)) r (now (heap .exit)) ⌝ }
-{
-    let mut total = count;
-    let mut j = 0;
-    while j < left {
-        total = measure_one(
-            shape,
-            counts,
-            floats,
-            numbers,
-            heap,
-            total,
-            query,
-            bound,
-            at + j,
-        );
-        j += 1;
-    }
-    total
-}
-
 // Makes the queue of those hits whose key is at most the bound, of the vectors whose numbers stand from a place on; four vectors are measured at a
 // time. The queue grows behind the numbers that are still to be read.
 pub fn measure(
@@ -492,32 +455,37 @@ pub fn measure(
 {
     let mut queued = 0;
     let mut j = 0;
-    while 4 <= found - j {
-        queued = measure_four(
-            shape,
-            counts,
-            floats,
-            numbers,
-            heap,
-            queued,
-            query,
-            bound,
-            from + j,
-        );
-        j += 4;
+    while j < found {
+        let at = from + j;
+        if 4 <= found - j {
+            queued = measure_four(
+                shape,
+                counts,
+                floats,
+                numbers,
+                heap,
+                queued,
+                query,
+                bound,
+                at,
+            );
+            j += 4;
+        } else {
+            queued = measure_one(
+                shape,
+                counts,
+                floats,
+                numbers,
+                heap,
+                queued,
+                query,
+                bound,
+                at,
+            );
+            j += 1;
+        }
     }
-    measure_rest(
-        shape,
-        counts,
-        floats,
-        numbers,
-        heap,
-        queued,
-        query,
-        bound,
-        from + j,
-        found - j,
-    )
+    queued
 }
 
 // What was taken of a queue: how many hits, how many records are left, and the last document id, or 2 ^ 32 before the first.

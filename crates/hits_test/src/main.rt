@@ -56,17 +56,17 @@ fn fill_and_print(ids: &[u32], distances: &[f32], count: usize) {
     print_filled(fill([held; 8], ids, distances, count));
 }
 
-// The index with an echo added under a document id; a refused call leaves it.
+// The index with a vector added under a document id; a refused call leaves it.
 fn added(
     index: CuratorIndex,
     floats: &mut [f32],
     numbers: &mut [u32],
     hashes: &mut [u64],
     doc_id: u32,
-    echo: &[f32],
+    vector: &[f32],
 ) -> CuratorIndex {
     let one = [1u8];
-    let changed = index.add(floats, numbers, hashes, doc_id, echo, &one, b"a");
+    let changed = index.add(floats, numbers, hashes, doc_id, vector, &one, b"a");
     match changed {
         Changed::Index(next) => next,
         Changed::Refused(refusal) => index,

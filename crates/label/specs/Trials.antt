@@ -1,4 +1,4 @@
--- Values beside document 01's trial echoes (those are crates/trial_echoes/specs/Table.antt): two of the published FNV-1a vectors, and a filter.
+-- Values beside document 01's trial echoes (those are crates/trial_table/specs/Table.antt): two of the published FNV-1a vectors, and a filter.
 use mathlib.Core.List.{[], _∷_}
 use mathlib.Core.Path.{_≡_, refl, _∙_}
 use Rattle.label.specs.Fnv.{fnv}

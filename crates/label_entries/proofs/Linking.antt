@@ -5,6 +5,7 @@ use mathlib.Core.List.{List, [], _∷_, _++_, map}
 use native.Mathlib.Omega.{arith}
 use lib.ListN.{length, getD, set, take, drop, length-take, length-drop, length-append, length-map, length-set}
 use lib.Seq.{sets, drop-length, drop-cons, take-take, drop-drop, drop-set-lt, getD-set-same, length-take-le}
+use Rattle.lists.specs.Maps.{getD-map}
 use Rattle.lists.specs.Lists.{part, countFrom}
 use Rattle.lists.specs.Counting.{sumOf, length-countFrom, getD-countFrom}
 use Rattle.lists.specs.Parts.{part-cons, part-set-before, drop-take, sets-append, sets-comm}
@@ -14,14 +15,9 @@ use Rattle.label_entries.specs.Passes.{cell, cells, Counts}
 pub length-cells : (at rows : ℕ) (l : List ℕ) → length (cells at rows l) ≡ rows
 length-cells at rows l = length-map (countFrom 0 rows) (cell at l) ∙ length-countFrom 0 rows
 
-getD-map-in : (f : ℕ → ℕ) (l : List ℕ) (i : ℕ) → i < length l → getD (map f l) i 0 ≡ f (getD l i 0)
-getD-map-in f [] i h = absurd (omega arith)
-getD-map-in f (x ∷ l) zero h = refl
-getD-map-in f (x ∷ l) (suc i) h = getD-map-in f l i (let k : i < length l = omega arith in k)
-
 pub getD-cells : (at rows : ℕ) (l : List ℕ) (i : ℕ) → i < rows → getD (cells at rows l) i 0 ≡ cell at l i
 getD-cells at rows l i h =
-    getD-map-in (cell at l) (countFrom 0 rows) i (let n = length-countFrom 0 rows in omega arith)
+    getD-map (cell at l) (countFrom 0 rows) i 0 0 (let n = length-countFrom 0 rows in omega arith)
     ∙ ap (cell at l) (getD-countFrom 0 rows i 0 h ∙ (let e : 0 + i ≡ i = omega arith in e))
 
 -- every node but the roots has been linked

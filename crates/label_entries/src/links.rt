@@ -1,7 +1,7 @@
 // The child links of the nodes.
 ghost use mathlib.Core.Path.{_≡_};
-ghost use Prim.Native.Nat.{ℕ, _+_, _*_, _<_, _≤_, _^_};
-ghost use lib.ListN.{length, drop};
+ghost use Prim.Native.Nat.{_+_, _*_, _<_, _≤_, _^_};
+ghost use lib.ListN.{drop};
 ghost use lib.Seq.{sets};
 ghost use Rattle.tree.specs.Links.{linkUp};
 ghost use Rattle.label_entries.specs.Passes.{cells, column, blockStart, Counts};

@@ -1,14 +1,14 @@
 -- Laws of `part` (reading a run of elements) and of lib.Seq's `sets` (writing one), and what a lent part that comes back is.
 --
 -- In order: a part's length and elements, parts of parts, of `_++_` and after a store; a run of stores, read element by
--- element, before, in and after it, by `take`, `drop` and `part`; two runs; a part that is written back; lent parts; one element and four.
+-- element, before, in and after it, by `take`, `drop` and `part`; two runs; a part that is written back; lent parts; what stands behind a place; one element and four.
 use mathlib.Core.Path.{_≡_, refl, sym, ap, ap₂, _∙_}
 use mathlib.Core.Logic.{_⊎_, inl, inr}
 use Prim.Native.Nat.{ℕ, zero, suc, _+_, _-_, _≤_, _<_}
 use native.Mathlib.Nat.{not-suc-le-zero, le-of-suc-le-suc, add-zero, zero-add, add-suc, sub-zero, zero-sub, suc-sub-suc, le-of-eq}
 use native.Mathlib.Omega.{arith}
 use mathlib.Core.List.{List, [], _∷_, _++_, map, append-assoc}
-use lib.ListN.{length, getD, set, take, drop, length-set, length-drop, take-append-drop}
+use lib.ListN.{length, getD, set, take, drop, length-set, length-drop, length-append, take-append-drop}
 use lib.Seq.{sets, sets-eq, slice, length-sets, length-take-le, take-length, take-nil, drop-nil, take-suc, drop-cons, take-append-seam, take-append-le, drop-append-le, drop-append-add, drop-at, getD-set-same, getD-set-other, set-set, set-comm, take-set-le, take-set-lt, drop-set-lt, drop-set-add, getD-take, getD-drop, take-take, drop-drop, take-add, ext-getD}
 use Rattle.lists.specs.Lists.{part}
 
@@ -295,6 +295,30 @@ module _ {ℓ} {A : Type ℓ} where
   pub lent-front : (l : List A) (e : ℕ) (ys : List A) → e ≤ length l → length ys ≡ e → ys ++ drop e l ≡ sets l zero ys
   lent-front l e ys g n =
       sym (sets-eq ys l zero (omega arith) ∙ ap (λ (k : ℕ). ys ++ drop k l) (zero-add (length ys) ∙ n))
+
+-- ---- what stands behind a place
+
+module _ {ℓ} {A : Type ℓ} where
+  pub drop-more : (n m : ℕ) (a b : List A) → n ≤ m → drop n a ≡ drop n b → drop m a ≡ drop m b
+  drop-more n m a b h e =
+      let split : n + (m - n) ≡ m = omega arith in
+      ap (λ (k : ℕ). drop k a) (sym split) ∙ sym (drop-drop (m - n) n a) ∙ ap (drop (m - n)) e ∙ drop-drop (m - n) n b ∙ ap (λ (k : ℕ). drop k b) split
+
+  pub getD-behind : (n i : ℕ) (a b : List A) (d : A) → n ≤ i → drop n a ≡ drop n b → getD a i d ≡ getD b i d
+  getD-behind n i a b d h e =
+      let split : n + (i - n) ≡ i = omega arith in
+      ap (λ (k : ℕ). getD a k d) (sym split) ∙ sym (getD-drop n a (i - n) d) ∙ ap (λ (t : List A). getD t (i - n) d) e ∙ getD-drop n b (i - n) d
+      ∙ ap (λ (k : ℕ). getD b k d) split
+
+  pub part-behind : (n at c : ℕ) (a b : List A) → n ≤ at → drop n a ≡ drop n b → part at c a ≡ part at c b
+  part-behind n at c a b h e = ap (take c) (drop-more n at a b h e)
+
+  -- what was lent as the front of a list and came back is within it, and is read as it came back
+  pub front-room : (ys rest : List A) (n : ℕ) → length ys ≡ n → n ≤ length (ys ++ rest)
+  front-room ys rest n e = omega (arith, length-append ys rest, e)
+
+  pub front-back : (l ys : List A) (n m : ℕ) → length ys ≡ n → m ≡ n → take m (ys ++ drop m l) ≡ ys
+  front-back l ys n m e g = ap (λ (k : ℕ). take k (ys ++ drop m l)) (g ∙ sym e) ∙ take-append-seam ys (drop m l)
 
 -- ---- what a function gives for one element, and for four
 

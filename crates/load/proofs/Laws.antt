@@ -2,13 +2,12 @@
 use Prim.Native.Nat.{ℕ, _+_, _-_, _*_, _≤_, _<_}
 use native.Mathlib.Omega.{arith}
 use mathlib.Core.Bool.{Bool, true, false, cond}
-use mathlib.Core.List.{List, [], _∷_, _++_, map}
+use mathlib.Core.List.{List, [], _∷_, map}
 use mathlib.Core.Path.{_≡_, refl, sym, ap, _∙_, subst}
 use borrow.Author.Tests.{lt-ltb, le-ltb, le-leb, lt-leb}
 use lib.Dec.{leb}
 use lib.Ieee.{Float, binary32, ofBits}
-use lib.ListN.{length, take, drop, length-append, length-take, length-map}
-use lib.Seq.{take-append-seam}
+use lib.ListN.{length, take, drop, length-take, length-map}
 use types.Run.{OneOf, miss}
 use denote.Enum.Declared.{tagOf}
 use Rattle.echo_file.proofs.Located.{the-type as located-type}
@@ -21,7 +20,7 @@ use Rattle.curator.specs.declared.refusal.Refusal.the-variants.{Settings, Input
 use Rattle.curator.specs.declared.refusal.SettingsRefusal.the-variants.{InvalidConfig}
 use Rattle.curator.specs.declared.refusal.InputRefusal.the-variants.{BadRecord, SettingsOrder, FileTooLong}
 use Rattle.curator.specs.Changes.{AddCall, Adds, Builds}
-use Rattle.curator.specs.Searches.{SearchCall, everything, labelled, Searches}
+use Rattle.curator.specs.Searches.{SearchCall, Asked, everything, labelled, Searches}
 use Rattle.echo_file.specs.Format as format
 use Rattle.echo_file.specs.Format.{Bytes, Begins}
 use Rattle.echo_file.specs.FieldLaws.{bytes-drop, length-numbers}
@@ -41,7 +40,7 @@ use Rattle.load.specs.File.{addCall}
 use Rattle.load.specs.declared.carry.Floats.{Floats}
 use Rattle.load.specs.declared.carry.Floats.the-variants.{Absent, At}
 use Rattle.load.specs.Step.{Lent, known, openedBy, addedBy, foundBy, searchWith, searchEnd, SearchesBuilt, Keeps, CarriesOut, CarriesRead, CarriesAt, Carries}
-use Rattle.load.specs.Code.{floatsOf, floatsAt, EchoAt, CarriesFirst, CarriesNext}
+use Rattle.load.specs.Code.{asking, floatsOf, floatsAt, ComponentsAt, CarriesFirst, CarriesNext}
 
 -- ---- settings
 
@@ -90,16 +89,17 @@ build-refused index call next lent lent′ answer r b e i d =
       searches = (refl, refl, i, d);
     }
 
-pub build-searched : (index : CuratorIndex) (call : Lent → SearchCall) (next : ℕ) (lent lent′ : Lent) (answer : Changed) (ready : CuratorIndex) (work : List ℕ)
-    (reply : Reply) (carried : Carried) → Builds index (lent .store) (lent .work) answer (lent′ .store) work → answer ≡ Changed′.Index ready
-    → Searches ready (lent′ .store) work (call lent) (searchEnd reply lent′) → carried ≡ foundBy ready reply next
-    → SearchesBuilt index call next lent carried lent′
-build-searched index call next lent lent′ answer ready work reply carried b e s k =
+pub build-searched : (index : CuratorIndex) (query : List Float) (k : ℕ) (filtered : Bool) (label : List ℕ) (asked : Asked) (next : ℕ) (lent lent′ : Lent)
+    (answer : Changed) (ready : CuratorIndex) (work : List ℕ) (reply : Reply) (carried : Carried) → asking filtered label ≡ asked
+    → Builds index (lent .store) (lent .work) answer (lent′ .store) work → answer ≡ Changed′.Index ready
+    → Searches ready (lent′ .store) work (searchWith query k asked lent) (searchEnd reply lent′) → carried ≡ foundBy ready reply next
+    → SearchesBuilt index (searchWith query k (asking filtered label)) next lent carried lent′
+build-searched index query k filtered label asked next lent lent′ answer ready work reply carried a b e s f =
     record {
       answer = Changed′.Index ready;
       work = work;
       builds = subst (λ (x : Changed). Builds index (lent .store) (lent .work) x (lent′ .store) work) e b;
-      searches = (reply, s, k);
+      searches = (reply, subst (λ (x : Asked). Searches ready (lent′ .store) work (searchWith query k x lent) (searchEnd reply lent′)) (sym a) s, f);
     }
 
 -- ---- a record after the settings
@@ -109,17 +109,17 @@ module _ (index : CuratorIndex) (file : List ℕ) (at : ℕ) (lent : Lent) (carr
       → Keeps lent (Refused (Input SettingsOrder)) carried lent′ → CarriesNext index file at lent carried lent′
   settings-carried d b l e w next s k = stands-carried file at (Running index) lent carried lent′ (format.settings d b l e w) next s k
 
-  pub vector-carried : (document lengths-at labels-at floats-at next : ℕ) (echo : List Float) (answer : Changed)
-      → VectorStands (known (Running index)) file at document lengths-at labels-at floats-at next → echo ≡ floatsAt index file floats-at
+  pub vector-carried : (document lengths-at labels-at floats-at next : ℕ) (components : List Float) (answer : Changed)
+      → VectorStands (known (Running index)) file at document lengths-at labels-at floats-at next → components ≡ floatsAt index file floats-at
       → Adds index (lent .store)
-      (record { document = document; vector = echo; lengths = between lengths-at labels-at file; bytes = between labels-at floats-at file })
+      (record { document = document; vector = components; lengths = between lengths-at labels-at file; bytes = between labels-at floats-at file })
       answer
       (lent′ .store)
       → lent′ .work ≡ lent .work → lent′ .ids ≡ lent .ids → lent′ .distances ≡ lent .distances → carried ≡ addedBy answer next
       → CarriesNext index file at lent carried lent′
-  vector-carried document lengths-at labels-at floats-at next echo answer v e a w i d k =
+  vector-carried document lengths-at labels-at floats-at next components answer v e a w i d k =
       let patterns = patternsAt (known (Running index)) file floats-at in
-      let same : record { document = document; vector = echo; lengths = between lengths-at labels-at file; bytes = between labels-at floats-at file }
+      let same : record { document = document; vector = components; lengths = between lengths-at labels-at file; bytes = between labels-at floats-at file }
       ≡ addCall document (v .labels) patterns =
       λ j. record { document = document; vector = e j; lengths = v .lengths j; bytes = v .bytes j } in
       stands-carried file at (Running index) lent carried lent′ (format.vector document (v .labels) patterns) next (v .stands)
@@ -132,21 +132,21 @@ module _ (index : CuratorIndex) (file : List ℕ) (at : ℕ) (lent : Lent) (carr
         comes = k;
       })
 
-  pub label-carried : (k label-at floats-at next : ℕ) (echo : List Float) → FilteredStands (known (Running index)) file at k label-at floats-at next
-      → echo ≡ floatsAt index file floats-at
-      → SearchesBuilt index (searchWith echo k (labelled (between label-at floats-at file))) next lent carried lent′
+  pub label-carried : (k label-at floats-at next : ℕ) (components : List Float) → FilteredStands (known (Running index)) file at k label-at floats-at next
+      → components ≡ floatsAt index file floats-at
+      → SearchesBuilt index (searchWith components k (labelled (between label-at floats-at file))) next lent carried lent′
       → CarriesNext index file at lent carried lent′
-  label-carried k label-at floats-at next echo v e s =
+  label-carried k label-at floats-at next components v e s =
       stands-carried file at (Running index) lent carried lent′
       (format.filtered k (between label-at floats-at file) (patternsAt (known (Running index)) file floats-at))
       next
       (v .stands)
       (subst (λ (q : List Float). SearchesBuilt index (searchWith q k (labelled (between label-at floats-at file))) next lent carried lent′) e s)
 
-  pub all-carried : (k floats-at next : ℕ) (echo : List Float) → SearchStands (known (Running index)) file at k floats-at next
-      → echo ≡ floatsAt index file floats-at → SearchesBuilt index (searchWith echo k everything) next lent carried lent′
+  pub all-carried : (k floats-at next : ℕ) (components : List Float) → SearchStands (known (Running index)) file at k floats-at next
+      → components ≡ floatsAt index file floats-at → SearchesBuilt index (searchWith components k everything) next lent carried lent′
       → CarriesNext index file at lent carried lent′
-  all-carried k floats-at next echo v e s =
+  all-carried k floats-at next components v e s =
       stands-carried file at (Running index) lent carried lent′ (format.unfiltered k (patternsAt (known (Running index)) file floats-at)) next (v .stands)
       (subst (λ (q : List Float). SearchesBuilt index (searchWith q k everything) next lent carried lent′) e s)
 
@@ -185,15 +185,6 @@ first-misplaced file at lent carried (Vector document lengths-at labels-at float
 first-misplaced file at lent carried (Filtered n label-at floats-at next) o s k = stands-carried file at Unset lent carried lent _ next (s .stands) (k, refl)
 first-misplaced file at lent carried (Search n floats-at next) o s k = stands-carried file at Unset lent carried lent _ next (s .stands) (k, refl)
 
--- ---- a part of an array
-
--- what was lent as the front of a list and came back is within it, and is read as it came back
-pub front-room : (ys rest : List Float) (n : ℕ) → length ys ≡ n → n ≤ length (ys ++ rest)
-front-room ys rest n e = omega (arith, length-append ys rest, e)
-
-pub front-back : (l ys : List Float) (n m : ℕ) → length ys ≡ n → m ≡ n → take m (ys ++ drop m l) ≡ ys
-front-back l ys n m e g = ap (λ (k : ℕ). take k (ys ++ drop m l)) (g ∙ sym e) ∙ take-append-seam ys (drop m l)
-
 -- ---- the place in the file
 
 module _ (file : List ℕ) (at : ℕ) (loading : Loading) where
@@ -231,18 +222,18 @@ module _ (file : List ℕ) (at : ℕ) (loading : Loading) where
 front-length : (l : List Float) (n : ℕ) → n ≤ length l → length (take (n - 0) l) ≡ n
 front-length l n h = omega (arith, h, length-take (n - 0) l)
 
-pub echo-read : (l out : List Float) (file : List ℕ) (place n : ℕ) → n ≤ length l
+pub components-read : (l out : List Float) (file : List ℕ) (place n : ℕ) → n ≤ length l
     → out ≡ map (ofBits binary32) (numbers (length (take (n - 0) l)) (drop place file)) → out ≡ map (ofBits binary32) (numbers n (drop place file))
-echo-read l out file place n h e = e ∙ ap (λ (k : ℕ). map (ofBits binary32) (numbers k (drop place file))) (front-length l n h)
+components-read l out file place n h e = e ∙ ap (λ (k : ℕ). map (ofBits binary32) (numbers k (drop place file))) (front-length l n h)
 
-pub echo-length : (l out : List Float) (file : List ℕ) (place n : ℕ) → n ≤ length l
+pub components-length : (l out : List Float) (file : List ℕ) (place n : ℕ) → n ≤ length l
     → out ≡ map (ofBits binary32) (numbers (length (take (n - 0) l)) (drop place file)) → length out ≡ n
-echo-length l out file place n h e =
-    ap length (echo-read l out file place n h e) ∙ length-map (numbers n (drop place file)) (ofBits binary32) ∙ length-numbers n (drop place file)
+components-length l out file place n h e =
+    ap length (components-read l out file place n h e) ∙ length-map (numbers n (drop place file)) (ofBits binary32) ∙ length-numbers n (drop place file)
 
 pub written-text : {l m : List ℕ} {i j : ℕ} {xs ys : List ℕ} → xs ≡ ys → Written l i xs m j → Written l i ys m j
 written-text {l} {m} {i} {j} e w = subst (λ (t : List ℕ). Written l i t m j) e w
 
-pub echo-at : (index : CuratorIndex) (file : List ℕ) (located : Located) (echo : List Float) (place : ℕ) → floatsOf located ≡ At place
-    → echo ≡ floatsAt index file place → EchoAt index file (floatsOf located) echo
-echo-at index file located echo place e h = subst (λ (x : Floats). EchoAt index file x echo) (sym e) h
+pub components-at : (index : CuratorIndex) (file : List ℕ) (located : Located) (components : List Float) (place : ℕ) → floatsOf located ≡ At place
+    → components ≡ floatsAt index file place → ComponentsAt index file (floatsOf located) components
+components-at index file located components place e h = subst (λ (x : Floats). ComponentsAt index file x components) (sym e) h

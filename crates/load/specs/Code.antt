@@ -1,5 +1,6 @@
 -- What the functions of the code promise; `Steps` is made of it.
 use Prim.Native.Nat.{ℕ, _≤_}
+use mathlib.Core.Bool.{Bool, true, false}
 use mathlib.Core.List.{List}
 use mathlib.Core.Path.{_≡_}
 use lib.Ieee.{Float}
@@ -7,6 +8,7 @@ use lib.ListN.{length, drop}
 use denote.Ref.{RefT, now}
 use Rattle.curator.specs.declared.CuratorIndex.{CuratorIndex}
 use Rattle.curator.specs.Lent as curator
+use Rattle.curator.specs.Searches.{Asked, everything, labelled}
 use Rattle.echo_file.specs.declared.Located.{Located}
 use Rattle.echo_file.specs.declared.Located.the-variants.{Settings, Vector, Filtered, Search}
 use Rattle.echo_file.specs.declared.Reading.the-variants.{Found}
@@ -27,6 +29,11 @@ use Rattle.load.specs.Step.{Lent, known, CarriesRead}
 abbrev pub lists : RefT (List Float) → RefT (List ℕ) → RefT (List ℕ) → RefT (List ℕ) → RefT (List ℕ) → RefT (List Float) → Lent
 lists floats numbers hashes work ids distances =
     record { store = curator.lent floats numbers hashes; work = now work; ids = now ids; distances = now distances }
+
+-- what a search asks for: a label where it is filtered
+abbrev pub asking : Bool → List ℕ → Asked
+asking true label = labelled label
+asking false label = everything
 
 -- an index that a load opened: its vectors have at most 16 components
 abbrev pub Narrow : Loading → Type 0
@@ -55,14 +62,14 @@ floatsOf (Search k floats-at next) = At floats-at
 abbrev pub floatsAt : CuratorIndex → List ℕ → ℕ → List Float
 floatsAt index file at = floats (patternsAt (known (Running index)) file at)
 
-abbrev pub EchoAt : CuratorIndex → List ℕ → Floats → List Float → Type 0
-EchoAt index file Absent echo = Unit {0}
-EchoAt index file (At place) echo = echo ≡ floatsAt index file place
+abbrev pub ComponentsAt : CuratorIndex → List ℕ → Floats → List Float → Type 0
+ComponentsAt index file Absent components = Unit {0}
+ComponentsAt index file (At place) components = components ≡ floatsAt index file place
 
 -- a record that was read, and its floats
-pub record Echoes (index : CuratorIndex) (file : List ℕ) (at : ℕ) (located : Located) (echo : List Float) : Type 0 where
+pub record WithComponents (index : CuratorIndex) (file : List ℕ) (at : ℕ) (located : Located) (components : List Float) : Type 0 where
   pub reads : Reads (known (Running index)) file at (Found located)
-  pub same : EchoAt index file (floatsOf located) echo
+  pub same : ComponentsAt index file (floatsOf located) components
 
 -- the first record, which no list is lent to, and one after the settings
 abbrev pub CarriesFirst : List ℕ → ℕ → Carried → Type 0

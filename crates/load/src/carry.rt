@@ -2,10 +2,9 @@
 ghost use mathlib.Core.Path.{_≡_};
 ghost use Prim.Native.Nat.{_≤_};
 ghost use Rattle.curator.specs.Changes.{created};
-ghost use Rattle.curator.specs.Searches.{everything, labelled};
 ghost use Rattle.load.specs.File.{capacities};
 ghost use Rattle.load.specs.Step.{Carries, SearchesBuilt, searchWith, openedBy, addedBy, foundBy};
-ghost use Rattle.load.specs.Code.{lists, Narrow, floatsOf, Echoes, CarriesFirst, CarriesNext};
+ghost use Rattle.load.specs.Code.{lists, asking, Narrow, floatsOf, WithComponents, CarriesFirst, CarriesNext};
 use crate::Loading;
 use curator::Capacities;
 use curator::Changed;
@@ -123,10 +122,11 @@ fn carry_first(file: &[u8], at: usize) -> Carried
     open(dimension, params, next)
 }
 
-// Builds, and looks up the nearest with a label.
-fn search_label(
+// Builds, and looks up the nearest: with a label where the search is filtered, else among all.
+fn look_up(
     index: CuratorIndex,
     query: &[f32],
+    filtered: bool,
     label: &[u8],
     k: usize,
     next: usize,
@@ -137,7 +137,7 @@ fn search_label(
     ids: &mut [u32],
     distances: &mut [f32],
 ) -> Carried
-    ensures { λ r. ⌜ SearchesBuilt index (searchWith (now (query .entry)) k (labelled (now (label .entry)))) next
+    ensures { λ r. ⌜ SearchesBuilt index (searchWith (now (query .entry)) k (asking filtered (now (label .entry)))) next
         (lists (floats .entry) (numbers .entry) (hashes .entry) (work .entry) (ids .entry) (distances .entry)) r
         (lists (floats .exit) (numbers .exit) (hashes .exit) (work .exit) (ids .exit) (distances .exit)) ⌝ }
 {
@@ -145,44 +145,21 @@ fn search_label(
     match built {
         Changed::Refused(refusal) => Carried::Refused(refusal),
         Changed::Index(ready) => {
-            let answer = search::search_filtered(
-                ready,
-                floats,
-                numbers,
-                hashes,
-                work,
-                query,
-                label,
-                k,
-                ids,
-                distances,
-            );
-            found(ready, answer, next)
-        }
-    }
-}
-
-// Builds, and looks up the nearest.
-fn search_all(
-    index: CuratorIndex,
-    query: &[f32],
-    k: usize,
-    next: usize,
-    floats: &mut [f32],
-    numbers: &mut [u32],
-    hashes: &mut [u64],
-    work: &mut [u32],
-    ids: &mut [u32],
-    distances: &mut [f32],
-) -> Carried
-    ensures { λ r. ⌜ SearchesBuilt index (searchWith (now (query .entry)) k everything) next
-        (lists (floats .entry) (numbers .entry) (hashes .entry) (work .entry) (ids .entry) (distances .entry)) r
-        (lists (floats .exit) (numbers .exit) (hashes .exit) (work .exit) (ids .exit) (distances .exit)) ⌝ }
-{
-    let built = build::build(index, floats, numbers, hashes, work);
-    match built {
-        Changed::Refused(refusal) => Carried::Refused(refusal),
-        Changed::Index(ready) => {
+            if filtered {
+                let answer = search::search_filtered(
+                    ready,
+                    floats,
+                    numbers,
+                    hashes,
+                    work,
+                    query,
+                    label,
+                    k,
+                    ids,
+                    distances,
+                );
+                return found(ready, answer, next);
+            }
             let answer = search::search(
                 ready,
                 floats,
@@ -199,13 +176,13 @@ fn search_all(
     }
 }
 
-// Carries out a record whose floats are `echo`.
+// Carries out a record whose floats are `components`.
 fn carry_located(
     index: CuratorIndex,
     file: &[u8],
     at: usize,
     located: Located,
-    echo: &[f32],
+    components: &[f32],
     floats: &mut [f32],
     numbers: &mut [u32],
     hashes: &mut [u64],
@@ -213,20 +190,13 @@ fn carry_located(
     ids: &mut [u32],
     distances: &mut [f32],
 ) -> Carried
-    requires { ⌜ Echoes index (now file) at located (now echo) ⌝ }
+    requires { ⌜ WithComponents index (now file) at located (now components) ⌝ }
     ensures { λ r. ⌜ CarriesNext index (now (file .entry)) at
         (lists (floats .entry) (numbers .entry) (hashes .entry) (work .entry) (ids .entry) (distances .entry)) r
         (lists (floats .exit) (numbers .exit) (hashes .exit) (work .exit) (ids .exit) (distances .exit)) ⌝ }
 {
     match located {
-        Located::Settings {
-            dimension,
-            branching_factor,
-            max_leaf_size,
-            ef_search,
-            beam_width,
-            next,
-        } => Carried::Refused(Refusal::Input(InputRefusal::SettingsOrder)),
+        Located::Settings { .. } => Carried::Refused(Refusal::Input(InputRefusal::SettingsOrder)),
         Located::Vector {
             doc_id,
             lengths_at,
@@ -236,7 +206,7 @@ fn carry_located(
         } => {
             let lengths = &file[lengths_at..labels_at];
             let labels = &file[labels_at..floats_at];
-            let answer = index.add(floats, numbers, hashes, doc_id, echo, lengths, labels);
+            let answer = index.add(floats, numbers, hashes, doc_id, components, lengths, labels);
             added(answer, next)
         }
         Located::Filtered {
@@ -246,9 +216,10 @@ fn carry_located(
             next,
         } => {
             let label = &file[label_at..floats_at];
-            search_label(
+            look_up(
                 index,
-                echo,
+                components,
+                true,
                 label,
                 k,
                 next,
@@ -260,9 +231,11 @@ fn carry_located(
                 distances,
             )
         }
-        Located::Search { k, floats_at, next } => search_all(
+        Located::Search { k, next, .. } => look_up(
             index,
-            echo,
+            components,
+            false,
+            b"",
             k,
             next,
             floats,
@@ -285,28 +258,10 @@ fn floats_of(located: Located) -> Floats
     ensures { λ r. ⌜ r ≡ floatsOf located ⌝ }
 {
     match located {
-        Located::Settings {
-            dimension,
-            branching_factor,
-            max_leaf_size,
-            ef_search,
-            beam_width,
-            next,
-        } => Floats::Absent,
-        Located::Vector {
-            doc_id,
-            lengths_at,
-            labels_at,
-            floats_at,
-            next,
-        } => Floats::At(floats_at),
-        Located::Filtered {
-            k,
-            label_at,
-            floats_at,
-            next,
-        } => Floats::At(floats_at),
-        Located::Search { k, floats_at, next } => Floats::At(floats_at),
+        Located::Settings { .. } => Floats::Absent,
+        Located::Vector { floats_at, .. } => Floats::At(floats_at),
+        Located::Filtered { floats_at, .. } => Floats::At(floats_at),
+        Located::Search { floats_at, .. } => Floats::At(floats_at),
     }
 }
 
@@ -340,14 +295,14 @@ fn carry_next(
     };
     let start = 0;
     let end = index.dimension;
-    let mut echo: [f32; 16] = [0.0; 16];
-    read_floats(file, floats_at, &mut echo[start..end]);
+    let mut components: [f32; 16] = [0.0; 16];
+    read_floats(file, floats_at, &mut components[start..end]);
     carry_located(
         index,
         file,
         at,
         located,
-        &echo[start..end],
+        &components[start..end],
         floats,
         numbers,
         hashes,

@@ -40,13 +40,7 @@ fn step_of(carried: Carried, printed: usize) -> Step
             at: next,
             printed,
         },
-        Carried::Answered {
-            index,
-            next,
-            count,
-            opened,
-            whole,
-        } => Step::Next {
+        Carried::Answered { index, next, .. } => Step::Next {
             loading: Loading::Running(index),
             at: next,
             printed,

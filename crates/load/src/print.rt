@@ -15,13 +15,12 @@ pub fn write_carried(out: &mut [u8], carried: Carried, ids: &[u32], distances: &
     match carried {
         Carried::End => 0,
         Carried::Refused(refusal) => text::write_refused(out, 0, refusal.number()),
-        Carried::Silent { loading, next } => 0,
+        Carried::Silent { .. } => 0,
         Carried::Answered {
-            index,
-            next,
             count,
             opened,
             whole,
+            ..
         } => {
             let end = text::write_hits(out, 0, ids, distances, count);
             text::write_closing(out, end, whole, opened)

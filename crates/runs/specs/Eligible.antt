@@ -10,6 +10,7 @@ use borrow.Author.Tests.{eqb-true, eqb-false, eq-eqb, ne-eqb}
 use lib.Dec.{eqb}
 use lib.Ieee.{Float}
 use lib.ListN.{length, getD, replicate}
+use Rattle.lists.specs.Maps.{map-on}
 use Rattle.lists.specs.Lists.{joined, keep, countFrom, isIn}
 use Rattle.lists.specs.Counting.{which, isIn-nil, isIn-later, keep-map, keep-pass, keep-fail, keep-nil, Memᴰ-keep}
 use Rattle.lists.specs.Partition.{hit}
@@ -23,7 +24,7 @@ use Rattle.curator.specs.Searches.{SearchCall}
 use Rattle.runs.specs.Model.{Setting, Model, ModelRow, noRow, rowHashes, rowEntries, ownersFrom, rowHit}
 use Rattle.runs.specs.Theorem.{sameLabel, NoTwo, Distinct, hasLabel, carries, about, rowDistance}
 use Rattle.runs.specs.State.{Allowed, Within, limits}
-use Rattle.runs.specs.Held.{map-same, owners-length}
+use Rattle.runs.specs.Held.{owners-length}
 use Rattle.runs.specs.Due.{due, entries-all}
 
 -- the numbers of the rows that a search is about, from a first number on
@@ -202,7 +203,7 @@ pub ranks-about : (s : Setting) (m : Model) → Allowed s → Within s m → (ca
 ranks-about s m a w call wanted =
     let nums = numbersAbout wanted 0 (m .rows) in
     map-map hitRank (rowHit m (normalized (call .query))) nums
-    ∙ map-same (λ i. hitRank (rowHit m (normalized (call .query)) i)) (λ i. rowRank call (getD (m .rows) i noRow)) nums
+    ∙ map-on (λ i. hitRank (rowHit m (normalized (call .query)) i)) (λ i. rowRank call (getD (m .rows) i noRow)) nums
     (λ i k. rank-hit s m a w call i (number-below wanted m i k))
     ∙ sym (map-map (rowRank call) (λ i. getD (m .rows) i noRow) nums) ∙ ap (map (rowRank call)) (about-is wanted m)
 

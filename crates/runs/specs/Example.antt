@@ -2,7 +2,7 @@
 -- refused calls in between; V 4, E 4, M 5; and M 4, where the build is refused. The premise holds of it, and it has runs.
 use Prim.Native.Nat.{ℕ}
 use native.Mathlib.Omega.{arith}
-use mathlib.Core.Bool.{Bool, true, false}
+use mathlib.Core.Bool.{Bool, true}
 use mathlib.Core.List.{List, [], _∷_, map}
 use mathlib.Core.Path.{_≡_, refl, subst}
 use lib.Ieee.{binary32, ofBits, nan}

@@ -3,11 +3,12 @@
 use Prim.Native.Nat.{ℕ, zero, suc, _+_, _*_, _≤_, _<_}
 use native.Mathlib.Nat.{zero-add, add-zero, mul-comm, le-refl, suc-mul, mul-le-mul-right}
 use native.Mathlib.Omega.{arith}
-use mathlib.Core.List.{List, [], _∷_, _++_, map, map-append, append-nil, append-assoc, List·Memᴰ, List·Memᴰ·head, List·Memᴰ·tail, List·Memᴰ·not-nil, List·Memᴰ·cases-cons, List·Memᴰ·append-cases}
+use mathlib.Core.List.{List, [], _∷_, _++_, map, map-append, append-nil, append-assoc, List·Memᴰ, List·Memᴰ·not-nil, List·Memᴰ·cases-cons, List·Memᴰ·append-cases}
 use mathlib.Core.Path.{_≡_, refl, sym, ap, ap₂, _∙_, subst}
 use lib.Ieee.{Float}
 use lib.ListN.{length, getD, drop, set, replicate, length-append, length-map, length-replicate, length-set}
 use lib.Seq.{sets, length-sets}
+use Rattle.lists.specs.Maps.{map-on}
 use Rattle.lists.specs.Lists.{part, countFrom, joined}
 use Rattle.lists.specs.Counting.{countFrom-snoc, Memᴰ-countFrom, joined-snoc, getD-Memᴰ}
 use Rattle.lists.specs.Parts.{part-sets-same, part-sets-before, part-set-before, part-append-parts}
@@ -30,10 +31,6 @@ pub record Held (s : Setting) (m : Model) (store : Store) : Type 0 where
 abbrev pub SameHeld : Setting → Store → Store → Type 0
 SameHeld s = Agree (centroidsAt (settingShape s)) (orderAt (settingShape s)) (filtersAt (settingShape s))
 
-pub map-same : {A B : Type 0} (f g : A → B) (l : List A) → ((x : A) → List·Memᴰ x l → f x ≡ g x) → map f l ≡ map g l
-map-same f g [] h = refl
-map-same f g (x ∷ xs) h = ap₂ _∷_ (h x (List·Memᴰ·head refl)) (map-same f g xs (λ y m. h y (List·Memᴰ·tail m)))
-
 -- the places of a vector that is held
 pub vector-places : (i n d v : ℕ) → i < n → n ≤ v → i * d + d ≤ d * v
 vector-places i n d v h g =
@@ -52,7 +49,7 @@ held-same s m store store′ w a h =
     let inO : c .vectors + length (rowHashes m) ≤ c .vectors + c .entries = omega (arith, w .entries) in
     record {
       vectors =
-          map-same (vectorAt d (store′ .floats)) (vectorAt d (store .floats)) (countFrom 0 n)
+          map-on (vectorAt d (store′ .floats)) (vectorAt d (store .floats)) (countFrom 0 n)
           (λ i k. sym (part-same (i * d) d (d * c .vectors) (store .floats) (store′ .floats)
           (vector-places i n d (c .vectors) (let r = Memᴰ-countFrom i 0 n k in let t : i < n = omega (arith, r .1) in t) (w .vectors)) (a .floats-same)))
           ∙ h .vectors;
@@ -151,7 +148,7 @@ module _ (s : Setting) (m : Model) (call : AddCall) (store store′ : Store) (ro
       subst (λ (x : ℕ). x * s .capacities .vectors ≤ length (store .floats)) ed (room .floats-long) in
       omega (arith, p, f)) in
       let old : map (vectorAt d (store′ .floats)) (countFrom 0 n) ≡ rowVectors m =
-      map-same (vectorAt d (store′ .floats)) (vectorAt d (store .floats)) (countFrom 0 n)
+      map-on (vectorAt d (store′ .floats)) (vectorAt d (store .floats)) (countFrom 0 n)
       (λ i k. ap (λ (l : List Float). vectorAt d l i) written
       ∙ part-sets-before (i * d) d (store .floats) (n * d) (wrote .stored)
       (let r = Memᴰ-countFrom i 0 n k in let p = vector-places i n d n (omega (arith, r .1)) (le-refl n) in let c = mul-comm d n in omega (arith, p, c)))

@@ -6,6 +6,7 @@ use mathlib.Core.Bool.{true}
 use mathlib.Core.List.{List, [], _∷_, map, map-map, List·Memᴰ, List·Memᴰ·head, List·Memᴰ·tail, List·Memᴰ·not-nil, List·Memᴰ·cases-cons}
 use mathlib.Core.Path.{_≡_, refl, sym, ap, _∙_, subst}
 use lib.ListN.{length, getD}
+use Rattle.lists.specs.Maps.{map-on}
 use Rattle.lists.specs.Counting.{sumOf, sumOf-map, getD-Memᴰ, Memᴰ-keep}
 use Rattle.lists.specs.Partition.{hit, count, count-Memᴰ, Memᴰ-count}
 use Rattle.order.specs.Sorted.{sort}
@@ -24,7 +25,6 @@ use Rattle.curator.specs.Searches.{SearchCall, wantedOf}
 use Rattle.runs.specs.Model.{Setting, Model, ModelRow, noRow, rowHit, treeView}
 use Rattle.runs.specs.Theorem.{Distinct, about, carries, rowDistance}
 use Rattle.runs.specs.State.{Allowed, Within}
-use Rattle.runs.specs.Held.{map-same}
 use Rattle.runs.specs.Reached.{Small}
 use Rattle.runs.specs.Due.{dueBelow, sizeAt, IsNode, sound-tree, root-due}
 use Rattle.runs.specs.Eligible.{numbersAbout, due-about, number-below, rank-hit, ranks-about, rowRank, hitRank, documents-different}
@@ -79,7 +79,7 @@ module _ (s : Setting) (m : Model) (a : Allowed s) (w : Within s m) (d : Distinc
       sym (map-map (λ n. n % 2 ^ 32) hitRank (hitsAbout m call))
       ∙ ap (map (λ n. n % 2 ^ 32)) (ranks-about s m a w call (wantedOf (call .asked)))
       ∙ map-map (λ n. n % 2 ^ 32) (rowRank call) rows
-      ∙ map-same (λ r. rowRank call r % 2 ^ 32) (λ r. r .document) rows (λ r k. rank-document call r (small r (about-rows m (wantedOf (call .asked)) r k)))
+      ∙ map-on (λ r. rowRank call r % 2 ^ 32) (λ r. r .document) rows (λ r k. rank-document call r (small r (about-rows m (wantedOf (call .asked)) r k)))
 
   -- at most what is due was found
   found-part : (b : ℕ) (p : Progress) → walk (searchView s m call) b ≡ going p → (f : ℕ → ℕ) → sumOf f (p .found) ≤ sumOf f (hitsAbout m call)

@@ -10,6 +10,7 @@ use borrow.Author.Tests.{le-leb}
 use lib.Ieee.{Float, nan}
 use lib.ListN.{length, getD, take, length-map}
 use lib.Seq.{sets}
+use Rattle.lists.specs.Maps.{getD-map}
 use Rattle.lists.specs.Counting.{getD-Memᴰ}
 use Rattle.lists.specs.Parts.{getD-sets-in}
 use Rattle.order.specs.Sorted.{sort}
@@ -29,7 +30,6 @@ use Rattle.runs.specs.Model.{Setting, Model, nodeCount, modelNodes, mode
 use Rattle.runs.specs.Run.{Fronts, Call, add, build, search, Ended, changed, found}
 use Rattle.runs.specs.Theorem.{lentBy, modelCheck, expected, after, endNumber, Holds, Matches, AtEach, InPairs, Distinct, NotWorse, Better, withBudget, rowDistance}
 use Rattle.runs.specs.State.{Allowed, Within}
-use Rattle.runs.specs.Views.{getD-map}
 use Rattle.runs.specs.Refusals.{search-room}
 use Rattle.runs.specs.Search.{walk-is}
 use Rattle.runs.specs.Reached.{Ends, Along, Small, Finds, answered-finds, no-found-add, no-found-build, numbered}

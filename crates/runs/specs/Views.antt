@@ -10,6 +10,7 @@ use borrow.Author.Tests.{le-leb, lt-ltb, eq-eqb, ne-eqb}
 use lib.Dec.{ltb, eqb}
 use lib.Ieee.{Float}
 use lib.ListN.{length, getD}
+use Rattle.lists.specs.Maps.{map-on, getD-map}
 use Rattle.lists.specs.Lists.{part, joined, keep, countFrom}
 use Rattle.lists.specs.Counting.{getD-Memᴰ, keep-congr, Memᴰ-keep, getD-countFrom, length-countFrom}
 use Rattle.lists.specs.Parts.{getD-part, part-part}
@@ -34,7 +35,7 @@ use Rattle.walk.specs.StoreViewLaws.{store-shown, store-children-below}
 use Rattle.curator.specs.Calls.{splittingOf}
 use Rattle.runs.specs.Model.{Setting, Model, noRow, noNode, rowHashes, rowVectors, rowEntries, nodeCount, modelNodes, settingShape, rowHit, leafHits, nodeGives, nodeDenies, mostRows, treeView}
 use Rattle.runs.specs.State.{Allowed, Within, limits, some-nodes}
-use Rattle.runs.specs.Held.{Held, map-same, owner-below, owners-length, length-vectors}
+use Rattle.runs.specs.Held.{Held, owner-below, owners-length, length-vectors}
 use Rattle.runs.specs.Refusals.{all-pass}
 use Rattle.runs.specs.Built.{Laid, NodeFacts}
 
@@ -46,11 +47,6 @@ block-held : (start count held : ℕ) → start + count ≤ held → blockHeld s
 unfolding blockHeld
 block-held start zero held h = refl
 block-held start (suc count) held h = le-leb (start + suc count) held h
-
-pub getD-map : {A B : Type 0} (f : A → B) (l : List A) (i : ℕ) (d : A) (e : B) → i < length l → getD (map f l) i e ≡ f (getD l i d)
-getD-map f [] i d e h = absurd (omega arith)
-getD-map f (x ∷ xs) zero d e h = refl
-getD-map f (x ∷ xs) (suc i) d e h = getD-map f xs i d e (omega arith)
 
 -- a choice whose test passes
 chosen : {A : Type 0} (b : Bool) (x y : A) → b ≡ true → cond b x y ≡ x
@@ -199,7 +195,7 @@ module _ (s : Setting) (m : Model) (store : Store) (a : Allowed s) (w : Within s
       let c = builtCounts s m in
       chosen (allPass (λ vector. ltb vector (length (m .rows))) ids) (hits (map (hitAt sh c store query) ids)) damage
       (all-pass (λ vector. ltb vector (length (m .rows))) ids (λ x k. lt-ltb x (length (m .rows)) (below x k)))
-      ∙ ap hits (map-same (hitAt sh c store query) (rowHit m query) ids (λ x k. hit-at query x (below x k)))
+      ∙ ap hits (map-on (hitAt sh c store query) (rowHit m query) ids (λ x k. hit-at query x (below x k)))
 
   owned : (x : ℕ) → x < length (rowHashes m) → getD (rowEntries m .owners) x 0 < length (m .rows)
   owned x h = owner-below m x (subst (λ (n : ℕ). x < n) (sym (owners-length m)) h)
@@ -222,7 +218,7 @@ module _ (s : Setting) (m : Model) (store : Store) (a : Allowed s) (w : Within s
       (λ x k. ap₂ _&&_ (lt-ltb x E (below x k)) (lt-ltb (owner x) n (subst (λ (o : ℕ). o < n) (sym (owner-at x (below x k))) (owned x (below x k))))))
       ∙ ap hits
       (ap (map (λ entry. hitAt sh c store query (owner entry))) (keep-congr has has′ entries (λ x k. ap (λ (h : ℕ). eqb h hash) (hash-at x (below x k))))
-      ∙ map-same (λ entry. hitAt sh c store query (owner entry)) (λ entry. rowHit m query (getD (rowEntries m .owners) entry 0)) (keep has′ entries)
+      ∙ map-on (λ entry. hitAt sh c store query (owner entry)) (λ entry. rowHit m query (getD (rowEntries m .owners) entry 0)) (keep has′ entries)
       (λ x k. let b = below x (Memᴰ-keep has′ x entries k .1) in
       ap (hitAt sh c store query) (owner-at x b) ∙ hit-at query (getD (rowEntries m .owners) x 0) (owned x b)))
 

@@ -7,6 +7,7 @@ use mathlib.Core.List.{List, [], _∷_, map, map-map, List·Memᴰ, List·Memᴰ
 use mathlib.Core.Path.{_≡_, refl, sym, ap, ap₂, _∙_, subst}
 use lib.Ieee.{Float}
 use lib.ListN.{length, take, length-map}
+use Rattle.lists.specs.Maps.{map-on}
 use Rattle.lists.specs.Parts.{part-sets-same}
 use Rattle.lists.specs.Partition.{perm-Memᴰ, perm-of-eq}
 use Rattle.order.specs.Sorted.{sort, Sorted, Least}
@@ -23,7 +24,6 @@ use Rattle.runs.specs.Model.{Setting, Model, ModelRow}
 use Rattle.runs.specs.Run.{Call, add, build, search, Ended, changed, found}
 use Rattle.runs.specs.Theorem.{lentBy, expected, Matches, Distinct, rowDistance, NoLaterRow, InOrder, Reference, FirstOf, WholeIsFirst, Marked}
 use Rattle.runs.specs.State.{Allowed, Within}
-use Rattle.runs.specs.Held.{map-same}
 use Rattle.runs.specs.Refusals.{search-room, SearchRoom}
 use Rattle.runs.specs.Search.{walk-is}
 use Rattle.runs.specs.Reached.{Small, Finds, answered-finds, no-found-add, no-found-build}
@@ -101,16 +101,16 @@ module _ (s : Setting) (m : Model) (a : Allowed s) (w : Within s m) (d : Distinc
         let rows = take (call .k) reference in
         sym (map-map (λ n. n % 2 ^ 32) hitRank (take (call .k) (ranked p))) ∙ ap (map (λ n. n % 2 ^ 32)) first-ranks
         ∙ map-map (λ n. n % 2 ^ 32) (rowRank call) rows
-        ∙ map-same (λ r. rowRank call r % 2 ^ 32) (λ r. r .document) rows (λ r k. rank-document call r (first-low r k))
+        ∙ map-on (λ r. rowRank call r % 2 ^ 32) (λ r. r .document) rows (λ r k. rank-document call r (first-low r k))
 
     first-distances : map distanceOf (take (call .k) (ranked p)) ≡ map (rowDistance call) (take (call .k) reference)
     first-distances =
         let rows = take (call .k) reference in
         let hits = take (call .k) (ranked p) in
-        map-same distanceOf (λ h. ofKey (hitRank h / 2 ^ 32)) hits (λ h k. hit-distance h)
+        map-on distanceOf (λ h. ofKey (hitRank h / 2 ^ 32)) hits (λ h k. hit-distance h)
         ∙ sym (map-map (λ n. ofKey (n / 2 ^ 32)) hitRank hits) ∙ ap (map (λ n. ofKey (n / 2 ^ 32))) first-ranks
         ∙ map-map (λ n. ofKey (n / 2 ^ 32)) (rowRank call) rows
-        ∙ map-same (λ r. ofKey (rowRank call r / 2 ^ 32)) (rowDistance call) rows (λ r k. rank-distance call r (first-low r k))
+        ∙ map-on (λ r. ofKey (rowRank call r / 2 ^ 32)) (rowDistance call) rows (λ r k. rank-distance call r (first-low r k))
 
     pub first-of : (end : SearchEnd) (hits : ℕ) (complete : Bool) → Listed call p end hits complete → call .k ≤ length (call .ids)
         → call .k ≤ length (call .distances)

@@ -1,15 +1,15 @@
 -- What no row's case gives, and the walk's end as a search's.
-use Prim.Native.Nat.{ℕ, zero, _+_, _≤_}
-use mathlib.Core.Bool.{Bool, true, false, not, _&&_, _||_, cond}
+use Prim.Native.Nat.{ℕ, _+_, _≤_}
+use mathlib.Core.Bool.{Bool, true, false, not, _||_}
 use mathlib.Core.Path.{_≡_, refl, sym, ap, _∙_, subst}
-use mathlib.Core.List.{List, [], _∷_, _++_}
+use mathlib.Core.List.{List, [], _∷_}
 use native.Mathlib.Omega.{arith}
 use borrow.Author.Tests.{not-false, leb-true, ltb-true, ltb-false, eqb-true}
 use lib.Dec.{leb, ltb, eqb}
 use lib.Ieee.{Float}
-use lib.ListN.{length, take, drop, length-append}
-use lib.Seq.{sets, take-append-seam}
-use Rattle.distance.specs.Vector.{dot, Normalized, allFinite}
+use lib.ListN.{length, drop}
+use lib.Seq.{sets}
+use Rattle.distance.specs.Vector.{dot, Normalized}
 use Rattle.lists.specs.Lists.{part}
 use Rattle.lists.specs.Parts.{length-part, sets-part}
 use Rattle.store.specs.declared.Shape.{Shape}
@@ -17,22 +17,20 @@ use Rattle.store.specs.Store.{Store, floatsSize, numbersSize, hashesSize, workS
 use Rattle.walk.specs.declared.Counts.{Counts}
 use Rattle.walk.specs.declared.Searched.{Searched}
 use Rattle.walk.specs.declared.Wanted.{Wanted}
-use Rattle.walk.specs.Answer.{Answer, answer}
+use Rattle.walk.specs.Answer.{answer}
 use Rattle.walk.specs.Search.{FloatsLent, NumbersLent, HashesLent, WorkLent, Works, SearchEnds, Searches as WalkSearches}
 use Rattle.walk.specs.StoreView.{storeView}
 use Rattle.walk.specs.Walk.{State, damaged, going, walk}
 use Rattle.curator.specs.declared.Check.{Check}
-use Rattle.curator.specs.declared.Check.the-variants.{Fine, Refused}
+use Rattle.curator.specs.declared.Check.the-variants.{Fine}
 use Rattle.curator.specs.declared.CuratorIndex.{CuratorIndex}
-use Rattle.curator.specs.declared.Found.{Found}
 use Rattle.curator.specs.declared.Found.the-variants as found
-use Rattle.curator.specs.declared.refusal.Refusal.{Refusal}
 use Rattle.curator.specs.Calls.{factsOf, lengthsOf}
 use Rattle.curator.specs.Changes.{Freed, workPart}
 use Rattle.curator.specs.Limits.{stateSound, indexShape, builtAllowed}
 use Rattle.curator.specs.RowLaws.{NoneHolds, fine-none}
-use Rattle.curator.specs.Rows.{Row, Lengths, firstOf, stateRow, storeShort, listsShort, searchRows}
-use Rattle.curator.specs.Searches.{Asked, wantedOf, SearchCall, SearchEnd, searchCheck, Untouched, Broken, Answered, WalkedTo, Walked, SearchesBy, Searches}
+use Rattle.curator.specs.Rows.{Row, Lengths, stateRow, storeShort, listsShort, searchRows}
+use Rattle.curator.specs.Searches.{wantedOf, SearchCall, SearchEnd, searchCheck, WalkedTo, Walked, SearchesBy, Searches}
 use Rattle.curator.specs.StateLaws.{and-all, Sound, sound-facts}
 use Rattle.curator.specs.Lent.{lengths}
 use Rattle.search.specs.Lent.{Ready, foundOf}
@@ -134,15 +132,6 @@ walked-to damaged index work call searched end a f h =
     record { answer = a ∙ ap foundOf (h .is); work = f; ids = h .ids-kept; distances = h .distances-kept }
 walked-to (going p) index work call searched end a f h =
     record { answer = a ∙ ap foundOf (h .is); work = f; ids = h .ids-are; distances = h .distances-are }
-
--- ---- the normalised query
-
--- what was lent as the front of a list and came back is within it, and is read as it came back
-pub front-room : (ys rest : List Float) (n : ℕ) → length ys ≡ n → n ≤ length (ys ++ rest)
-front-room ys rest n e = omega (arith, length-append ys rest, e)
-
-pub front-back : (l ys : List Float) (n m : ℕ) → length ys ≡ n → m ≡ n → take m (ys ++ drop m l) ≡ ys
-front-back l ys n m e g = ap (λ (k : ℕ). take k (ys ++ drop m l)) (g ∙ sym e) ∙ take-append-seam ys (drop m l)
 
 -- ---- a search that is ready
 

@@ -1,12 +1,10 @@
 -- The records of a search's contract, made of what the call is lent.
 use Prim.Native.Nat.{ℕ, _≤_}
-use mathlib.Core.Bool.{Bool, true}
 use mathlib.Core.List.{List, _∷_}
 use mathlib.Core.Path.{_≡_}
 use lib.Ieee.{Float}
 use lib.ListN.{length}
 use denote.Ref.{RefT, now}
-use Rattle.distance.specs.Vector.{dot, Normalized}
 use Rattle.store.specs.Store.{Store, Limits, floatsSize, numbersSize, hashesSize, workSize}
 use Rattle.walk.specs.declared.Searched.{Searched}
 use Rattle.walk.specs.declared.Searched.the-variants as searched

@@ -1,13 +1,12 @@
 -- Where the nodes of a tree stand in the lent lists (document 01, 'The store').
-use Prim.Native.Nat.{ℕ, zero, suc, _+_, _*_}
-use mathlib.Core.List.{List, [], _∷_, _++_}
-use mathlib.Core.Path.{_≡_}
+use Prim.Native.Nat.{ℕ, _+_}
+use mathlib.Core.List.{List, [], _∷_}
 use lib.Ieee.{Float}
 use lib.ListN.{length}
 use lib.Seq.{sets}
 use Rattle.lists.specs.Lists.{joined}
 use Rattle.store.specs.declared.Shape.{Shape}
-use Rattle.store.specs.Store.{Store, centroidsAt, centresAt, orderAt, nodesAt, linksAt, entryOrderAt, filtersAt}
+use Rattle.store.specs.Store.{centroidsAt, centresAt, orderAt, nodesAt, linksAt, entryOrderAt, filtersAt}
 use Rattle.tree.specs.Nodes.{Node}
 
 -- 'an empty block has start 0 and count 0': the start of a block that would begin at a place

@@ -1,7 +1,6 @@
 -- Document 01, 'Tree', 'Entries' and 'Filter': the nodes of a tree in their numbering, each with its centroid, its children's numbers or its ids
 -- and entries, and its filter.
-use Prim.Native.Nat.{ℕ, zero, suc, _+_}
-use mathlib.Core.Bool.{Bool, cond}
+use Prim.Native.Nat.{ℕ, suc, _+_}
 use mathlib.Core.List.{List, [], _∷_, _++_, map}
 use lib.Ieee.{Float}
 use lib.ListN.{length, getD}

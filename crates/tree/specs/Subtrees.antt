@@ -12,6 +12,7 @@ use lib.Dec.{leb, ltb}
 use lib.Ieee.{Float}
 use lib.ListN.{length, getD, take, drop, length-append, length-drop, List·getD-append}
 use lib.Seq.{drop-append-le, drop-append-add, drop-append-seam, take-append-seam, getD-append-add, getD-drop, drop-drop}
+use Rattle.lists.specs.Maps.{map-on}
 use Rattle.lists.specs.Lists.{part, joined}
 use Rattle.lists.specs.Counting.{which, getD-Memᴰ, joined-cons, joined-append, joined-map, joined-joined}
 use Rattle.label.specs.Filter.{emptyFilter, insertAll}
@@ -486,10 +487,6 @@ module _ (s : Splitting) (vectors : List (List Float)) (e : Entries) where
       (r .0, r .2)
 
 -- ---- filters by node numbers
-
-pub map-on {ℓ κ} : {A : Type ℓ} {B : Type κ} (f g : A → B) (l : List A) → ((x : A) → List·Memᴰ x l → f x ≡ g x) → map f l ≡ map g l
-map-on f g [] h = refl
-map-on f g (x ∷ xs) h = ap₂ _∷_ (h x (List·Memᴰ·head refl)) (map-on f g xs (λ y m. h y (List·Memᴰ·tail m)))
 
 -- A node's filter has the hashes of its own entries and the filters of its children: a leaf has no children, an inner node no entries.
 pub filter-root : (e : Entries) (t : Tree) → Fair t

@@ -1,13 +1,9 @@
 -- The tree of document 01's worked example, and of one vector at leaf size 0, which has 17 nodes.
-use mathlib.Core.List.{List, [], _∷_, map}
+use mathlib.Core.List.{[], _∷_, map}
 use mathlib.Core.Path.{_≡_, refl}
-use Prim.Native.Nat.{ℕ}
-use lib.Ieee.{Float, binary32, ofBits}
-use lib.ListN.{length}
+use lib.Ieee.{binary32, ofBits}
 use Rattle.cluster.specs.Trials.{sample}
 use Rattle.tree.specs.Tree.{Splitting, treeOf, size, sizes, leaf, inner, none, more}
-use Rattle.tree.specs.Nodes.{nodesOf, Node}
-use Rattle.tree.specs.Layout.{sixFrom}
 
 -- 'D 2, B 2, leaf size 1'
 abbrev pub two : Splitting

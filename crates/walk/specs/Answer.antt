@@ -1,5 +1,5 @@
 -- Document 01, 'Search': 'Hits are sorted, adjacent equal document ids lose the later, the first k stay.'
-use Prim.Native.Nat.{ℕ, zero, suc, _+_, _*_, _/_, _%_, _^_}
+use Prim.Native.Nat.{ℕ, _+_, _*_, _/_, _%_, _^_}
 use mathlib.Core.Bool.{Bool, cond}
 use mathlib.Core.List.{List, [], _∷_, map}
 use lib.Dec.{eqb}
@@ -7,7 +7,7 @@ use lib.Ieee.{Float}
 use lib.ListN.{length, take}
 use Rattle.order.specs.Sorted.{sort}
 use Rattle.distance.specs.TotalOrder.{keyOf, ofKey}
-use Rattle.walk.specs.Walk.{View, State, Progress, damaged, going, walk, none, whole}
+use Rattle.walk.specs.Walk.{Progress, walk, none, whole}
 
 -- A hit is one number, so that `<` orders by distance in total order, then document id, then vector number: each of the three is below 2 ^ 32.
 abbrev pub hitOf : Float → ℕ → ℕ → ℕ

@@ -1,5 +1,5 @@
 -- Laws of the answer: with different documents nothing is dropped; a larger budget never makes an answer worse. Assumes nothing.
-use Prim.Native.Nat.{ℕ, zero, suc, _+_, _*_, _/_, _%_, _^_, _≤_, _<_}
+use Prim.Native.Nat.{ℕ, suc, _+_, _/_, _^_, _≤_, _<_}
 use native.Mathlib.Omega.{arith}
 use mathlib.Core.Path.{_≡_, refl, sym, ap, _∙_, subst}
 use mathlib.Core.Logic.{_⊎_, inl, inr}
@@ -7,10 +7,10 @@ use mathlib.Core.Bool.{Bool, true, false, cond, false≢true}
 use mathlib.Core.List.{List, [], _∷_, _++_, map, map-append}
 use lib.Dec.{eqb}
 use lib.Ieee.{Float}
-use lib.ListN.{length, getD, take, length-map}
+use lib.ListN.{length, getD, take}
 use borrow.Author.Tests.{eqb-true, eqb-false, eq-eqb, ne-eqb}
 use Rattle.lists.specs.Lists.{isIn}
-use Rattle.lists.specs.Counting.{which, isIn-here, isIn-later}
+use Rattle.lists.specs.Counting.{which, isIn-here}
 use Rattle.lists.specs.Partition.{List·Permᴰ, Permᴰ·map, count, count-append, perm-count}
 use Rattle.order.specs.Sorted.{sort, NoLater}
 use Rattle.order.specs.SortedLaws.{sort-perm, length-sort, no-later-sort, no-later-take, no-later-at}

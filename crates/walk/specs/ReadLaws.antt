@@ -5,11 +5,12 @@ use native.Mathlib.Omega.{arith}
 use mathlib.Core.Path.{_≡_, refl, sym, ap, ap₂, _∙_, subst}
 use mathlib.Core.Logic.{_⊎_, inl, inr}
 use mathlib.Core.Bool.{Bool, true, false, not, _&&_, cond}
-use mathlib.Core.List.{List, [], _∷_, map, List·Memᴰ, List·Memᴰ·head, List·Memᴰ·tail, List·Memᴰ·not-nil}
+use mathlib.Core.List.{List, [], map, List·Memᴰ, List·Memᴰ·not-nil}
 use lib.Dec.{ltb, eqb}
 use lib.Ieee.{Float}
 use lib.ListN.{getD}
 use borrow.Author.Tests.{ltb-true, eqb-true, eqb-false}
+use Rattle.lists.specs.Maps.{map-on}
 use Rattle.lists.specs.Lists.{part, keep}
 use Rattle.lists.specs.Counting.{which, keep-congr, Memᴰ-keep}
 use Rattle.store.specs.declared.Shape.{Shape}
@@ -84,10 +85,6 @@ module _ (s : Shape) (c : Counts) (a b : Store) where
 
 -- ---- why nothing else matters
 
-map-same : (f g : ℕ → ℕ) (l : List ℕ) → ((x : ℕ) → List·Memᴰ x l → f x ≡ g x) → map f l ≡ map g l
-map-same f g [] h = refl
-map-same f g (x ∷ xs) h = ap₂ {C = List ℕ} (λ y ys. y ∷ ys) (h x (List·Memᴰ·head refl)) (map-same f g xs (λ y m. h y (List·Memᴰ·tail m)))
-
 -- a choice by equal tests between values that are equal where they are chosen
 same-cond : (a b : Bool) (x y : Shown) → a ≡ b → (a ≡ true → x ≡ y) → cond a x damage ≡ cond b y damage
 same-cond true b x y e f = f refl ∙ ap (λ (t : Bool). cond t y damage) e
@@ -132,7 +129,7 @@ module _ (s : Shape) (c : Counts) (a b : Store) where
   vectors-same query l same =
       same-cond (allPass (λ vector. ltb vector (c .vectors)) l) (allPass (λ vector. ltb vector (c .vectors)) l)
       (hits (map (hitAt s c a query) l)) (hits (map (hitAt s c b query) l)) refl
-      (λ e. ap hits (map-same (hitAt s c a query) (hitAt s c b query) l
+      (λ e. ap hits (map-on (hitAt s c a query) (hitAt s c b query) l
       (λ v m. hit-same query v (same v m (ltb-true v (c .vectors) (allPass-Memᴰ (λ vector. ltb vector (c .vectors)) l e v m))))))
 
   entries-same : (query : List Float) (hash : ℕ) (l : List ℕ) → ((e : ℕ) → List·Memᴰ e l → e < c .entries → SameEntry s c a b hash e)
@@ -142,7 +139,7 @@ module _ (s : Shape) (c : Counts) (a b : Store) where
       same-cond (allPass (testOf a) l) (allPass (testOf b) l) (hits (map (hitOfEntry a) (keep (hasHash a) l))) (hits (map (hitOfEntry b) (keep (hasHash b) l)))
       (allPass-congr (testOf a) (testOf b) l (λ x m. test-same x m (which (ltb x (c .entries)))))
       (λ e. ap hits
-      (map-same (hitOfEntry a) (hitOfEntry b) (keep (hasHash a) l)
+      (map-on (hitOfEntry a) (hitOfEntry b) (keep (hasHash a) l)
       (λ x m. let k = Memᴰ-keep (hasHash a) x l m in
       let entry = same x (k .1) (held e x (k .1)) in
       hit-same query (ownerOf s c a x) (entry .vector (owned e x (k .1)) (eqb-true (getD (a .hashes) x 0) hash (k .0)))

@@ -1,23 +1,22 @@
 -- The walk over a sound tree: it is never damaged, it ends with none waiting once the budget is at least the number of nodes, and then it has found
 -- exactly what is due. A tree is given by functions of a node's number: `below`, the hits due at and below it, and `size`, how many nodes its subtree
 -- has. Nodes are numbered parent first, so the subtree of node i has the numbers from i up to i + size i. Assumes nothing.
-use Prim.Native.Nat.{ℕ, zero, suc, _+_, _*_, _^_, _≤_, _<_}
-use native.Mathlib.Nat.{le-refl, le-trans}
+use Prim.Native.Nat.{ℕ, zero, suc, _+_, _^_, _≤_, _<_}
 use native.Mathlib.Omega.{arith}
 use mathlib.Core.Path.{_≡_, refl, sym, ap, _∙_, subst}
 use mathlib.Core.Logic.{_⊎_, inl, inr}
 use mathlib.Core.Bool.{Bool, true, false, _&&_, cond}
-use mathlib.Core.List.{List, [], _∷_, _++_, map, List·Memᴰ, List·Memᴰ·head, List·Memᴰ·tail, List·Memᴰ·not-nil, List·Memᴰ·cases-cons}
+use mathlib.Core.List.{List, [], _∷_, List·Memᴰ, List·Memᴰ·head, List·Memᴰ·tail, List·Memᴰ·not-nil, List·Memᴰ·cases-cons}
 use lib.Dec.{leb, ltb}
 use lib.ListN.{length}
 use borrow.Author.Tests.{le-leb, lt-leb, lt-ltb, le-ltb}
 use Rattle.lists.specs.Lists.{joined, isIn}
 use Rattle.lists.specs.Counting.{which, sumOf, sumOf-append, sumOf-joined, isIn-Memᴰ}
-use Rattle.lists.specs.Partition.{List·Permᴰ, Permᴰ·symm, hit, count, hit-same, hit-other, count-nil, count-cons, perm-sumOf, perm-Memᴰ, perm-length, count-perm, Memᴰ-count}
+use Rattle.lists.specs.Partition.{List·Permᴰ, Permᴰ·symm, hit, count, hit-same, hit-other, count-nil, count-cons, perm-sumOf, perm-Memᴰ, count-perm, Memᴰ-count}
 use Rattle.order.specs.Sorted.{insert, sort}
 use Rattle.order.specs.SortedLaws.{either, le-or-lt, sort-to-perm, perm-sort}
 use Rattle.walk.specs.Walk.{Shown, children, hits, damage, View, waitingNode, nodeNumber, Progress, State, damaged, going, pushAll, give, shown, step, walkFrom, walk, none, whole}
-use Rattle.walk.specs.WalkLaws.{Holds, openedOne, pushedOne, withHits, startProgress, pushAll-nil, pushAll-fresh, give-children, give-hits, step-none, step-open, walk-zero, walk-suc, walk-is, numbersOf, number-of, numbers-insert, none-waiting, nil-waiting, opened-cut}
+use Rattle.walk.specs.WalkLaws.{openedOne, pushedOne, withHits, startProgress, pushAll-nil, pushAll-fresh, give-children, give-hits, step-none, step-open, walk-zero, walk-suc, walk-is, numbersOf, number-of, numbers-insert, none-waiting, nil-waiting, opened-cut}
 
 -- 1 for a number from `from` up to `to`, 0 for others
 unfoldable pub between : ℕ → ℕ → ℕ → ℕ

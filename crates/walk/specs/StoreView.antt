@@ -3,11 +3,11 @@ use Prim.Native.Nat.{ℕ, zero, suc, _+_, _*_}
 use mathlib.Core.Bool.{Bool, true, false, not, _&&_, cond}
 use mathlib.Core.List.{List, [], _∷_, map}
 use lib.Dec.{leb, ltb, eqb}
-use lib.Ieee.{Float, nan}
+use lib.Ieee.{Float}
 use lib.ListN.{getD}
 use Rattle.lists.specs.Lists.{part, keep}
 use Rattle.store.specs.declared.Shape.{Shape}
-use Rattle.store.specs.Store.{Store, vectorAt, centroidsAt, ownersAt, orderAt, nodesAt, linksAt, entryOrderAt, filtersAt}
+use Rattle.store.specs.Store.{Store, vectorAt, ownersAt, orderAt, nodesAt, linksAt, entryOrderAt, filtersAt}
 use Rattle.distance.specs.Distance.{distance}
 use Rattle.distance.specs.TotalOrder.{keyOf}
 use Rattle.label.specs.Filter.{mayContain}

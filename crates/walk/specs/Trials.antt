@@ -10,7 +10,7 @@ use Rattle.label.specs.Filter.{emptyFilter, insertAll}
 use Rattle.walk.specs.declared.Wanted.the-variants.{Label}
 use Rattle.walk.specs.declared.Counts.{Counts}
 use Rattle.walk.specs.Walk.{State, damaged, going, walk}
-use Rattle.walk.specs.Answer.{Answer, answer}
+use Rattle.walk.specs.Answer.{answer}
 use Rattle.walk.specs.StoreView.{storeView}
 
 -- D 2 and B 2 of the trial; V 4, E 4 and M 8 leave room behind what is held

@@ -1,21 +1,21 @@
 -- Laws of the walk over any view, damaged or not. Most follow from one rule, `kept`: a property that is kept by taking a node, by pushing one child
 -- and by adding hits is kept by the walk. Assumes nothing.
-use Prim.Native.Nat.{ℕ, zero, suc, _+_, _*_, _%_, _^_, _≤_, _<_}
+use Prim.Native.Nat.{ℕ, zero, suc, _+_, _*_, _^_, _≤_, _<_}
 use native.Mathlib.Nat.{zero-add, suc-add, le-refl}
 use native.Mathlib.Numerals.{add-one}
 use native.Mathlib.Omega.{arith}
-use mathlib.Core.Path.{_≡_, refl, sym, ap, ap₂, _∙_, subst}
+use mathlib.Core.Path.{_≡_, refl, sym, ap, _∙_, subst}
 use mathlib.Core.Logic.{_⊎_, inl, inr}
 use mathlib.Core.Bool.{Bool, true, false, cond, not, false≢true}
-use mathlib.Core.List.{List, [], _∷_, _++_, map, append-assoc, append-nil, List·Memᴰ, List·Memᴰ·head, List·Memᴰ·tail, List·Memᴰ·not-nil, List·Memᴰ·cases-cons}
+use mathlib.Core.List.{List, [], _∷_, _++_, map, append-assoc, List·Memᴰ, List·Memᴰ·head, List·Memᴰ·tail, List·Memᴰ·not-nil, List·Memᴰ·cases-cons}
 use lib.Dec.{leb, eqb}
 use lib.ListN.{length, length-append}
 use borrow.Author.Tests.{leb-true, leb-false, le-leb, lt-leb, eqb-true, eqb-false, not-true}
 use Rattle.lists.specs.Lists.{keep, joined, isIn}
 use Rattle.lists.specs.Counting.{which, isIn-nil, isIn-Memᴰ, keep-nil, keep-pass, keep-fail, Memᴰ-keep, length-keep-not, joined-nil, joined-cons, joined-Memᴰ}
-use Rattle.lists.specs.Partition.{List·Permᴰ, Permᴰ·map, hit, count, hit-same, hit-other, count-nil, count-cons, count-append, perm-count, perm-length, count-perm, count-not-in, Memᴰ-count, count-Memᴰ, count-keep-fail, count-keep-pass}
-use Rattle.order.specs.Sorted.{insert, sort}
-use Rattle.order.specs.SortedLaws.{either, insert-perm, perm-sort}
+use Rattle.lists.specs.Partition.{List·Permᴰ, Permᴰ·map, hit, count, hit-same, hit-other, count-nil, count-cons, count-append, perm-count, count-perm, count-not-in, Memᴰ-count, count-Memᴰ, count-keep-fail, count-keep-pass}
+use Rattle.order.specs.Sorted.{insert}
+use Rattle.order.specs.SortedLaws.{either, insert-perm}
 use Rattle.walk.specs.Walk.{Shown, children, hits, damage, View, waitingNode, nodeNumber, Progress, State, damaged, going, pushOne, pushAll, addHits, give, shown, open′, step, walkFrom, start, walk, none, whole}
 
 -- ---- the definitions, case by case

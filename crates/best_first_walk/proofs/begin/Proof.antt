@@ -4,7 +4,7 @@ use Rattle.walk.specs.LentLaws.{vector-within}
 use Rattle.walk.specs.Search.{lent}
 use Rattle.best_first_walk.specs.Walks.{PushedNodes}
 use Rattle.walk.specs.StoreView.{storeView}
-use Rattle.store.specs.Store.{marksAt, workSize}
+use Rattle.store.specs.Store.{marksAt}
 use Rattle.order.specs.RecordsLaws.{heap-none}
 use lib.Seq.{sets, length-sets}
 use lib.ListN.{length, take, drop, set, replicate, length-set}
@@ -12,7 +12,7 @@ use mathlib.Core.List.{List, [], _∷_, _++_}
 use mathlib.Core.Path.{_≡_, refl, sym, ap, subst₂, _∙_}
 use native.Mathlib.Omega.{arith}
 use native.Mathlib.Nat.{add-zero}
-use Prim.Native.Nat.{ℕ, _+_, _-_, _*_, _^_, _≤_}
+use Prim.Native.Nat.{ℕ, _+_, _-_, _*_, _^_}
 use borrow.Author.Needs.{needs}
 use Rattle.best_first_walk.proofs.begin.Statement.{statement}
 use Rattle.best_first_walk.proofs.begin.Tie as tie

@@ -1,7 +1,7 @@
 -- `best_first_walk` meets its contract: both loops keep what `Walking` says, and each way out is one of its ends. The measures are the budget and the
 -- children that are left. Assumes nothing.
 use Rattle.best_first_walk.proofs.Walking.{Waits, Opens, Marks, childTest, children-shown, waits-from, next-child, fresh-is, waits-start, few-wait, opens, opens-below, found-length, opens-damage, leaf-damage, leaf-hits, marks-start, child-damage, child-low, child-marked, children-room, children-held, children-pushed, ends-damaged, ends-whole, ends-cut}
-use Rattle.best_first_walk.specs.Walks.{foundAt, foundPart, nodesOf, PushedNodes}
+use Rattle.best_first_walk.specs.Walks.{foundAt, foundPart, nodesOf}
 use Rattle.best_first_walk.specs.WalksLaws.{few-hits, length-found, nodes-wait}
 use Rattle.hit_queue.specs.Hits.{AddHits, Gathers, passes, has, vectorOf, newVectors, hitFor, mostOf}
 use Rattle.hit_queue.specs.HitsLaws.{view-most, list-shown, vector-held}
@@ -24,10 +24,10 @@ use lib.Dec.{eqb}
 use lib.ListN.{length, getD, take, drop, set}
 use lib.Seq.{sets}
 use mathlib.Core.Bool.{Bool, true, false, _&&_, cond}
-use mathlib.Core.List.{List, _∷_, _++_, map}
-use mathlib.Core.Path.{_≡_, refl, sym, ap, subst, _∙_}
+use mathlib.Core.List.{List, _++_, map}
+use mathlib.Core.Path.{_≡_, sym, ap, subst, _∙_}
 use native.Mathlib.Omega.{arith}
-use Prim.Native.Nat.{ℕ, _+_, _-_, _*_, _≤_, _<_, max}
+use Prim.Native.Nat.{ℕ, _+_, _-_, _≤_, _<_, max}
 use Rattle.best_first_walk.proofs.best_first_walk.Statement.{statement}
 use Rattle.best_first_walk.proofs.best_first_walk.Tie as tie
 

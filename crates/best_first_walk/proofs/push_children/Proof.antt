@@ -1,12 +1,12 @@
--- `push_children` meets its contract: the loop keeps the first j nodes, and the rest come one at a time. The measure is the nodes left. Assumes nothing.
+-- `push_children` meets its contract: the loop keeps the first j nodes, four more a turn or one. The measure is the nodes left. Assumes nothing.
 use Rattle.best_first_walk.proofs.Pushing.{children-part, push-next, pushed-next}
-use Rattle.best_first_walk.specs.Walks.{nodeFor, nodesOf, PushedNodes}
+use Rattle.best_first_walk.specs.Walks.{nodeFor, nodesOf, PushNodes, Children, PushedNodes}
 use Rattle.best_first_walk.specs.WalksLaws.{pushed-none}
 use Rattle.lists.specs.Lists.{part}
 use mathlib.Core.List.{List}
-use mathlib.Core.Path.{_≡_, subst, _∙_}
+use mathlib.Core.Path.{_≡_, subst}
 use native.Mathlib.Omega.{arith}
-use Prim.Native.Nat.{ℕ, _+_, _-_, _≤_}
+use Prim.Native.Nat.{ℕ, _+_, _-_, _^_, _≤_, _<_}
 use borrow.Author.Needs.{needs}
 use Rattle.best_first_walk.proofs.push_children.Statement.{statement}
 use Rattle.best_first_walk.proofs.push_children.Tie as tie
@@ -30,36 +30,49 @@ entry t = t .before .before .before .before .before
 abbrev node : Entry → ℕ → ℕ
 node e = nodeFor (e .args .shape) (e .args .floats .now) (e .args .query .now)
 
+-- what the next nodes want
+next : (t : Turn) (m : ℕ) → t .loop .j + m ≤ entry t .args .count
+    → PushNodes (entry t .args .shape) (t .loop .work) (entry t .args .waiting + t .loop .j) m × Children (entry t .args .shape) (entry t .args .numbers .now) (entry t .args .start + t .loop .j) m
+next t m h =
+    let e = entry t in
+    let a = e .args in (
+      push-next (a .shape) (node e) (a .numbers .now) (a .work .now) (t .loop .work) (a .waiting) (a .start) (a .count) (t .loop .j) (e .pre .1 .1) (e .pre .1 .0) (t .loop .inv .0) (t .loop .inv .1) m h,
+      children-part (a .shape) (a .numbers .now) (a .start) (a .count) (t .loop .j) m h (e .pre .1 .1),
+    )
+
+-- and what they add
+grown : (t : Turn) (m : ℕ) (work : List ℕ)
+    → PushedNodes (entry t .args .shape) (t .loop .work) (entry t .args .waiting + t .loop .j) (nodesOf (entry t .args .shape) (entry t .args .floats .now) (entry t .args .query .now) (part (entry t .args .start + t .loop .j) m (entry t .args .numbers .now))) work
+    → PushedNodes (entry t .args .shape) (entry t .args .work .now) (entry t .args .waiting) (nodesOf (entry t .args .shape) (entry t .args .floats .now) (entry t .args .query .now) (part (entry t .args .start) (t .loop .j + m) (entry t .args .numbers .now))) work
+grown t m work q =
+    let e = entry t in
+    let a = e .args in
+    pushed-next (a .shape) (node e) (a .numbers .now) (a .work .now) (t .loop .work) (a .waiting) (a .start) (a .count) (t .loop .j) (e .pre .1 .1) (e .pre .1 .0) (t .loop .inv .0) (t .loop .inv .1) m work q
+
+-- places in the queue and in the list fit
+queue-fits : (t : Turn) → t .loop .j < entry t .args .count → entry t .args .waiting + t .loop .j < 2 ^ 64
+queue-fits t h = omega (arith, h, entry t .pre .1 .0 .room, entry t .pre .1 .0 .limits .nodes-high)
+
 loop-holds : tie.Need-loop-holds Inv-loop μ-loop
 loop-holds c =
     let e = c .before .before .before .before in
     (omega arith, pushed-none (e .args .shape) (e .args .work .now) (e .args .waiting) (e .pre .1 .0 .queue))
 
-sub-loop : tie.Need-sub-loop Inv-loop μ-loop
-sub-loop c = search needs
+sub-if1 : tie.Need-sub-if1 Inv-loop μ-loop
+sub-if1 c = search needs
 
 add-push-four : tie.Need-add-push-four Inv-loop μ-loop
-add-push-four c =
-    let e = entry (c .before .before) in
-    omega (arith, c .before .loop-test .taken, e .pre .1 .0 .room, e .pre .1 .0 .limits .nodes-high)
+add-push-four c = omega (arith, queue-fits (c .before .before .before) (c .before .before .loop-test .taken))
 
 add-push-four-2 : tie.Need-add-push-four-2 Inv-loop μ-loop
 add-push-four-2 c =
-    let e = entry (c .before .before) in
-    omega (arith, c .before .loop-test .taken, e .pre .1 .1 .inside, e .good)
+    let e = entry (c .before .before .before) in
+    omega (arith, c .before .before .loop-test .taken, e .pre .1 .1 .inside, e .good)
 
 push-four-requires : tie.Need-push-four-requires Inv-loop μ-loop
 push-four-requires c κs =
-    let t = c .before .before in
-    let e = entry t in
-    let a = e .args in
-    let next : t .loop .j + 4 ≤ a .count = omega (arith, c .before .loop-test .taken) in (
-      e .pre .0,
-      (
-        push-next (a .shape) (node e) (a .numbers .now) (a .work .now) (t .loop .work) (a .waiting) (a .start) (a .count) (t .loop .j) (e .pre .1 .1) (e .pre .1 .0) (t .loop .inv .0) (t .loop .inv .1) 4 next,
-        children-part (a .shape) (a .numbers .now) (a .start) (a .count) (t .loop .j) 4 next (e .pre .1 .1),
-      ),
-    )
+    let t = c .before .before .before in
+    (entry t .pre .0, next t 4 (omega (arith, c .before .if1 .taken)))
 
 add-j : tie.Need-add-j Inv-loop μ-loop
 add-j c = search needs
@@ -69,56 +82,41 @@ loop-less c = search needs
 
 loop-again : tie.Need-loop-again Inv-loop μ-loop
 loop-again c =
-    let four = c .before .before .push-four in
-    let t = c .before .before .before .before .before in
-    let e = entry t in
-    let a = e .args in (
-      omega (arith, c .before .before .before .before .loop-test .taken),
-      pushed-next (a .shape) (node e) (a .numbers .now) (a .work .now) (t .loop .work) (a .waiting) (a .start) (a .count) (t .loop .j) (e .pre .1 .1) (e .pre .1 .0) (t .loop .inv .0) (t .loop .inv .1) 4 _ (four .ensures),
-    )
+    (omega (arith, c .before .before .before .before .if1 .taken), grown (c .before .before .before .before .before .before) 4 _ (c .before .before .push-four .ensures))
 
-add-push-rest : tie.Need-add-push-rest Inv-loop μ-loop
-add-push-rest c =
-    let t = c .before .before in
-    let e = entry t in
-    omega (arith, t .loop .inv .0, e .pre .1 .0 .room, e .pre .1 .0 .limits .nodes-high)
+add-push-one : tie.Need-add-push-one Inv-loop μ-loop
+add-push-one c = omega (arith, queue-fits (c .before .before .before) (c .before .before .loop-test .taken))
 
-add-push-rest-2 : tie.Need-add-push-rest-2 Inv-loop μ-loop
-add-push-rest-2 c =
-    let t = c .before .before in
-    let e = entry t in
-    omega (arith, t .loop .inv .0, e .pre .1 .1 .inside, e .good)
+add-push-one-2 : tie.Need-add-push-one-2 Inv-loop μ-loop
+add-push-one-2 c =
+    let e = entry (c .before .before .before) in
+    omega (arith, c .before .before .loop-test .taken, e .pre .1 .1 .inside, e .good)
 
-sub-push-rest : tie.Need-sub-push-rest Inv-loop μ-loop
-sub-push-rest c = search needs
+push-one-requires : tie.Need-push-one-requires Inv-loop μ-loop
+push-one-requires c κs =
+    let t = c .before .before .before in
+    (entry t .pre .0, next t 1 (omega (arith, c .before .before .loop-test .taken)))
 
-push-rest-requires : tie.Need-push-rest-requires Inv-loop μ-loop
-push-rest-requires c κs =
-    let t = c .before .before in
-    let e = entry t in
-    let a = e .args in
-    let rest : t .loop .j + (a .count - t .loop .j) ≤ a .count = omega (arith, t .loop .inv .0) in (
-      e .pre .0,
-      (
-        push-next (a .shape) (node e) (a .numbers .now) (a .work .now) (t .loop .work) (a .waiting) (a .start) (a .count) (t .loop .j) (e .pre .1 .1) (e .pre .1 .0) (t .loop .inv .0) (t .loop .inv .1)
-            (a .count - t .loop .j) rest,
-        children-part (a .shape) (a .numbers .now) (a .start) (a .count) (t .loop .j) (a .count - t .loop .j) rest (e .pre .1 .1),
-      ),
-    )
+add-j-2 : tie.Need-add-j-2 Inv-loop μ-loop
+add-j-2 c = search needs
+
+loop-less-2 : tie.Need-loop-less-2 Inv-loop μ-loop
+loop-less-2 c = search needs
+
+loop-again-2 : tie.Need-loop-again-2 Inv-loop μ-loop
+loop-again-2 c =
+    (omega (arith, c .before .before .before .before .before .loop-test .taken), grown (c .before .before .before .before .before .before) 1 _ (c .before .before .push-one .ensures))
 
 same-length : tie.Need-same-length Inv-loop μ-loop
-same-length c = c .before .before .push-rest .kept .1 .1 .1 .0 ∙ c .before .before .before .before .before .loop .inv .1 .size
+same-length c = c .before .loop .inv .1 .size
 
 returns : tie.Need-returns Inv-loop μ-loop
 returns c =
-    let rest = c .before .before .push-rest in
-    let t = c .before .before .before .before .before in
+    let t = c .before in
     let e = entry t in
     let a = e .args in
-    let all : t .loop .j + (a .count - t .loop .j) ≡ a .count = omega (arith, t .loop .inv .0) in
-    subst (λ (n : ℕ). PushedNodes (a .shape) (a .work .now) (a .waiting) (nodesOf (a .shape) (a .floats .now) (a .query .now) (part (a .start) n (a .numbers .now))) (rest .last .1 .1 .1 .0)) all
-    (pushed-next (a .shape) (node e) (a .numbers .now) (a .work .now) (t .loop .work) (a .waiting) (a .start) (a .count) (t .loop .j) (e .pre .1 .1) (e .pre .1 .0) (t .loop .inv .0) (t .loop .inv .1) (a .count - t .loop .j) _
-    (rest .ensures))
+    let all : t .loop .j ≡ a .count = omega (arith, c .loop-test .left, t .loop .inv .0) in
+    subst (λ (n : ℕ). PushedNodes (a .shape) (a .work .now) (a .waiting) (nodesOf (a .shape) (a .floats .now) (a .query .now) (part (a .start) n (a .numbers .now))) (t .loop .work)) all (t .loop .inv .1)
 
 pub push-children-spec : {M : Type 1} → statement M
 push-children-spec =
@@ -127,16 +125,18 @@ push-children-spec =
     Inv-loop
     μ-loop
     loop-holds
-    sub-loop
+    sub-if1
     add-push-four
     add-push-four-2
     push-four-requires
     add-j
     loop-less
     loop-again
-    add-push-rest
-    add-push-rest-2
-    sub-push-rest
-    push-rest-requires
+    add-push-one
+    add-push-one-2
+    push-one-requires
+    add-j-2
+    loop-less-2
+    loop-again-2
     same-length
     returns)

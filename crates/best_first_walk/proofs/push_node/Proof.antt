@@ -1,7 +1,6 @@
 -- `push_node` meets its contract: the queue stands before the marks. Assumes nothing.
 use Rattle.best_first_walk.proofs.Steps.{pushed-one}
 use mathlib.Core.Path.{refl}
-use native.Mathlib.Omega.{arith}
 use borrow.Author.Needs.{needs}
 use Rattle.best_first_walk.proofs.push_node.Statement.{statement}
 use Rattle.best_first_walk.proofs.push_node.Tie as tie

@@ -3,7 +3,7 @@
 use Rattle.hit_queue.proofs.Gather.{Gathering, gather-start, gather-next, gather-fails, gather-over, gather-end, block-at, block-room}
 use Rattle.lists.specs.Lists.{part}
 use Rattle.lists.specs.Parts.{length-part}
-use mathlib.Core.Path.{_≡_, refl, sym, _∙_}
+use mathlib.Core.Path.{_≡_, refl, sym}
 use mathlib.Core.Bool.{Bool, true}
 use mathlib.Core.List.{List}
 use native.Mathlib.Omega.{arith}

@@ -2,11 +2,10 @@
 use Rattle.hit_queue.proofs.Measuring.{number-held, hit-is}
 use Rattle.lists.specs.Parts.{four-mapped}
 use Rattle.hit_queue.specs.Hits.{hitFor, Measured}
-use Rattle.order.specs.Records.{value}
 use Rattle.walk.specs.LentLaws.{vector-within}
 use lib.ListN.{length, getD}
 use mathlib.Core.List.{List}
-use mathlib.Core.Path.{_≡_, refl, sym, subst}
+use mathlib.Core.Path.{_≡_, refl, subst}
 use native.Mathlib.Omega.{arith}
 use Prim.Native.Nat.{ℕ, _+_, _*_, _<_, _≤_}
 use borrow.Author.Needs.{needs}

@@ -1,7 +1,5 @@
 -- By the case of the check: its first refusal, or the walk; that no row's case holds gives what the walk relies on.
-use mathlib.Core.Path.{_≡_, refl, sym, ap, _∙_}
-use Prim.Native.Nat.{ℕ}
-use Rattle.store.specs.Store.{Store}
+use mathlib.Core.Path.{_≡_, refl, sym, _∙_}
 use Rattle.curator.specs.declared.Check.the-variants.{Fine}
 use Rattle.curator.specs.Lent.{lent}
 use Rattle.curator.specs.Searches.{Asked, everything, SearchCall, SearchesBy, searchCheck}

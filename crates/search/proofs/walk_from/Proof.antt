@@ -1,11 +1,12 @@
 -- The query is normalised at the front of an array and read from there; what the walk then gives is what the index gives.
-use Prim.Native.Nat.{ℕ, _-_, _≤_}
-use mathlib.Core.Path.{_≡_, refl, sym, ap, _∙_}
+use Prim.Native.Nat.{_-_}
+use mathlib.Core.Path.{ap}
 use native.Mathlib.Omega.{arith}
 use lib.ListN.{length}
 use denote.Ref.{now}
+use Rattle.lists.specs.Parts.{front-room, front-back}
 use Rattle.curator.specs.StateLaws.{length-stored}
-use Rattle.search.proofs.Laws.{front-room, front-back, lent-all, walked-of}
+use Rattle.search.proofs.Laws.{lent-all, walked-of}
 use borrow.Author.Needs.{needs}
 use Rattle.search.proofs.walk_from.Statement.{statement}
 use Rattle.search.proofs.walk_from.Tie as tie

@@ -4,7 +4,7 @@ use mathlib.Core.Path.{_≡_, refl}
 use native.Mathlib.Omega.{arith}
 use lib.ListN.{length, take, length-set}
 use lib.Seq.{sets}
-use Rattle.build_tree.proofs.Writes.{write-turn, write-end}
+use Rattle.lists.specs.Writes.{write-turn, write-end}
 use Rattle.build_tree.proofs.write.write_ids.Statement.{statement}
 use Rattle.build_tree.proofs.write.write_ids.Tie as tie
 
@@ -49,7 +49,7 @@ same-length : tie.Need-same-length Inv-loop μ-loop
 same-length c = c .before .loop .inv .1
 
 returns : tie.Need-returns Inv-loop μ-loop
-returns c = write-end _ _ _ _ _ (c .before .loop .inv .2) (c .loop-test .left)
+returns c = write-end _ _ _ _ _ _ (c .before .loop .inv .2) refl (c .loop-test .left)
 
 pub write-ids-spec : {M : Type 1} → statement M
 write-ids-spec =

@@ -6,7 +6,7 @@ use lib.ListN.{length, take, length-set}
 use lib.Seq.{sets}
 use Rattle.lists.specs.Lists.{part}
 use Rattle.cluster.specs.Clusters.{addVectors}
-use Rattle.cluster.proofs.Writes.{write-end}
+use Rattle.lists.specs.Writes.{write-end}
 use Rattle.cluster.proofs.Components.{add-turn, length-sumOf}
 use Rattle.cluster.proofs.part.add.Statement.{statement}
 use Rattle.cluster.proofs.part.add.Tie as tie

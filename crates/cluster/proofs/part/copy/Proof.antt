@@ -5,7 +5,7 @@ use native.Mathlib.Omega.{arith}
 use lib.ListN.{length, take, length-set}
 use lib.Seq.{sets}
 use Rattle.lists.specs.Lists.{part}
-use Rattle.cluster.proofs.Writes.{write-end}
+use Rattle.lists.specs.Writes.{write-end}
 use Rattle.cluster.proofs.Components.{copy-turn, length-copied}
 use Rattle.cluster.proofs.part.copy.Statement.{statement}
 use Rattle.cluster.proofs.part.copy.Tie as tie

@@ -8,7 +8,7 @@ use lib.ListN.{length, take, length-set}
 use lib.Seq.{sets}
 use lib.Ieee.{binary32, div}
 use Rattle.lists.specs.Lists.{part}
-use Rattle.cluster.proofs.Writes.{write-end}
+use Rattle.lists.specs.Writes.{write-end}
 use Rattle.cluster.proofs.Components.{divide-turn, length-quotients}
 use Rattle.cluster.proofs.part.divide.Statement.{statement}
 use Rattle.cluster.proofs.part.divide.Tie as tie

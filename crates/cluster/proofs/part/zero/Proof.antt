@@ -5,7 +5,7 @@ use native.Mathlib.Omega.{arith}
 use lib.ListN.{length, take, replicate, length-replicate, length-set}
 use lib.Seq.{sets}
 use Rattle.distance.specs.Vector.{zero32}
-use Rattle.cluster.proofs.Writes.{write-end}
+use Rattle.lists.specs.Writes.{write-end}
 use Rattle.cluster.proofs.Components.{zero-turn}
 use Rattle.cluster.proofs.part.zero.Statement.{statement}
 use Rattle.cluster.proofs.part.zero.Tie as tie

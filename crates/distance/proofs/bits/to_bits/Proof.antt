@@ -1,5 +1,5 @@
 -- NaN is the one value that differs from itself; its pattern is that of `toBits`.
-use mathlib.Core.Path.{_≡_, refl, sym, ap, subst}
+use mathlib.Core.Path.{_≡_, refl, sym, subst}
 use mathlib.Core.Bool.{true}
 use lib.Dec.{T}
 use lib.Ieee.{Float, nan, binary32, ne, toBits}

@@ -7,61 +7,61 @@ use Rattle.echo_file.specs.declared.Reading.the-variants.{Found}
 use Rattle.echo_file.specs.Reads.{Reads}
 use Rattle.load.specs.declared.Loading.the-variants.{Running}
 use Rattle.load.specs.Step.{known}
-use Rattle.load.specs.Code.{EchoAt, floatsOf}
+use Rattle.load.specs.Code.{ComponentsAt, floatsOf}
 use Rattle.load.proofs.Laws.{settings-carried, vector-carried, label-carried, all-carried}
 use borrow.Author.Needs.{needs}
 use Rattle.load.proofs.carry.carry_located.Statement.{statement}
 use Rattle.load.proofs.carry.carry_located.Tie as tie
 
 -- the function's entry, and what stands in the file, where the record is a vector
-abbrev start-2 : tie.After-known-told2 → tie.Start
-start-2 c = c .before .before .before .before .before .before .before .before .before .before .before
+abbrev vector-start : tie.After-known-told → tie.Start
+vector-start c = c .before .before .before .before .before .before .before .before .before .before .before
 
-abbrev vector-at : tie.After-known-told2 → Located
-vector-at c = let v = c .before .located2 .given .0 in Vector (v .0) (v .1 .0) (v .1 .1 .0) (v .1 .1 .1 .0) (v .1 .1 .1 .1 .0)
+abbrev vector-at : tie.After-known-told → Located
+vector-at c = let v = c .before .located .given .0 in Vector (v .0) (v .1 .0) (v .1 .1 .0) (v .1 .1 .1 .0) (v .1 .1 .1 .1 .0)
 
-stands-2 : (c : tie.After-known-told2) → Reads (known (Running (start-2 c .args .index))) (start-2 c .args .file .now) (start-2 c .args .at) (Found (vector-at c))
-stands-2 c = subst (λ (l : Located). Reads (known (Running (start-2 c .args .index))) (start-2 c .args .file .now) (start-2 c .args .at) (Found l)) (c .before .located2 .given .1) (start-2 c .pre .reads)
+vector-stands : (c : tie.After-known-told) → Reads (known (Running (vector-start c .args .index))) (vector-start c .args .file .now) (vector-start c .args .at) (Found (vector-at c))
+vector-stands c = subst (λ (l : Located). Reads (known (Running (vector-start c .args .index))) (vector-start c .args .file .now) (vector-start c .args .at) (Found l)) (c .before .located .given .1) (vector-start c .pre .reads)
 
-echo-2 : (c : tie.After-known-told2) → EchoAt (start-2 c .args .index) (start-2 c .args .file .now) (floatsOf (vector-at c)) (start-2 c .args .echo .now)
-echo-2 c = subst (λ (l : Located). EchoAt (start-2 c .args .index) (start-2 c .args .file .now) (floatsOf l) (start-2 c .args .echo .now)) (c .before .located2 .given .1) (start-2 c .pre .same)
+vector-components : (c : tie.After-known-told) → ComponentsAt (vector-start c .args .index) (vector-start c .args .file .now) (floatsOf (vector-at c)) (vector-start c .args .components .now)
+vector-components c = subst (λ (l : Located). ComponentsAt (vector-start c .args .index) (vector-start c .args .file .now) (floatsOf l) (vector-start c .args .components .now)) (c .before .located .given .1) (vector-start c .pre .same)
 
 -- and where it is a filtered search
-abbrev start-3 : tie.After-known-told3 → tie.Start
-start-3 c = c .before .before .before .before .before .before .before .before .before .before .before
+abbrev filtered-start : tie.After-known-told2 → tie.Start
+filtered-start c = c .before .before .before .before .before .before .before .before .before .before .before
 
-abbrev filtered-at : tie.After-known-told3 → Located
-filtered-at c = let v = c .before .located3 .given .0 in Filtered (v .0) (v .1 .0) (v .1 .1 .0) (v .1 .1 .1 .0)
+abbrev filtered-at : tie.After-known-told2 → Located
+filtered-at c = let v = c .before .located2 .given .0 in Filtered (v .0) (v .1 .0) (v .1 .1 .0) (v .1 .1 .1 .0)
 
-stands-3 : (c : tie.After-known-told3) → Reads (known (Running (start-3 c .args .index))) (start-3 c .args .file .now) (start-3 c .args .at) (Found (filtered-at c))
-stands-3 c = subst (λ (l : Located). Reads (known (Running (start-3 c .args .index))) (start-3 c .args .file .now) (start-3 c .args .at) (Found l)) (c .before .located3 .given .1) (start-3 c .pre .reads)
+filtered-stands : (c : tie.After-known-told2) → Reads (known (Running (filtered-start c .args .index))) (filtered-start c .args .file .now) (filtered-start c .args .at) (Found (filtered-at c))
+filtered-stands c = subst (λ (l : Located). Reads (known (Running (filtered-start c .args .index))) (filtered-start c .args .file .now) (filtered-start c .args .at) (Found l)) (c .before .located2 .given .1) (filtered-start c .pre .reads)
 
-echo-3 : (c : tie.After-known-told3) → EchoAt (start-3 c .args .index) (start-3 c .args .file .now) (floatsOf (filtered-at c)) (start-3 c .args .echo .now)
-echo-3 c = subst (λ (l : Located). EchoAt (start-3 c .args .index) (start-3 c .args .file .now) (floatsOf l) (start-3 c .args .echo .now)) (c .before .located3 .given .1) (start-3 c .pre .same)
+filtered-components : (c : tie.After-known-told2) → ComponentsAt (filtered-start c .args .index) (filtered-start c .args .file .now) (floatsOf (filtered-at c)) (filtered-start c .args .components .now)
+filtered-components c = subst (λ (l : Located). ComponentsAt (filtered-start c .args .index) (filtered-start c .args .file .now) (floatsOf l) (filtered-start c .args .components .now)) (c .before .located2 .given .1) (filtered-start c .pre .same)
+
+enum-told : tie.Need-enum-told
+enum-told c = search needs
 
 enum-known-located : tie.Need-enum-known-located
 enum-known-located c = search needs
 
-enum-known-located-2 : tie.Need-enum-known-located-2
-enum-known-located-2 c = search needs
-
 sub-lengths : tie.Need-sub-lengths
-sub-lengths c = omega (arith, stands-2 c .lengths-order)
+sub-lengths c = omega (arith, vector-stands c .lengths-order)
 
 part-lengths-start : tie.Need-part-lengths-start
-part-lengths-start c = omega (arith, stands-2 c .lengths-order)
+part-lengths-start c = omega (arith, vector-stands c .lengths-order)
 
 part-lengths-end : tie.Need-part-lengths-end
-part-lengths-end c = omega (arith, stands-2 c .lengths-order, stands-2 c .labels-order, stands-2 c .floats-end, stands-2 c .stands .inside)
+part-lengths-end c = omega (arith, vector-stands c .lengths-order, vector-stands c .labels-order, vector-stands c .floats-end, vector-stands c .stands .inside)
 
 sub-labels : tie.Need-sub-labels
-sub-labels c = omega (arith, stands-2 (c .before) .labels-order)
+sub-labels c = omega (arith, vector-stands (c .before) .labels-order)
 
 part-labels-start : tie.Need-part-labels-start
-part-labels-start c = omega (arith, stands-2 (c .before) .labels-order)
+part-labels-start c = omega (arith, vector-stands (c .before) .labels-order)
 
 part-labels-end : tie.Need-part-labels-end
-part-labels-end c = omega (arith, stands-2 (c .before) .labels-order, stands-2 (c .before) .floats-end, stands-2 (c .before) .stands .inside)
+part-labels-end c = omega (arith, vector-stands (c .before) .labels-order, vector-stands (c .before) .floats-end, vector-stands (c .before) .stands .inside)
 
 add-requires : tie.Need-add-requires
 add-requires c κs = search needs
@@ -69,32 +69,35 @@ add-requires c κs = search needs
 added-requires : tie.Need-added-requires
 added-requires c κs = search needs
 
+enum-known-located-2 : tie.Need-enum-known-located-2
+enum-known-located-2 c = search needs
+
+sub-label : tie.Need-sub-label
+sub-label c = omega (arith, filtered-stands c .label-order)
+
+part-label-start : tie.Need-part-label-start
+part-label-start c = omega (arith, filtered-stands c .label-order)
+
+part-label-end : tie.Need-part-label-end
+part-label-end c = omega (arith, filtered-stands c .label-order, filtered-stands c .floats-end, filtered-stands c .stands .inside)
+
+look-up-requires : tie.Need-look-up-requires
+look-up-requires c κs = search needs
+
 enum-known-located-3 : tie.Need-enum-known-located-3
 enum-known-located-3 c = search needs
 
-sub-label : tie.Need-sub-label
-sub-label c = omega (arith, stands-3 c .label-order)
+slice-aggregate-look-up : tie.Need-slice-aggregate-look-up
+slice-aggregate-look-up c = search needs
 
-part-label-start : tie.Need-part-label-start
-part-label-start c = omega (arith, stands-3 c .label-order)
-
-part-label-end : tie.Need-part-label-end
-part-label-end c = omega (arith, stands-3 c .label-order, stands-3 c .floats-end, stands-3 c .stands .inside)
-
-search-label-requires : tie.Need-search-label-requires
-search-label-requires c κs = search needs
-
-enum-known-located-4 : tie.Need-enum-known-located-4
-enum-known-located-4 c = search needs
-
-search-all-requires : tie.Need-search-all-requires
-search-all-requires c κs = search needs
+look-up-requires-2 : tie.Need-look-up-requires-2
+look-up-requires-2 c κs = search needs
 
 returns : tie.Need-returns
 returns c =
-    let s = c .before .before .before .before .before .before .before .before .before .before .before in
+    let s = c .before .before .before .before .before .before .before .before .before .before in
     settings-carried (s .args .index) (s .args .file .now) (s .args .at) _ _ _ _ _ _ _ _ _
-    (subst (λ (l : Located). Reads (known (Running (s .args .index))) (s .args .file .now) (s .args .at) (Found l)) (c .before .located .given .1) (s .pre .reads))
+    (subst (λ (l : Located). Reads (known (Running (s .args .index))) (s .args .file .now) (s .args .at) (Found l)) (c .enum-told .given .1) (s .pre .reads))
     (refl, refl)
 
 same-length : tie.Need-same-length
@@ -109,8 +112,8 @@ same-length-3 c = search needs
 returns-2 : tie.Need-returns-2
 returns-2 c =
     let v = c .before .before .before .before .before .before .before .before .before .before .before .before .before in
-    let s = start-2 v in
-    vector-carried (s .args .index) (s .args .file .now) (s .args .at) _ _ _ _ _ _ _ _ (s .args .echo .now) _ (stands-2 v) (echo-2 v)
+    let s = vector-start v in
+    vector-carried (s .args .index) (s .args .file .now) (s .args .at) _ _ _ _ _ _ _ _ (s .args .components .now) _ (vector-stands v) (vector-components v)
     (c .before .before .before .before .before .before .before .add .ensures) refl refl refl (c .added .ensures)
 
 same-length-4 : tie.Need-same-length-4
@@ -134,8 +137,8 @@ same-length-9 c = search needs
 returns-3 : tie.Need-returns-3
 returns-3 c =
     let v = c .before .before .before .before .before .before .before .before .before .before .before .before .before .before .before .before .before .before .before .before in
-    let s = start-3 v in
-    label-carried (s .args .index) (s .args .file .now) (s .args .at) _ _ _ _ _ _ _ (s .args .echo .now) (stands-3 v) (echo-3 v) (c .before .before .before .before .before .before .before .before .before .before .before .before .search-label .ensures)
+    let s = filtered-start v in
+    label-carried (s .args .index) (s .args .file .now) (s .args .at) _ _ _ _ _ _ _ (s .args .components .now) (filtered-stands v) (filtered-components v) (c .before .before .before .before .before .before .before .before .before .before .before .before .look-up .ensures)
 
 same-length-10 : tie.Need-same-length-10
 same-length-10 c = search needs
@@ -157,19 +160,19 @@ same-length-15 c = search needs
 
 returns-4 : tie.Need-returns-4
 returns-4 c =
-    let v = c .before .before .before .before .before .before .before .before .before .before .before .before .before .before .before .before .before .before .before in
+    let v = c .before .before .before .before .before .before .before .before .before .before .before .before .before .before .before .before .before .before .before .before in
     let s = v .before .before .before .before .before .before .before .before .before .before .before in
-    all-carried (s .args .index) (s .args .file .now) (s .args .at) _ _ _ _ _ _ (s .args .echo .now)
-    (subst (λ (l : Located). Reads (known (Running (s .args .index))) (s .args .file .now) (s .args .at) (Found l)) (v .before .located4 .given .1) (s .pre .reads))
-    (subst (λ (l : Located). EchoAt (s .args .index) (s .args .file .now) (floatsOf l) (s .args .echo .now)) (v .before .located4 .given .1) (s .pre .same))
-    (c .before .before .before .before .before .before .before .before .before .before .before .before .search-all .ensures)
+    all-carried (s .args .index) (s .args .file .now) (s .args .at) _ _ _ _ _ _ (s .args .components .now)
+    (subst (λ (l : Located). Reads (known (Running (s .args .index))) (s .args .file .now) (s .args .at) (Found l)) (v .before .located3 .given .1) (s .pre .reads))
+    (subst (λ (l : Located). ComponentsAt (s .args .index) (s .args .file .now) (floatsOf l) (s .args .components .now)) (v .before .located3 .given .1) (s .pre .same))
+    (c .before .before .before .before .before .before .before .before .before .before .before .before .look-up2 .ensures)
 
 pub carry-located-spec : {M : Type 1} → statement M
 carry-located-spec =
     tie.close
     (tie.spec
+    enum-told
     enum-known-located
-    enum-known-located-2
     sub-lengths
     part-lengths-start
     part-lengths-end
@@ -178,13 +181,14 @@ carry-located-spec =
     part-labels-end
     add-requires
     added-requires
-    enum-known-located-3
+    enum-known-located-2
     sub-label
     part-label-start
     part-label-end
-    search-label-requires
-    enum-known-located-4
-    search-all-requires
+    look-up-requires
+    enum-known-located-3
+    slice-aggregate-look-up
+    look-up-requires-2
     returns
     same-length
     same-length-2

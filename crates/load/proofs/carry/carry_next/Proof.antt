@@ -4,6 +4,7 @@ use native.Mathlib.Omega.{arith}
 use lib.Ieee.{Float, binary32, ofBits}
 use lib.ListN.{replicate}
 use mathlib.Core.List.{List}
+use Rattle.lists.specs.Parts.{front-room, front-back}
 use Rattle.echo_file.specs.declared.Located.{Located}
 use Rattle.echo_file.specs.declared.Reading.the-variants.{Found}
 use Rattle.echo_file.specs.Reads.{Reads}
@@ -11,7 +12,7 @@ use Rattle.echo_file.specs.ReadsLaws.{bytes-of}
 use Rattle.load.specs.declared.Loading.the-variants.{Running}
 use Prim.Native.Nat.{_-_}
 use Rattle.load.specs.Step.{known}
-use Rattle.load.proofs.Laws.{bad-carried, no-floats, floats-inside, front-room, front-back, echo-read, echo-length, echo-at}
+use Rattle.load.proofs.Laws.{bad-carried, no-floats, floats-inside, components-read, components-length, components-at}
 use borrow.Author.Needs.{needs}
 use Rattle.load.proofs.carry.carry_next.Statement.{statement}
 use Rattle.load.proofs.carry.carry_next.Tie as tie
@@ -62,17 +63,17 @@ returns-2 c =
     let s = start t in
     no-floats (s .args .index) (s .args .file .now) (s .args .at) _ _ _ (located-at t) (read t) (sym (c .before .before .floats-of .ensures) ∙ c .enum-told2 .given .1) (refl, refl)
 
-mul-echo : tie.Need-mul-echo
-mul-echo c = search needs
+mul-components : tie.Need-mul-components
+mul-components c = search needs
 
 sub-read-floats : tie.Need-sub-read-floats
 sub-read-floats c = search needs
 
-part-echo-start : tie.Need-part-echo-start
-part-echo-start c = search needs
+part-components-start : tie.Need-part-components-start
+part-components-start c = search needs
 
-part-echo-end : tie.Need-part-echo-end
-part-echo-end c = search needs
+part-components-end : tie.Need-part-components-end
+part-components-end c = search needs
 
 read-floats-requires : tie.Need-read-floats-requires
 read-floats-requires c κs =
@@ -95,7 +96,7 @@ part-carry-located-end c =
     let r = c .before .before .read-floats in
     let s = start (c .before .before .before .before .before .before .before .before) in
     front-room (r .last .1 .1 .0) _ (s .args .index .dimension)
-    (echo-length _ (r .last .1 .1 .0) (s .args .file .now) (c .before .before .before .before .before .place .given .0 .0) (s .args .index .dimension) (omega (arith, s .pre)) (r .ensures))
+    (components-length _ (r .last .1 .1 .0) (s .args .file .now) (c .before .before .before .before .before .place .given .0 .0) (s .args .index .dimension) (omega (arith, s .pre)) (r .ensures))
 
 carry-located-requires : tie.Need-carry-located-requires
 carry-located-requires c κs =
@@ -104,12 +105,12 @@ carry-located-requires c κs =
     let s = start t in
     let d = s .args .index .dimension in
     let place = c .before .before .before .before .before .before .before .before .before .before .before .before .place .given in
-    let echo = r .last .1 .1 .0 in
-    let floats = front-back sixteen echo d (d - 0) (echo-length _ echo (s .args .file .now) (place .0 .0) d (omega (arith, s .pre)) (r .ensures)) (omega arith)
-    ∙ echo-read _ echo (s .args .file .now) (place .0 .0) d (omega (arith, s .pre)) (r .ensures) in
+    let components = r .last .1 .1 .0 in
+    let floats = front-back sixteen components d (d - 0) (components-length _ components (s .args .file .now) (place .0 .0) d (omega (arith, s .pre)) (r .ensures)) (omega arith)
+    ∙ components-read _ components (s .args .file .now) (place .0 .0) d (omega (arith, s .pre)) (r .ensures) in
     record {
       reads = read t;
-      same = echo-at (s .args .index) (s .args .file .now) (located-at t) _ (place .0 .0) (sym (c .before .before .before .before .before .before .before .before .before .before .before .before .before .before .floats-of .ensures) ∙ place .1) floats;
+      same = components-at (s .args .index) (s .args .file .now) (located-at t) _ (place .0 .0) (sym (c .before .before .before .before .before .before .before .before .before .before .before .before .before .before .floats-of .ensures) ∙ place .1) floats;
     }
 
 same-length : tie.Need-same-length
@@ -145,10 +146,10 @@ carry-next-spec =
     enum-known-place
     enum-told-2
     returns-2
-    mul-echo
+    mul-components
     sub-read-floats
-    part-echo-start
-    part-echo-end
+    part-components-start
+    part-components-end
     read-floats-requires
     mul-carry-located
     sub-carry-located

@@ -5,6 +5,9 @@ use borrow.Author.Needs.{needs}
 use Rattle.load.proofs.carry.floats_of.Statement.{statement}
 use Rattle.load.proofs.carry.floats_of.Tie as tie
 
+enum-told : tie.Need-enum-told
+enum-told c = search needs
+
 enum-known-located : tie.Need-enum-known-located
 enum-known-located c = search needs
 
@@ -14,29 +17,26 @@ enum-known-located-2 c = search needs
 enum-known-located-3 : tie.Need-enum-known-located-3
 enum-known-located-3 c = search needs
 
-enum-known-located-4 : tie.Need-enum-known-located-4
-enum-known-located-4 c = search needs
-
 returns : tie.Need-returns
-returns c = ap floatsOf (sym (c .before .located .given .1))
+returns c = search needs
 
 returns-2 : tie.Need-returns-2
-returns-2 c = ap floatsOf (sym (c .before .located2 .given .1))
+returns-2 c = ap floatsOf (sym (c .before .located .given .1))
 
 returns-3 : tie.Need-returns-3
-returns-3 c = ap floatsOf (sym (c .before .located3 .given .1))
+returns-3 c = ap floatsOf (sym (c .before .located2 .given .1))
 
 returns-4 : tie.Need-returns-4
-returns-4 c = ap floatsOf (sym (c .before .located4 .given .1))
+returns-4 c = ap floatsOf (sym (c .before .located3 .given .1))
 
 pub floats-of-spec : {M : Type 1} → statement M
 floats-of-spec =
     tie.close
     (tie.spec
+    enum-told
     enum-known-located
     enum-known-located-2
     enum-known-located-3
-    enum-known-located-4
     returns
     returns-2
     returns-3

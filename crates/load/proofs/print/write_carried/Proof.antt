@@ -19,14 +19,14 @@ nothing : (l : List ℕ) → Written l 0 [] l 0
 nothing l = written l 0 [] l 0 refl (omega arith) (omega arith)
 
 -- the function's entry, from where the record is known to be answered, and room for its hits
-abbrev start : tie.After-carried3 → tie.Start
+abbrev start : tie.After-carried2 → tie.Start
 start c = c .before .before .before .before .before
 
-abbrev answered : tie.After-carried3 → Carried
-answered c = let v = c .carried3 .given .0 in Answered (v .0) (v .1 .0) (v .1 .1 .0) (v .1 .1 .1 .0) (v .1 .1 .1 .1 .0)
+abbrev answered : tie.After-carried2 → Carried
+answered c = let v = c .carried2 .given .0 in Answered (v .0) (v .1 .0) (v .1 .1 .0) (v .1 .1 .1 .0) (v .1 .1 .1 .1 .0)
 
-fit : (c : tie.After-carried3) → HitsFit (answered c) (start c .args .ids .now) (start c .args .distances .now)
-fit c = subst (λ (x : Carried). HitsFit x (start c .args .ids .now) (start c .args .distances .now)) (c .carried3 .given .1) (start c .pre .0)
+fit : (c : tie.After-carried2) → HitsFit (answered c) (start c .args .ids .now) (start c .args .distances .now)
+fit c = subst (λ (x : Carried). HitsFit x (start c .args .ids .now) (start c .args .distances .now)) (c .carried2 .given .1) (start c .pre .0)
 
 enum-told : tie.Need-enum-told
 enum-told c = search needs
@@ -40,11 +40,11 @@ number-requires c κs = search needs
 write-refused-requires : tie.Need-write-refused-requires
 write-refused-requires c κs = search needs
 
+enum-told-2 : tie.Need-enum-told-2
+enum-told-2 c = search needs
+
 enum-known-carried-2 : tie.Need-enum-known-carried-2
 enum-known-carried-2 c = search needs
-
-enum-known-carried-3 : tie.Need-enum-known-carried-3
-enum-known-carried-3 c = search needs
 
 write-hits-requires : tie.Need-write-hits-requires
 write-hits-requires c κs =
@@ -57,7 +57,7 @@ write-closing-requires c κs =
     let f = fit k in
     let s = start k in
     let w = c .before .before .before .write-hits .ensures in
-    let few = hits-le (s .args .ids .now) (s .args .distances .now) (λ i. omega (arith, k .before .before .before .shared-slice-known .given i)) (k .carried3 .given .0 .1 .1 .0) in
+    let few = hits-le (s .args .ids .now) (s .args .distances .now) (λ i. omega (arith, k .before .before .before .shared-slice-known .given i)) (k .carried2 .given .0 .1 .1 .0) in
     omega (arith, f .0, s .pre .1, w .end, length-written w, few)
 
 returns : tie.Need-returns
@@ -77,8 +77,8 @@ returns-2 c =
 
 returns-3 : tie.Need-returns-3
 returns-3 c =
-    let s = c .before .before .before .before .before .before in
-    written-text (ap (λ (x : Carried). carriedText x (s .args .ids .now) (s .args .distances .now)) (sym (c .before .carried2 .given .1))) (nothing (s .args .out .now))
+    let s = c .before .before .before .before .before in
+    written-text (ap (λ (x : Carried). carriedText x (s .args .ids .now) (s .args .distances .now)) (sym (c .enum-told2 .given .1))) (nothing (s .args .out .now))
 
 same-length-2 : tie.Need-same-length-2
 same-length-2 c = search needs
@@ -87,7 +87,7 @@ returns-4 : tie.Need-returns-4
 returns-4 c =
     let k = c .before .before .before .before .before .before .before .before .before in
     let s = start k in
-    written-text (ap (λ (x : Carried). carriedText x (s .args .ids .now) (s .args .distances .now)) (sym (k .carried3 .given .1)))
+    written-text (ap (λ (x : Carried). carriedText x (s .args .ids .now) (s .args .distances .now)) (sym (k .carried2 .given .1)))
     (written-then (c .before .before .before .before .before .before .write-hits .ensures) (c .before .before .write-closing .ensures))
 
 pub write-carried-spec : {M : Type 1} → statement M
@@ -98,8 +98,8 @@ write-carried-spec =
     enum-known-carried
     number-requires
     write-refused-requires
+    enum-told-2
     enum-known-carried-2
-    enum-known-carried-3
     write-hits-requires
     write-closing-requires
     returns

@@ -12,7 +12,7 @@ use Rattle.distance.specs.Distance.{distance}
 use Rattle.distance.specs.TotalOrder.{totalOrder}
 use Rattle.label.specs.Fnv.{fnv, fnvFrom, fnvStep}
 use Rattle.label.specs.Filter.{firstBit, secondBit}
-use Rattle.tree.specs.Tree.{Splitting, treeOf, size, sizes}
+use Rattle.tree.specs.Tree.{treeOf, size, sizes}
 use Rattle.echo_file.specs.Format.{settings, vector, filtered, encode}
 use Rattle.text.specs.Digits.{decimalOf, hexOf, lastDigits, places, tens, digitChar}
 use Rattle.text.specs.Lines.{codes, hitAt, hitLine, numberEnd, closingWord, refusedWord}

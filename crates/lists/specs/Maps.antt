@@ -1,0 +1,16 @@
+-- Laws of `map`: of functions that agree on a list, and of an element.
+use mathlib.Core.Path.{_≡_, refl, ap₂}
+use mathlib.Core.List.{List, [], _∷_, map, List·Memᴰ, List·Memᴰ·head, List·Memᴰ·tail}
+use Prim.Native.Nat.{ℕ, zero, suc, _<_}
+use native.Mathlib.Nat.{not-suc-le-zero, le-of-suc-le-suc}
+use lib.ListN.{length, getD}
+
+module _ {ℓ κ} {A : Type ℓ} {B : Type κ} where
+  pub map-on : (f g : A → B) (l : List A) → ((x : A) → List·Memᴰ x l → f x ≡ g x) → map f l ≡ map g l
+  map-on f g [] h = refl
+  map-on f g (x ∷ xs) h = ap₂ _∷_ (h x (List·Memᴰ·head refl)) (map-on f g xs (λ y m. h y (List·Memᴰ·tail m)))
+
+  pub getD-map : (f : A → B) (l : List A) (i : ℕ) (d : A) (e : B) → i < length l → getD (map f l) i e ≡ f (getD l i d)
+  getD-map f [] i d e h = absurd (not-suc-le-zero h)
+  getD-map f (x ∷ xs) zero d e h = refl
+  getD-map f (x ∷ xs) (suc i) d e h = getD-map f xs i d e (le-of-suc-le-suc h)
