@@ -22,7 +22,7 @@ use Rattle.walk.specs.declared.Counts.{Counts}
 use Rattle.walk.specs.Answer.{documentOf, distanceOf, dropAfter, dropRepeats}
 use Rattle.walk.specs.AnswerLaws.{drop-nil, drop-same, drop-other}
 use Rattle.walk.specs.StoreView.{allPass}
-use Rattle.hit_queue.specs.declared.Taken.{Taken}
+use Rattle.hit_queue.specs.declared.answer.Taken.{Taken}
 use Rattle.hit_queue.specs.Hits.{within, Measure, Measured, Takes}
 use Rattle.hit_queue.specs.HitsLaws.{document-popped, key-is}
 use Rattle.best_first_search.specs.Ranks.{firstOf, Enough, Bounds, Sampled, Ranked, Firsts}

@@ -1,6 +1,6 @@
 // The first k hits of the vectors found: sorted, adjacent equal document ids lose the later (document 01, 'Search').
-use hit_queue::measure;
-use hit_queue::take_hits;
+use hit_queue::answer::take_hits;
+use hit_queue::queue::measure;
 use order::pop;
 use store::Shape;
 use walk::Counts;

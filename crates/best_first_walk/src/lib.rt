@@ -1,9 +1,9 @@
 // The best-first walk over a lent store, whatever numbers stand in it (document 01, 'Search').
 use distance::total::key;
-use hit_queue::Added;
-use hit_queue::add_hits;
-use hit_queue::distance_key;
-use hit_queue::distances;
+use hit_queue::gather::Added;
+use hit_queue::gather::add_hits;
+use hit_queue::vectors::distance_key;
+use hit_queue::vectors::distances;
 use order::Record;
 use order::pop;
 use order::push;

@@ -10,7 +10,7 @@ use Rattle.lists.specs.Parts.{four-mapped}
 use Rattle.lists.specs.Lists.{part}
 use Rattle.walk.specs.StoreView.{allPass}
 use Rattle.walk.specs.StoreViewLaws.{and-left, and-right, allPass-nil, allPass-cons}
-use Rattle.hit_queue.proofs.Gather.{allPass-one, and-false}
+use Rattle.hit_queue.proofs.LeafLists.{allPass-one, and-false}
 
 -- as `all_below` joins them
 abbrev pub allFour : (ℕ → Bool) → ℕ → ℕ → ℕ → ℕ → Bool

@@ -1,5 +1,5 @@
 -- Laws that only this crate's proofs need.
 pub mod Entries
-pub mod Gather
+pub mod LeafLists
 pub mod Measuring
 pub mod Taking

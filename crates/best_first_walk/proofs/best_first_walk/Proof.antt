@@ -5,8 +5,8 @@ use Rattle.best_first_walk.specs.Walks.{foundAt, foundPart, nodesOf}
 use Rattle.best_first_walk.specs.WalksLaws.{few-hits, length-found, nodes-wait}
 use Rattle.hit_queue.specs.Hits.{AddHits, Gathers, passes, has, vectorOf, newVectors, hitFor, mostOf}
 use Rattle.hit_queue.specs.HitsLaws.{view-most, list-shown, vector-held}
-use Rattle.hit_queue.specs.declared.Added.{Added}
-use Rattle.hit_queue.specs.declared.Added.the-variants as added
+use Rattle.hit_queue.specs.declared.gather.Added.{Added}
+use Rattle.hit_queue.specs.declared.gather.Added.the-variants as added
 use Rattle.walk.specs.declared.look.Look.{Look}
 use Rattle.walk.specs.declared.look.Look.the-variants as look
 use Rattle.walk.specs.LentLaws.{lent-is, works-trans, works-sets}

@@ -1,0 +1,76 @@
+-- `add_hits` meets its contract: it is one of two. Assumes nothing.
+use Rattle.hit_queue.proofs.LeafLists.{as-everything, as-label}
+use Rattle.hit_queue.specs.Hits.{mostOf, AddHits, AddedHits}
+use Rattle.lists.specs.Lists.{part}
+use Rattle.walk.specs.declared.Wanted.{Wanted}
+use native.Mathlib.Omega.{arith}
+use mathlib.Core.Path.{sym, subst}
+use borrow.Author.Needs.{needs}
+use Rattle.hit_queue.proofs.gather.add_hits.Statement.{statement}
+use Rattle.hit_queue.proofs.gather.add_hits.Tie as tie
+
+enum-told : tie.Need-enum-told
+enum-told c = search needs
+
+add-vectors-requires : tie.Need-add-vectors-requires
+add-vectors-requires c κs =
+    let e = c .before .before .before .before .before .before in
+    let a = e .args in
+    subst (λ (w : Wanted). AddHits (a .numbers .now) (a .found .now) (a .before) (mostOf (a .counts) w) (a .block .start) (a .block .count)) (c .before .enum-told .given .1) (e .pre .1 .1)
+
+enum-known-wanted : tie.Need-enum-known-wanted
+enum-known-wanted c = search needs
+
+owners-at-requires : tie.Need-owners-at-requires
+owners-at-requires c κs = search needs
+
+add-entries-requires : tie.Need-add-entries-requires
+add-entries-requires c κs =
+    let e = c .before .before .before .before .before .before .before .before in
+    let a = e .args in (
+      omega (arith, c .before .owners-at .ensures, e .pre .0 .entries, e .pre .0 .size),
+      (
+        omega (arith, e .pre .0 .entries, e .pre .1 .0 .size),
+        subst (λ (w : Wanted). AddHits (a .numbers .now) (a .found .now) (a .before) (mostOf (a .counts) w) (a .block .start) (a .block .count)) (c .before .before .before .wanted .given .1) (e .pre .1 .1),
+      ),
+    )
+
+same-length : tie.Need-same-length
+same-length c = search needs
+
+returns : tie.Need-returns
+returns c =
+    let a = c .before .before .before .before .before .before .before .before .before .args in
+    let l = part (a .block .start) (a .block .count) (a .numbers .now) in
+    let added = c .before .before .add-vectors in
+    subst (λ (w : Wanted). AddedHits (a .shape) (a .counts) (a .numbers .now) (a .hashes .now) w l (a .before) (a .found .now) (added .result) (added .last .1 .1 .0))
+    (sym (c .before .before .before .before .enum-told .given .1))
+    (as-everything (a .shape) (a .counts) (a .numbers .now) (a .hashes .now) l (a .before) (a .found .now) (added .result) (added .last .1 .1 .0) (added .ensures))
+
+same-length-2 : tie.Need-same-length-2
+same-length-2 c = search needs
+
+returns-2 : tie.Need-returns-2
+returns-2 c =
+    let given = c .before .before .before .before .before .before .wanted .given in
+    let a = c .before .before .before .before .before .before .before .before .before .before .before .args in
+    let l = part (a .block .start) (a .block .count) (a .numbers .now) in
+    let added = c .before .before .add-entries in
+    subst (λ (w : Wanted). AddedHits (a .shape) (a .counts) (a .numbers .now) (a .hashes .now) w l (a .before) (a .found .now) (added .result) (added .last .1 .1 .1 .0))
+    (sym (given .1))
+    (as-label (a .shape) (a .counts) (a .numbers .now) (a .hashes .now) (given .0 .0) _ l (a .before) (a .found .now) (added .result) (added .last .1 .1 .1 .0)
+    (c .before .before .before .before .owners-at .ensures) (added .ensures))
+
+pub add-hits-spec : {M : Type 1} → statement M
+add-hits-spec =
+    tie.close
+    (tie.spec
+    enum-told
+    add-vectors-requires
+    enum-known-wanted
+    owners-at-requires
+    add-entries-requires
+    same-length
+    returns
+    same-length-2
+    returns-2)

@@ -1,0 +1,44 @@
+-- `write_owner` meets its contract. Assumes nothing.
+use mathlib.Core.Path.{refl, ap}
+use Prim.Native.Nat.{ℕ, _+_}
+use native.Mathlib.Omega.{arith}
+use borrow.Author.Needs.{needs}
+use Rattle.hit_queue.proofs.gather.write_owner.Statement.{statement}
+use Rattle.hit_queue.proofs.gather.write_owner.Tie as tie
+
+mul-found : tie.Need-mul-found
+mul-found c = search needs
+
+slice-write-found : tie.Need-slice-write-found
+slice-write-found c = search needs
+
+mul-same : tie.Need-mul-same
+mul-same c = search needs
+
+shared-slice-read-same : tie.Need-shared-slice-read-same
+shared-slice-read-same c = search needs
+
+same-requires : tie.Need-same-requires
+same-requires c κs = search needs
+
+add-result : tie.Need-add-result
+add-result c = search needs
+
+same-length : tie.Need-same-length
+same-length c = search needs
+
+returns : tie.Need-returns
+returns c = (ap (λ (n : ℕ). c .before .before .before .before .args .total + n) (c .same .ensures .0), (omega (arith, c .same .ensures .1), refl))
+
+pub write-owner-spec : {M : Type 1} → statement M
+write-owner-spec =
+    tie.close
+    (tie.spec
+    mul-found
+    slice-write-found
+    mul-same
+    shared-slice-read-same
+    same-requires
+    add-result
+    same-length
+    returns)

@@ -1,0 +1,140 @@
+-- `measure` meets its contract: the loop keeps the hits of the first j numbers, four more a turn or one. The measure is the numbers left. Assumes nothing.
+use Rattle.hit_queue.proofs.Measuring.{measured-none, measured-next, measure-rest}
+use Rattle.hit_queue.specs.HitsLaws.{measure-front}
+use Rattle.hit_queue.specs.Hits.{hitFor, hitsOf, Measure, Measured}
+use Rattle.lists.specs.Lists.{part}
+use Rattle.lists.specs.Parts.{part-zero, length-part}
+use lib.ListN.{length, length-map}
+use mathlib.Core.List.{List, map}
+use mathlib.Core.Path.{_≡_, sym, ap, subst, _∙_}
+use native.Mathlib.Omega.{arith}
+use Prim.Native.Nat.{ℕ, _+_, _-_, _≤_}
+use borrow.Author.Needs.{needs}
+use Rattle.hit_queue.proofs.queue.measure.Statement.{statement}
+use Rattle.hit_queue.proofs.queue.measure.Tie as tie
+
+abbrev Inv-loop : tie.InvT-loop
+Inv-loop shape counts floats numbers heap₀ query bound from found queued₀ j₀ heap queued j =
+    (j ≤ found) × Measured bound (hitsOf shape floats numbers query (part from j heap₀)) 0 heap₀ queued heap
+
+abbrev μ-loop : tie.MeasureT-loop
+μ-loop shape counts floats numbers heap₀ query bound from found queued₀ j₀ heap queued j = found - j
+
+abbrev Entry : Type 0
+Entry = tie.Start Inv-loop μ-loop
+
+abbrev Turn : Type 0
+Turn = tie.At-loop Inv-loop μ-loop
+
+abbrev entry : Turn → Entry
+entry t = t .before .before .before .before .before
+
+abbrev hit : Entry → ℕ → ℕ
+hit e = hitFor (e .args .shape) (e .args .floats .now) (e .args .numbers .now) (e .args .query .now)
+
+-- the hits so far are as many as the numbers read
+many : (t : Turn) → length (map (hit (entry t)) (part (entry t .args .from) (t .loop .j) (entry t .args .heap .now))) ≡ t .loop .j
+many t =
+    let a = entry t .args in
+    length-map (part (a .from) (t .loop .j) (a .heap .now)) (hit (entry t))
+    ∙ length-part (a .from) (t .loop .j) (a .heap .now) (let r : a .from + t .loop .j ≤ length (a .heap .now) = omega (arith, entry t .pre .1 .1 .inside, t .loop .inv .0) in r)
+
+-- what the next numbers want
+next : (t : Turn) (m : ℕ) → t .loop .j + m ≤ entry t .args .found → Measure (entry t .args .counts) (t .loop .heap) (t .loop .queued) (entry t .args .from + t .loop .j) m
+next t m h =
+    let e = entry t in
+    let a = e .args in
+    measure-front (a .counts) (t .loop .heap) (t .loop .queued) (a .from + t .loop .j) (a .found - t .loop .j) m (omega (arith, h))
+    (measure-rest (a .counts) (a .bound) 0 (t .loop .queued) (a .from) (a .found) (t .loop .j) (a .heap .now) (t .loop .heap) _ (e .pre .1 .1) (many t) (t .loop .inv .0) (t .loop .inv .1))
+
+-- and what their hits add
+grown : (t : Turn) (m total : ℕ) (heap : List ℕ) → t .loop .j + m ≤ entry t .args .found
+    → Measured (entry t .args .bound) (map (hit (entry t)) (part (entry t .args .from + t .loop .j) m (t .loop .heap))) (t .loop .queued) (t .loop .heap) total heap
+    → Measured (entry t .args .bound) (map (hit (entry t)) (part (entry t .args .from) (t .loop .j + m) (entry t .args .heap .now))) 0 (entry t .args .heap .now) total heap
+grown t m total heap h d =
+    let e = entry t in
+    let a = e .args in
+    measured-next (a .counts) (hit e) (a .bound) 0 (t .loop .queued) total (a .from) (a .found) (t .loop .j) m (a .heap .now) (t .loop .heap) heap (e .pre .1 .1) h (t .loop .inv .1) d
+
+loop-holds : tie.Need-loop-holds Inv-loop μ-loop
+loop-holds c =
+    let e = c .before .before .before .before in
+    let a = e .args in (
+      omega arith,
+      subst (λ (l : List ℕ). Measured (a .bound) (map (hit e) l) 0 (a .heap .now) 0 (a .heap .now)) (sym (part-zero (a .from) (a .heap .now)))
+          (measured-none (a .bound) 0 (a .heap .now) (e .pre .1 .1 .queue)),
+    )
+
+add-at : tie.Need-add-at Inv-loop μ-loop
+add-at c =
+    let t = c .before in
+    omega (arith, c .loop-test .taken, entry t .pre .1 .1 .inside, entry t .good)
+
+sub-if1 : tie.Need-sub-if1 Inv-loop μ-loop
+sub-if1 c = search needs
+
+measure-four-requires : tie.Need-measure-four-requires Inv-loop μ-loop
+measure-four-requires c κs =
+    let t = c .before .before .before in
+    (entry t .pre .0, (entry t .pre .1 .0, next t 4 (omega (arith, c .before .if1 .taken))))
+
+add-j : tie.Need-add-j Inv-loop μ-loop
+add-j c = search needs
+
+loop-less : tie.Need-loop-less Inv-loop μ-loop
+loop-less c = search needs
+
+loop-again : tie.Need-loop-again Inv-loop μ-loop
+loop-again c =
+    let four = c .before .before .measure-four in
+    let more : c .before .before .before .before .before .before .loop .j + 4 ≤ entry (c .before .before .before .before .before .before) .args .found = omega (arith, c .before .before .before .before .if1 .taken) in
+    (more, grown (c .before .before .before .before .before .before) 4 (four .result) _ more (four .ensures))
+
+measure-one-requires : tie.Need-measure-one-requires Inv-loop μ-loop
+measure-one-requires c κs =
+    let t = c .before .before .before in
+    (entry t .pre .0, (entry t .pre .1 .0, next t 1 (omega (arith, c .before .before .loop-test .taken))))
+
+add-j-2 : tie.Need-add-j-2 Inv-loop μ-loop
+add-j-2 c = search needs
+
+loop-less-2 : tie.Need-loop-less-2 Inv-loop μ-loop
+loop-less-2 c = search needs
+
+loop-again-2 : tie.Need-loop-again-2 Inv-loop μ-loop
+loop-again-2 c =
+    let one = c .before .before .measure-one in
+    let more : c .before .before .before .before .before .before .loop .j + 1 ≤ entry (c .before .before .before .before .before .before) .args .found =
+    omega (arith, c .before .before .before .before .before .loop-test .taken) in
+    (more, grown (c .before .before .before .before .before .before) 1 (one .result) _ more (one .ensures))
+
+same-length : tie.Need-same-length Inv-loop μ-loop
+same-length c = c .before .loop .inv .1 .size
+
+returns : tie.Need-returns Inv-loop μ-loop
+returns c =
+    let t = c .before in
+    let e = entry t in
+    let a = e .args in
+    let all : t .loop .j ≡ a .found = omega (arith, c .loop-test .left, t .loop .inv .0) in
+    subst (λ (n : ℕ). Measured (a .bound) (map (hit e) (part (a .from) n (a .heap .now))) 0 (a .heap .now) (t .loop .queued) (t .loop .heap)) all (t .loop .inv .1)
+
+pub measure-spec : {M : Type 1} → statement M
+measure-spec =
+    tie.close
+    (tie.spec
+    Inv-loop
+    μ-loop
+    loop-holds
+    add-at
+    sub-if1
+    measure-four-requires
+    add-j
+    loop-less
+    loop-again
+    measure-one-requires
+    add-j-2
+    loop-less-2
+    loop-again-2
+    same-length
+    returns)

@@ -1,0 +1,179 @@
+-- `measure_four` meets its contract: each of the four numbers is held, so its vector is within the floats. Assumes nothing.
+use Rattle.hit_queue.proofs.Measuring.{number-held, hit-is}
+use Rattle.lists.specs.Parts.{four-mapped}
+use Rattle.hit_queue.specs.Hits.{hitFor, Measured}
+use Rattle.walk.specs.LentLaws.{vector-within}
+use lib.ListN.{length, getD}
+use mathlib.Core.List.{List}
+use mathlib.Core.Path.{_≡_, refl, subst}
+use native.Mathlib.Omega.{arith}
+use Prim.Native.Nat.{ℕ, _+_, _*_, _<_, _≤_}
+use borrow.Author.Needs.{needs}
+use Rattle.hit_queue.proofs.queue.measure_four.Statement.{statement}
+use Rattle.hit_queue.proofs.queue.measure_four.Tie as tie
+
+-- the four numbers read
+abbrev Numbers : Type 0
+Numbers = tie.After-wide4
+
+abbrev entry : Numbers → tie.Start
+entry w = w .before .before .before .before .before .before .before .before .before .before .before .before
+
+abbrev first : Numbers → ℕ
+first w = w .before .before .before .before .before .before .wide .result
+
+abbrev second : Numbers → ℕ
+second w = w .before .before .before .before .wide2 .result
+
+abbrev third : Numbers → ℕ
+third w = w .before .before .wide3 .result
+
+abbrev fourth : Numbers → ℕ
+fourth w = w .wide4 .result
+
+-- a number of the four is that of a vector held
+held : (w : Numbers) (i v : ℕ) → i < 4 → v ≡ getD (entry w .args .heap .now) (entry w .args .at + i) 0 → v < entry w .args .counts .vectors
+held w i v low is =
+    let a = entry w .args in
+    number-held (a .counts) (a .heap .now) (a .count) (a .at) 4 (entry w .pre .1 .1) i (a .at + i) v low refl is
+
+held-first : (w : Numbers) → first w < entry w .args .counts .vectors
+held-first w =
+    let a = entry w .args in
+    number-held (a .counts) (a .heap .now) (a .count) (a .at) 4 (entry w .pre .1 .1) 0 (a .at) (first w) (omega arith) (omega arith) (w .before .before .before .before .before .before .wide .ensures .0)
+
+held-second : (w : Numbers) → second w < entry w .args .counts .vectors
+held-second w = held w 1 (second w) (omega arith) (w .before .before .before .before .wide2 .ensures .0)
+
+held-third : (w : Numbers) → third w < entry w .args .counts .vectors
+held-third w = held w 2 (third w) (omega arith) (w .before .before .wide3 .ensures .0)
+
+held-fourth : (w : Numbers) → fourth w < entry w .args .counts .vectors
+held-fourth w = held w 3 (fourth w) (omega arith) (w .wide4 .ensures .0)
+
+-- so it is within the floats and the document ids
+inside : (w : Numbers) (v : ℕ) → v < entry w .args .counts .vectors → v * entry w .args .shape .dimension + entry w .args .shape .dimension ≤ length (entry w .args .floats .now)
+inside w v low =
+    let e = entry w in
+    vector-within (e .args .shape) (e .args .floats .now) v (e .args .counts .vectors) (e .pre .0 .limits) (e .pre .0 .size) low (omega (arith, e .pre .1 .0 .vectors))
+
+listed : (w : Numbers) (v : ℕ) → v < entry w .args .counts .vectors → (v < length (entry w .args .numbers .now)) × (v < 4096)
+listed w v low =
+    let e = entry w in
+    (omega (arith, low, e .pre .1 .0 .vectors, e .pre .1 .0 .size), omega (arith, low, e .pre .1 .0 .vectors, e .pre .0 .limits .vectors-high))
+
+mul-wide : tie.Need-mul-wide
+mul-wide c = search needs
+
+slice-read-wide : tie.Need-slice-read-wide
+slice-read-wide c = search needs
+
+wide-requires : tie.Need-wide-requires
+wide-requires c κs = search needs
+
+add-wide : tie.Need-add-wide
+add-wide c = search needs
+
+mul-wide-2 : tie.Need-mul-wide-2
+mul-wide-2 c = search needs
+
+slice-read-wide-2 : tie.Need-slice-read-wide-2
+slice-read-wide-2 c = search needs
+
+wide-requires-2 : tie.Need-wide-requires-2
+wide-requires-2 c κs = search needs
+
+add-wide-2 : tie.Need-add-wide-2
+add-wide-2 c = search needs
+
+mul-wide-3 : tie.Need-mul-wide-3
+mul-wide-3 c = search needs
+
+slice-read-wide-3 : tie.Need-slice-read-wide-3
+slice-read-wide-3 c = search needs
+
+wide-requires-3 : tie.Need-wide-requires-3
+wide-requires-3 c κs = search needs
+
+add-wide-3 : tie.Need-add-wide-3
+add-wide-3 c = search needs
+
+mul-wide-4 : tie.Need-mul-wide-4
+mul-wide-4 c = search needs
+
+slice-read-wide-4 : tie.Need-slice-read-wide-4
+slice-read-wide-4 c = search needs
+
+wide-requires-4 : tie.Need-wide-requires-4
+wide-requires-4 c κs = search needs
+
+distances-requires : tie.Need-distances-requires
+distances-requires c κs = (inside c (first c) (held-first c), (inside c (second c) (held-second c), (inside c (third c) (held-third c), inside c (fourth c) (held-fourth c))))
+
+hit-requires : tie.Need-hit-requires
+hit-requires c κs = let w = c .before in listed w (first w) (held-first w)
+
+hit-requires-2 : tie.Need-hit-requires-2
+hit-requires-2 c κs = let w = c .before .before in listed w (second w) (held-second w)
+
+hit-requires-3 : tie.Need-hit-requires-3
+hit-requires-3 c κs = let w = c .before .before .before in listed w (third w) (held-third w)
+
+hit-requires-4 : tie.Need-hit-requires-4
+hit-requires-4 c κs = let w = c .before .before .before .before in listed w (fourth w) (held-fourth w)
+
+push-four-requires : tie.Need-push-four-requires
+push-four-requires c κs =
+    let pre = entry (c .before .before .before .before .before .before) .pre .1 .1 in
+    record { room = pre .room; queue = pre .queue }
+
+same-length : tie.Need-same-length
+same-length c = search needs
+
+returns : tie.Need-returns
+returns c =
+    let pushed = c .before .before .push-four in
+    let h4 = c .before .before .before .before in
+    let h3 = h4 .before in
+    let h2 = h3 .before in
+    let h1 = h2 .before in
+    let d = h1 .before in
+    let w = d .before in
+    let a = entry w .args in
+    let four = d .distances .ensures in
+    let is = hit-is (a .shape) (a .floats .now) (a .numbers .now) (a .query .now) in
+    subst (λ (hits : List ℕ). Measured (a .bound) hits (a .count) (a .heap .now) (pushed .result) (pushed .last .0))
+    (four-mapped (hitFor (a .shape) (a .floats .now) (a .numbers .now) (a .query .now)) (a .heap .now) (a .at) 0 _ _ _ _ (entry w .pre .1 .1 .inside)
+    (is _ (first w) _ _ (h1 .hit .ensures) (four .0) (w .before .before .before .before .before .before .wide .ensures .0))
+    (is _ (second w) _ _ (h2 .hit2 .ensures) (four .1 .0) (w .before .before .before .before .wide2 .ensures .0))
+    (is _ (third w) _ _ (h3 .hit3 .ensures) (four .1 .1 .0) (w .before .before .wide3 .ensures .0))
+    (is _ (fourth w) _ _ (h4 .hit4 .ensures) (four .1 .1 .1) (w .wide4 .ensures .0)))
+    (pushed .ensures)
+
+pub measure-four-spec : {M : Type 1} → statement M
+measure-four-spec =
+    tie.close
+    (tie.spec
+    mul-wide
+    slice-read-wide
+    wide-requires
+    add-wide
+    mul-wide-2
+    slice-read-wide-2
+    wide-requires-2
+    add-wide-2
+    mul-wide-3
+    slice-read-wide-3
+    wide-requires-3
+    add-wide-3
+    mul-wide-4
+    slice-read-wide-4
+    wide-requires-4
+    distances-requires
+    hit-requires
+    hit-requires-2
+    hit-requires-3
+    hit-requires-4
+    push-four-requires
+    same-length
+    returns)

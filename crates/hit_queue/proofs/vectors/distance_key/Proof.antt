@@ -1,0 +1,18 @@
+-- `distance_key` meets its contract. Assumes nothing.
+use Rattle.distance.specs.TotalOrder.{keyOf}
+use mathlib.Core.Path.{ap, _∙_}
+use borrow.Author.Needs.{needs}
+use Rattle.hit_queue.proofs.vectors.distance_key.Statement.{statement}
+use Rattle.hit_queue.proofs.vectors.distance_key.Tie as tie
+
+distance-to-requires : tie.Need-distance-to-requires
+distance-to-requires c κs = search needs
+
+key-requires : tie.Need-key-requires
+key-requires c κs = search needs
+
+returns : tie.Need-returns
+returns c = c .key .ensures ∙ ap keyOf (c .before .distance-to .ensures)
+
+pub distance-key-spec : {M : Type 1} → statement M
+distance-key-spec = tie.close (tie.spec distance-to-requires key-requires returns)

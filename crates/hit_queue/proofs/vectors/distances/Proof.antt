@@ -1,0 +1,127 @@
+-- `distances` meets its contract: each vector is the part of the floats that is lent. Assumes nothing.
+use Rattle.distance.specs.Distance.{distance}
+use Rattle.walk.specs.LentLaws.{lent-is}
+use mathlib.Core.Path.{refl, ap, _∙_}
+use Prim.Native.Nat.{_*_}
+use borrow.Author.Needs.{needs}
+use Rattle.hit_queue.proofs.vectors.distances.Statement.{statement}
+use Rattle.hit_queue.proofs.vectors.distances.Tie as tie
+
+mul-a-at : tie.Need-mul-a-at
+mul-a-at c = search needs
+
+mul-b-at : tie.Need-mul-b-at
+mul-b-at c = search needs
+
+mul-c-at : tie.Need-mul-c-at
+mul-c-at c = search needs
+
+mul-d-at : tie.Need-mul-d-at
+mul-d-at c = search needs
+
+add-a-end : tie.Need-add-a-end
+add-a-end c = search needs
+
+add-b-end : tie.Need-add-b-end
+add-b-end c = search needs
+
+add-c-end : tie.Need-add-c-end
+add-c-end c = search needs
+
+add-d-end : tie.Need-add-d-end
+add-d-end c = search needs
+
+mul-cosine-distance-four : tie.Need-mul-cosine-distance-four
+mul-cosine-distance-four c = search needs
+
+sub-cosine-distance-four : tie.Need-sub-cosine-distance-four
+sub-cosine-distance-four c = search needs
+
+part-cosine-distance-four-start : tie.Need-part-cosine-distance-four-start
+part-cosine-distance-four-start c = search needs
+
+part-cosine-distance-four-end : tie.Need-part-cosine-distance-four-end
+part-cosine-distance-four-end c = search needs
+
+mul-cosine-distance-four-2 : tie.Need-mul-cosine-distance-four-2
+mul-cosine-distance-four-2 c = search needs
+
+sub-cosine-distance-four-2 : tie.Need-sub-cosine-distance-four-2
+sub-cosine-distance-four-2 c = search needs
+
+part-cosine-distance-four-start-2 : tie.Need-part-cosine-distance-four-start-2
+part-cosine-distance-four-start-2 c = search needs
+
+part-cosine-distance-four-end-2 : tie.Need-part-cosine-distance-four-end-2
+part-cosine-distance-four-end-2 c = search needs
+
+mul-cosine-distance-four-3 : tie.Need-mul-cosine-distance-four-3
+mul-cosine-distance-four-3 c = search needs
+
+sub-cosine-distance-four-3 : tie.Need-sub-cosine-distance-four-3
+sub-cosine-distance-four-3 c = search needs
+
+part-cosine-distance-four-start-3 : tie.Need-part-cosine-distance-four-start-3
+part-cosine-distance-four-start-3 c = search needs
+
+part-cosine-distance-four-end-3 : tie.Need-part-cosine-distance-four-end-3
+part-cosine-distance-four-end-3 c = search needs
+
+mul-cosine-distance-four-4 : tie.Need-mul-cosine-distance-four-4
+mul-cosine-distance-four-4 c = search needs
+
+sub-cosine-distance-four-4 : tie.Need-sub-cosine-distance-four-4
+sub-cosine-distance-four-4 c = search needs
+
+part-cosine-distance-four-start-4 : tie.Need-part-cosine-distance-four-start-4
+part-cosine-distance-four-start-4 c = search needs
+
+part-cosine-distance-four-end-4 : tie.Need-part-cosine-distance-four-end-4
+part-cosine-distance-four-end-4 c = search needs
+
+cosine-distance-four-requires : tie.Need-cosine-distance-four-requires
+cosine-distance-four-requires c κs = search needs
+
+returns : tie.Need-returns
+returns c =
+    let a = c .before .before .before .before .before .before .before .args in
+    let q = distance (a .query .now) in
+    let e = c .cosine-distance-four .ensures in
+    let n = a .dimension in (
+      e .0 ∙ ap q (lent-is (a .floats .now) _ _ (a .a * n) n refl refl),
+      (
+        e .1 .0 ∙ ap q (lent-is (a .floats .now) _ _ (a .b * n) n refl refl),
+        (e .1 .1 .0 ∙ ap q (lent-is (a .floats .now) _ _ (a .c * n) n refl refl), e .1 .1 .1 ∙ ap q (lent-is (a .floats .now) _ _ (a .d * n) n refl refl)),
+      ),
+    )
+
+pub distances-spec : {M : Type 1} → statement M
+distances-spec =
+    tie.close
+    (tie.spec
+    mul-a-at
+    mul-b-at
+    mul-c-at
+    mul-d-at
+    add-a-end
+    add-b-end
+    add-c-end
+    add-d-end
+    mul-cosine-distance-four
+    sub-cosine-distance-four
+    part-cosine-distance-four-start
+    part-cosine-distance-four-end
+    mul-cosine-distance-four-2
+    sub-cosine-distance-four-2
+    part-cosine-distance-four-start-2
+    part-cosine-distance-four-end-2
+    mul-cosine-distance-four-3
+    sub-cosine-distance-four-3
+    part-cosine-distance-four-start-3
+    part-cosine-distance-four-end-3
+    mul-cosine-distance-four-4
+    sub-cosine-distance-four-4
+    part-cosine-distance-four-start-4
+    part-cosine-distance-four-end-4
+    cosine-distance-four-requires
+    returns)
