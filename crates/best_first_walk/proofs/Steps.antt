@@ -32,8 +32,8 @@ use Rattle.walk.specs.declared.Counts.{Counts}
 use Rattle.walk.specs.Walk.{View, waitingNode, nodeNumber, Progress, hits}
 use Rattle.walk.specs.WalkLaws.{openedOne, withHits, Once, numbersOf}
 use Rattle.walk.specs.Search.{lent, Works}
-use Rattle.best_first_walk.specs.Walks.{foundAt, foundPart, Finds, Represents, Begins, insertAll, PushedNodes}
-use Rattle.best_first_walk.specs.WalksLaws.{insertAll-one}
+use Rattle.best_first_walk.specs.Walks.{foundAt, foundPart, Finds, Represents, Begins, insertEach, PushedNodes}
+use Rattle.best_first_walk.specs.WalksLaws.{insertEach-one}
 use Rattle.walk.specs.LentLaws.{works-trans, works-sets}
 
 -- ---- a node is marked, and nodes are pushed
@@ -43,7 +43,7 @@ pub pushed-one : (s : Shape) (work work′ : List ℕ) (waiting child : ℕ) (r 
 pushed-one s work work′ waiting child r room e p = record {
   queue = p .heap;
   sorted = p .sorted ∙ ap (λ (x : ℕ). insert x (sort (records 2 waiting work))) (value-is r ∙ ap (λ (n : ℕ). r .key * 2 ^ 64 + n) e)
-      ∙ sym (insertAll-one (r .key * 2 ^ 64 + child) (sort (records 2 waiting work)));
+      ∙ sym (insertEach-one (r .key * 2 ^ 64 + child) (sort (records 2 waiting work)));
   behind = drop-more ((waiting + 1) * 2) (marksAt s) work′ work (omega arith) (p .behind);
   size = p .size;
 }
@@ -93,11 +93,11 @@ module _ (s : Shape) (c : Counts) (hit : ℕ → ℕ) (nodes : c .nodes ≤ s .n
           ∙ ap {B = ℕ} (λ (b : Bool). cond b 1 0) (sym (isIn-later i child (p .pushed) n))
 
   pub represents-pushed : (p : Progress) (work work′ new : List ℕ) (waiting found total : ℕ) → total ≡ waiting + length new → Represents s c hit p work waiting found
-      → PushedNodes s work waiting new work′ → Represents s c hit (withWaiting (insertAll new (p .waiting)) p) work′ total found
+      → PushedNodes s work waiting new work′ → Represents s c hit (withWaiting (insertEach new (p .waiting)) p) work′ total found
   represents-pushed p work work′ new waiting found total e r q = record {
     size = omega (arith, q .size, r .size);
     queue = subst (λ (n : ℕ). Heap (records 2 n work′)) (sym e) (q .queue);
-    waits = ap (λ (n : ℕ). sort (records 2 n work′)) e ∙ q .sorted ∙ ap (insertAll new) (r .waits);
+    waits = ap (λ (n : ℕ). sort (records 2 n work′)) e ∙ q .sorted ∙ ap (insertEach new) (r .waits);
     marks = λ i h. getD-behind (marksAt s) (marksAt s + i) work′ work 0 (omega arith) (q .behind) ∙ r .marks i h;
     finds = finds-same s c hit (p .found) work work′ found
         (part-behind (marksAt s) (foundAt s) (max (s .vectors) (s .entries) + 1) work′ work (let t : marksAt s ≤ foundAt s = omega arith in t) (q .behind)) (r .finds);
@@ -226,7 +226,7 @@ begins s c hit view work work′ nodes some size q =
       start = record {
         size = first .size;
         queue = first .queue;
-        waits = first .waits ∙ insertAll-one (waitingNode view 0) [] ∙ insert-nil (waitingNode view 0);
+        waits = first .waits ∙ insertEach-one (waitingNode view 0) [] ∙ insert-nil (waitingNode view 0);
         marks = first .marks;
         finds = first .finds;
       };

@@ -29,8 +29,8 @@ use Rattle.walk.specs.StoreViewLaws.{and-left, and-right, allPass-nil, allPass-
 use Rattle.walk.specs.Search.{lent, Works}
 use Rattle.hit_queue.specs.Hits.{newVectors, Gathered, GatherDamage}
 use Rattle.hit_queue.specs.HitsLaws.{allPass-append, vectors-held}
-use Rattle.best_first_walk.specs.Walks.{foundAt, foundPart, Represents, Begins, insertAll, PushedNodes, WalkEnds}
-use Rattle.best_first_walk.specs.WalksLaws.{allPass-weaken, insertAll-nil, insertAll-one, insertAll-append, length-insertAll}
+use Rattle.best_first_walk.specs.Walks.{foundAt, foundPart, Represents, Begins, insertEach, PushedNodes, WalkEnds}
+use Rattle.best_first_walk.specs.WalksLaws.{allPass-weaken, insertEach-nil, insertEach-one, insertEach-append, length-insertEach}
 use Rattle.best_first_walk.proofs.Steps.{waiting-length, represents-length, popped-waits, represents-opened, represents-marked, represents-pushed, represents-hits, withWaiting, popped-number, least-below, works-popped, works-marked, works-pushed}
 use Rattle.walk.specs.LentLaws.{works-refl, works-trans, works-sets}
 use Rattle.best_first_walk.specs.declared.Walked.the-variants as walked
@@ -96,7 +96,7 @@ Opens s c hit view ef work₀ node work waiting found opened =
 pub record Marking (s : Shape) (c : Counts) (hit : ℕ → ℕ) (view : View) (ef : ℕ) (work₀ : List ℕ) (p : Progress) (waits l : List ℕ) (j : ℕ) (work : List ℕ)
     (waiting found opened : ℕ) : Type 0 where
   pub holds : Represents s c hit (withWaiting waits p) work waiting found
-  pub later : p .waiting ≡ insertAll (map (waitingNode view) (take j l)) waits
+  pub later : p .waiting ≡ insertEach (map (waitingNode view) (take j l)) waits
   pub held : allPass (λ x. ltb x (c .nodes)) (take j l) ≡ true
   pub once : Once (c .nodes) p
   pub few : length (p .found) ≤ view .most
@@ -246,7 +246,7 @@ module _ (s : Shape) (c : Counts) (hit : ℕ → ℕ) (view : View) (ef : ℕ) (
     p .waiting,
     record {
       holds = w .holds;
-      later = sym (insertAll-nil (p .waiting));
+      later = sym (insertEach-nil (p .waiting));
       held = allPass-nil (λ x. ltb x (c .nodes));
       once = w .once;
       few = w .few;
@@ -324,8 +324,8 @@ module _ (s : Shape) (c : Counts) (hit : ℕ → ℕ) (view : View) (ef : ℕ) (
             record {
               holds = represents-marked s c hit within (withWaiting (k .1) p) work waiting found child child-low few (w .holds);
               later = ap (insert (waitingNode view child)) (w .later)
-                  ∙ sym (ap (λ (t : List ℕ). insertAll (map (waitingNode view) t) (k .1)) grown ∙ ap (λ (t : List ℕ). insertAll t (k .1)) (map-append (waitingNode view) (take j l) (child ∷ []))
-                  ∙ insertAll-append nodes′ (waitingNode view child ∷ []) (k .1) ∙ insertAll-one (waitingNode view child) (insertAll nodes′ (k .1)));
+                  ∙ sym (ap (λ (t : List ℕ). insertEach (map (waitingNode view) t) (k .1)) grown ∙ ap (λ (t : List ℕ). insertEach t (k .1)) (map-append (waitingNode view) (take j l) (child ∷ []))
+                  ∙ insertEach-append nodes′ (waitingNode view child ∷ []) (k .1) ∙ insertEach-one (waitingNode view child) (insertEach nodes′ (k .1)));
               held = ap (allPass (λ x. ltb x (c .nodes))) grown ∙ allPass-append (λ x. ltb x (c .nodes)) (take j l) (child ∷ [])
                   ∙ ap₂ _&&_ (w .held) (allPass-cons (λ x. ltb x (c .nodes)) child [] ∙ ap₂ _&&_ below-nodes (allPass-nil (λ x. ltb x (c .nodes))));
               once = once-push view (c .nodes) fits p child child-low unpushed (w .once);
@@ -351,7 +351,7 @@ module _ (s : Shape) (c : Counts) (hit : ℕ → ℕ) (view : View) (ef : ℕ) (
           arith,
           represents-length s c hit (withWaiting (k .1) p) work waiting found (m .holds),
           ap length (m .later),
-          length-insertAll (map (waitingNode view) (take j l)) (k .1),
+          length-insertEach (map (waitingNode view) (take j l)) (k .1),
           length-map (take j l) (waitingNode view),
           ap length whole-list,
           waiting-length p (c .nodes) (m .once),
@@ -370,7 +370,7 @@ module _ (s : Shape) (c : Counts) (hit : ℕ → ℕ) (view : View) (ef : ℕ) (
         let p = k .0 in
         let m = k .2 in
         let r = represents-pushed s c hit within (withWaiting (k .1) p) work work′ new waiting found total (omega (arith, n, ap length is, length-map l (waitingNode view))) (m .holds) q in
-        let waits : p .waiting ≡ insertAll new (k .1) = m .later ∙ ap (λ (t : List ℕ). insertAll (map (waitingNode view) t) (k .1)) whole-list ∙ ap (λ (t : List ℕ). insertAll t (k .1)) (sym is) in (
+        let waits : p .waiting ≡ insertEach new (k .1) = m .later ∙ ap (λ (t : List ℕ). insertEach (map (waitingNode view) t) (k .1)) whole-list ∙ ap (λ (t : List ℕ). insertEach t (k .1)) (sym is) in (
           p,
           record {
             holds = record { size = r .size; queue = r .queue; waits = r .waits ∙ sym waits; marks = r .marks; finds = r .finds };

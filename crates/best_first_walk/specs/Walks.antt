@@ -64,10 +64,10 @@ abbrev pub nodesOf : Shape → List Float → List Float → List ℕ → List �
 nodesOf s floats query l = map (nodeFor s floats query) l
 
 -- inserted one after the other
-unfoldable pub insertAll : List ℕ → List ℕ → List ℕ
+unfoldable pub insertEach : List ℕ → List ℕ → List ℕ
 unfolding insert
-insertAll [] l = l
-insertAll (x ∷ xs) l = insertAll xs (insert x l)
+insertEach [] l = l
+insertEach (x ∷ xs) l = insertEach xs (insert x l)
 
 -- to push some nodes there is room in the queue before the marks
 pub record PushNodes (s : Shape) (work : List ℕ) (waiting count : ℕ) : Type 0 where
@@ -84,7 +84,7 @@ pub record Children (s : Shape) (numbers : List ℕ) (start count : ℕ) : Type 
 -- nodes were put into the queue; nothing behind it changed
 pub record PushedNodes (s : Shape) (work : List ℕ) (waiting : ℕ) (new work′ : List ℕ) : Type 0 where
   pub queue : Heap (records 2 (waiting + length new) work′)
-  pub sorted : sort (records 2 (waiting + length new) work′) ≡ insertAll new (sort (records 2 waiting work))
+  pub sorted : sort (records 2 (waiting + length new) work′) ≡ insertEach new (sort (records 2 waiting work))
   pub behind : drop (marksAt s) work′ ≡ drop (marksAt s) work
   pub size : length work′ ≡ length work
 

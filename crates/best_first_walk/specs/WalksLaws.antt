@@ -21,7 +21,7 @@ use Rattle.walk.specs.StoreView.{allPass, storeView}
 use Rattle.walk.specs.StoreViewLaws.{and-left, and-right, allPass-nil, allPass-cons}
 use Rattle.walk.specs.Walk.{waitingNode}
 use Rattle.walk.specs.Search.{lent}
-use Rattle.best_first_walk.specs.Walks.{hitsPart, foundAt, foundPart, insertAll, nodesOf, PushedNodes}
+use Rattle.best_first_walk.specs.Walks.{hitsPart, foundAt, foundPart, insertEach, nodesOf, PushedNodes}
 
 pub hits-room : (s : Shape) (c : Counts) (wanted : Wanted) (work : List ℕ) → c .vectors ≤ s .vectors → c .entries ≤ s .entries → workSize s ≤ length work
     → mostOf c wanted * 3 ≤ length (hitsPart s work)
@@ -45,30 +45,30 @@ allPass-weaken t u (x ∷ xs) weaker h =
 
 -- ---- nodes that are pushed
 
-pub insertAll-nil : (l : List ℕ) → insertAll [] l ≡ l
-unfolding insertAll
-insertAll-nil l = refl
+pub insertEach-nil : (l : List ℕ) → insertEach [] l ≡ l
+unfolding insertEach
+insertEach-nil l = refl
 
-pub insertAll-one : (x : ℕ) (l : List ℕ) → insertAll (x ∷ []) l ≡ insert x l
-unfolding insertAll
-insertAll-one x l = refl
+pub insertEach-one : (x : ℕ) (l : List ℕ) → insertEach (x ∷ []) l ≡ insert x l
+unfolding insertEach
+insertEach-one x l = refl
 
-pub insertAll-append : (xs ys l : List ℕ) → insertAll (xs ++ ys) l ≡ insertAll ys (insertAll xs l)
-unfolding insertAll
-insertAll-append [] ys l = refl
-insertAll-append (x ∷ xs) ys l = insertAll-append xs ys (insert x l)
+pub insertEach-append : (xs ys l : List ℕ) → insertEach (xs ++ ys) l ≡ insertEach ys (insertEach xs l)
+unfolding insertEach
+insertEach-append [] ys l = refl
+insertEach-append (x ∷ xs) ys l = insertEach-append xs ys (insert x l)
 
-pub length-insertAll : (xs l : List ℕ) → length (insertAll xs l) ≡ length xs + length l
-unfolding insertAll
-length-insertAll [] l = omega arith
-length-insertAll (x ∷ xs) l = omega (arith, length-insertAll xs (insert x l), length-insert x l)
+pub length-insertEach : (xs l : List ℕ) → length (insertEach xs l) ≡ length xs + length l
+unfolding insertEach
+length-insertEach [] l = omega arith
+length-insertEach (x ∷ xs) l = omega (arith, length-insertEach xs (insert x l), length-insert x l)
 
 pub pushed-none : (s : Shape) (work : List ℕ) (waiting : ℕ) → Heap (records 2 waiting work) → PushedNodes s work waiting [] work
 pushed-none s work waiting queue =
     let same : waiting + 0 ≡ waiting = omega arith in
     record {
       queue = subst (λ (n : ℕ). Heap (records 2 n work)) (sym same) queue;
-      sorted = ap (λ (n : ℕ). sort (records 2 n work)) same ∙ sym (insertAll-nil (sort (records 2 waiting work)));
+      sorted = ap (λ (n : ℕ). sort (records 2 n work)) same ∙ sym (insertEach-nil (sort (records 2 waiting work)));
       behind = refl;
       size = refl;
     }
@@ -80,7 +80,7 @@ pushed-append s work work₁ work₂ waiting one xs ys e a b =
     record {
       queue = subst (λ (n : ℕ). Heap (records 2 n work₂)) all (b .queue);
       sorted = ap (λ (n : ℕ). sort (records 2 n work₂)) (sym all) ∙ b .sorted
-          ∙ ap (insertAll ys) (ap (λ (n : ℕ). sort (records 2 n work₁)) e ∙ a .sorted) ∙ sym (insertAll-append xs ys (sort (records 2 waiting work)));
+          ∙ ap (insertEach ys) (ap (λ (n : ℕ). sort (records 2 n work₁)) e ∙ a .sorted) ∙ sym (insertEach-append xs ys (sort (records 2 waiting work)));
       behind = b .behind ∙ a .behind;
       size = b .size ∙ a .size;
     }
