@@ -18,10 +18,10 @@ use Rattle.order.specs.SortedLaws.{sort-sorted}
 use Rattle.order.specs.Records.{value, records, Heap}
 use Rattle.order.specs.RecordsLaws.{records-zero, heap-none}
 use Rattle.order.specs.Queue.{Popped}
-use Rattle.walk.specs.declared.Counts.{Counts}
+use Rattle.store.specs.declared.Counts.{Counts}
 use Rattle.walk.specs.Answer.{documentOf, distanceOf, dropAfter, dropRepeats}
 use Rattle.walk.specs.AnswerLaws.{drop-nil, drop-same, drop-other}
-use Rattle.walk.specs.StoreView.{allPass}
+use Rattle.lists.specs.Tests.{allPass}
 use Rattle.hit_queue.specs.declared.answer.Taken.{Taken}
 use Rattle.hit_queue.specs.Hits.{within, Measure, Measured, Takes}
 use Rattle.hit_queue.specs.HitsLaws.{document-popped, key-is}

@@ -14,12 +14,12 @@ use Rattle.order.specs.RecordsLaws.{heap-none}
 use Rattle.store.specs.declared.Shape.{Shape}
 use Rattle.store.specs.Store.{Limits, hitsAt, workSize}
 use Rattle.walk.specs.declared.Wanted.{Wanted}
-use Rattle.walk.specs.declared.Counts.{Counts}
+use Rattle.store.specs.declared.Counts.{Counts}
 use Rattle.walk.specs.Walk.{View, Progress, State, damaged, going, walk}
 use Rattle.walk.specs.WalkLaws.{found-most}
 use Rattle.walk.specs.Answer.{documentOf, distanceOf, dropRepeats, ranked, answer}
 use Rattle.walk.specs.AnswerLaws.{ranked-is}
-use Rattle.walk.specs.StoreView.{allPass}
+use Rattle.lists.specs.Tests.{allPass}
 use Rattle.walk.specs.Search.{Answers, SearchEnds}
 use Rattle.hit_queue.specs.Hits.{mostOf}
 use Rattle.best_first_walk.specs.Walks.{hitsPart, foundIn, foundAt, foundPart, EndsAs, WalkEnds}

@@ -10,7 +10,7 @@ use Rattle.lists.specs.Lists.{part, keep}
 use Rattle.order.specs.Sorted.{sort}
 use Rattle.order.specs.Records.{records, Heap}
 use Rattle.walk.specs.Answer.{documentOf, distanceOf, dropRepeats}
-use Rattle.walk.specs.declared.Counts.{Counts}
+use Rattle.store.specs.declared.Counts.{Counts}
 use Rattle.hit_queue.specs.Hits.{within, Measure, rankedQueue}
 
 -- the first k of hits

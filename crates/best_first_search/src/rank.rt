@@ -2,8 +2,8 @@
 use hit_queue::answer::take_hits;
 use hit_queue::queue::measure;
 use order::pop;
+use store::Counts;
 use store::Shape;
-use walk::Counts;
 ghost use Rattle.lists.specs.Lists.{part};
 ghost use Rattle.walk.specs.Search.{FloatsLent, NumbersLent};
 ghost use Rattle.hit_queue.specs.Hits.{hitsOf, Measure, CountRest};

@@ -17,9 +17,7 @@ use Rattle.distance.specs.Distance.{distance}
 use Rattle.distance.specs.TotalOrder.{keyOf}
 use Rattle.store.specs.declared.Shape.{Shape}
 use Rattle.store.specs.Store.{vectorAt}
-use Rattle.walk.specs.StoreView.{allPass}
-use Rattle.walk.specs.StoreViewLaws.{and-left, and-right, allPass-Memᴰ}
-use Rattle.hit_queue.specs.HitsLaws.{allPass-append}
+use Rattle.lists.specs.Tests.{allPass, and-left, and-right, allPass-Memᴰ, allPass-append}
 use Rattle.best_first_walk.specs.Walks.{nodeFor, PushNodes, Children, PushedNodes}
 use Rattle.best_first_walk.specs.WalksLaws.{pushed-append}
 

@@ -24,11 +24,10 @@ use Rattle.store.specs.declared.Shape.{Shape}
 use Rattle.store.specs.Store.{Limits, vectorAt, marksAt, workSize}
 use Rattle.distance.specs.Distance.{distance}
 use Rattle.distance.specs.TotalOrder.{keyOf}
-use Rattle.walk.specs.StoreView.{allPass, storeView}
-use Rattle.walk.specs.StoreViewLaws.{allPass-nil}
-use Rattle.hit_queue.specs.HitsLaws.{allPass-append}
+use Rattle.walk.specs.StoreView.{storeView}
+use Rattle.lists.specs.Tests.{allPass, allPass-nil, allPass-append}
 use Rattle.walk.specs.declared.Wanted.{Wanted}
-use Rattle.walk.specs.declared.Counts.{Counts}
+use Rattle.store.specs.declared.Counts.{Counts}
 use Rattle.walk.specs.Walk.{View, waitingNode, nodeNumber, Progress, hits}
 use Rattle.walk.specs.WalkLaws.{openedOne, withHits, Once, numbersOf}
 use Rattle.walk.specs.Search.{lent, Works}

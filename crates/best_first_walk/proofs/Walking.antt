@@ -13,7 +13,7 @@ use lib.Arith.{lt-of-le-ne}
 use lib.Seq.{take-suc, take-all, drop-cons, sets}
 use borrow.Author.Tests.{lt-ltb, ltb-true, eqb-true, eqb-false}
 use Rattle.lists.specs.Lists.{part, isIn}
-use Rattle.lists.specs.Counting.{which}
+use Rattle.lists.specs.Tests.{which, allPass, and-left, and-right, allPass-nil, allPass-cons, allPass-append, allPass-weaken}
 use Rattle.lists.specs.Parts.{getD-part, length-part}
 use Rattle.order.specs.declared.Record.{Record}
 use Rattle.order.specs.Sorted.{sort, insert}
@@ -21,16 +21,15 @@ use Rattle.order.specs.Records.{value, records}
 use Rattle.order.specs.Queue.{Popped}
 use Rattle.store.specs.declared.Shape.{Shape}
 use Rattle.store.specs.Store.{Limits, marksAt}
-use Rattle.walk.specs.declared.Counts.{Counts}
+use Rattle.store.specs.declared.Counts.{Counts}
 use Rattle.walk.specs.Walk.{View, waitingNode, Progress, State, damaged, going, walk, walkFrom, Shown, shown, give, pushAll, children, hits, damage, none, whole}
 use Rattle.walk.specs.WalkLaws.{openedOne, pushedOne, withHits, startProgress, Once, ChildrenBelow, once-kept, once-push, once-start, different-below, walk-is, walk-suc, walk-zero, step-open, none-stays, damaged-stays, some-waiting, nil-waiting, give-damage, give-children, give-hits, give-over, pushAll-nil, pushAll-fresh, pushAll-again}
-use Rattle.walk.specs.StoreView.{allPass, childrenShown}
-use Rattle.walk.specs.StoreViewLaws.{and-left, and-right, allPass-nil, allPass-cons}
+use Rattle.walk.specs.StoreView.{childrenShown}
 use Rattle.walk.specs.Search.{lent, Works}
 use Rattle.hit_queue.specs.Hits.{newVectors, Gathered, GatherDamage}
-use Rattle.hit_queue.specs.HitsLaws.{allPass-append, vectors-held}
+use Rattle.hit_queue.specs.HitsLaws.{vectors-held}
 use Rattle.best_first_walk.specs.Walks.{foundAt, foundPart, Represents, Begins, insertEach, PushedNodes, WalkEnds}
-use Rattle.best_first_walk.specs.WalksLaws.{allPass-weaken, insertEach-nil, insertEach-one, insertEach-append, length-insertEach}
+use Rattle.best_first_walk.specs.WalksLaws.{insertEach-nil, insertEach-one, insertEach-append, length-insertEach}
 use Rattle.best_first_walk.proofs.Steps.{waiting-length, represents-length, popped-waits, represents-opened, represents-marked, represents-pushed, represents-hits, withWaiting, popped-number, least-below, works-popped, works-marked, works-pushed}
 use Rattle.walk.specs.LentLaws.{works-refl, works-trans, works-sets}
 use Rattle.best_first_walk.specs.declared.Walked.the-variants as walked

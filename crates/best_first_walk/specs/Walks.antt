@@ -14,11 +14,12 @@ use Rattle.store.specs.Store.{Limits, vectorAt, workSize, marksAt, hitsAt}
 use Rattle.distance.specs.Distance.{distance}
 use Rattle.distance.specs.TotalOrder.{keyOf}
 use Rattle.walk.specs.declared.Wanted.{Wanted}
-use Rattle.walk.specs.declared.Counts.{Counts}
+use Rattle.store.specs.declared.Counts.{Counts}
 use Rattle.best_first_walk.specs.declared.Walked.{Walked}
 use Rattle.walk.specs.WalkLaws.{startProgress}
 use Rattle.walk.specs.Walk.{View, Progress, State, damaged, going, walk, whole}
-use Rattle.walk.specs.StoreView.{allPass, storeView}
+use Rattle.walk.specs.StoreView.{storeView}
+use Rattle.lists.specs.Tests.{allPass}
 use Rattle.hit_queue.specs.Hits.{hitFor}
 use Rattle.best_first_walk.specs.declared.Walked.the-variants as walked
 use Rattle.walk.specs.Search.{lent, Works}

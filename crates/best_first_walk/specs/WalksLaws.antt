@@ -12,13 +12,13 @@ use Rattle.store.specs.declared.Shape.{Shape}
 use Rattle.store.specs.Store.{Limits, hitsAt, workSize}
 use Rattle.walk.specs.declared.Wanted.{Wanted}
 use Rattle.walk.specs.declared.Wanted.the-variants.{Everything, Label}
-use Rattle.walk.specs.declared.Counts.{Counts}
+use Rattle.store.specs.declared.Counts.{Counts}
 use Rattle.hit_queue.specs.Hits.{mostOf}
 use Rattle.order.specs.Sorted.{sort, insert}
 use Rattle.order.specs.SortedLaws.{length-insert}
 use Rattle.order.specs.Records.{records, Heap}
-use Rattle.walk.specs.StoreView.{allPass, storeView}
-use Rattle.walk.specs.StoreViewLaws.{and-left, and-right, allPass-nil, allPass-cons}
+use Rattle.walk.specs.StoreView.{storeView}
+use Rattle.lists.specs.Tests.{allPass, and-left, and-right, allPass-nil, allPass-cons}
 use Rattle.walk.specs.Walk.{waitingNode}
 use Rattle.walk.specs.Search.{lent}
 use Rattle.best_first_walk.specs.Walks.{hitsPart, foundAt, foundPart, insertEach, nodesOf, PushedNodes}
@@ -35,13 +35,6 @@ few-hits s c (Label hash) v e = omega arith
 
 pub length-found : (s : Shape) (work : List ℕ) → Limits s → workSize s ≤ length work → length (foundPart s work) ≡ max (s .vectors) (s .entries) + 1
 length-found s work limits size = length-part (foundAt s) (max (s .vectors) (s .entries) + 1) work (omega (arith, limits .vectors-low))
-
--- numbers that pass a test pass a weaker one
-pub allPass-weaken : (t u : ℕ → Bool) (l : List ℕ) → ((x : ℕ) → t x ≡ true → u x ≡ true) → allPass t l ≡ true → allPass u l ≡ true
-allPass-weaken t u [] weaker h = allPass-nil u
-allPass-weaken t u (x ∷ xs) weaker h =
-    let both : (t x && allPass t xs) ≡ true = sym (allPass-cons t x xs) ∙ h in
-    allPass-cons u x xs ∙ ap₂ _&&_ (weaker x (and-left (t x) (allPass t xs) both)) (allPass-weaken t u xs weaker (and-right (t x) (allPass t xs) both))
 
 -- ---- nodes that are pushed
 

@@ -7,7 +7,7 @@ use lib.Dec.{ltb}
 use lib.ListN.{length, getD}
 use Rattle.lists.specs.Lists.{part}
 use Rattle.store.specs.Store.{Store, ownersAt, floatsSize, numbersSize, hashesSize, workSize}
-use Rattle.walk.specs.StoreView.{allPass}
+use Rattle.lists.specs.Tests.{allPass}
 use Rattle.curator.specs.declared.Check.{Check}
 use Rattle.curator.specs.declared.Check.the-variants.{Fine}
 use Rattle.curator.specs.declared.CuratorIndex.{CuratorIndex}

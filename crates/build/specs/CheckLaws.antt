@@ -12,7 +12,7 @@ use Rattle.lists.specs.Lists.{part}
 use Rattle.lists.specs.Parts.{length-part, getD-part, part-cons, sets-self}
 use Rattle.store.specs.declared.Shape.{Shape}
 use Rattle.store.specs.Store.{Store, ownersAt, floatsSize, numbersSize, hashesSize, workSize}
-use Rattle.walk.specs.StoreView.{allPass}
+use Rattle.lists.specs.Tests.{allPass, and-both}
 use Rattle.curator.specs.declared.Check.{Check}
 use Rattle.curator.specs.declared.Check.the-variants.{Fine, Refused}
 use Rattle.curator.specs.declared.CuratorIndex.{CuratorIndex}
@@ -24,7 +24,7 @@ use Rattle.curator.specs.declared.refusal.StoreRefusal.the-variants.{ListTooSho
 use Rattle.curator.specs.Limits.{stateSound, indexShape}
 use Rattle.curator.specs.Rows.{Row, row, Lengths, firstOf, stateRow, storeShort, listsShort, buildRows}
 use Rattle.curator.specs.RowLaws.{FirstAt, refusalAt, refused-first, fine-none, no-rows, row-stops, row-passes, rows-then}
-use Rattle.curator.specs.StateLaws.{Sound, and-all, sound-facts}
+use Rattle.curator.specs.StateLaws.{Sound, sound-facts}
 use Rattle.curator.specs.Calls.{lengthsOf, heldEntries}
 use Rattle.curator.specs.Changes.{Part, workPart, Freed, freeOf, Left, ownersDamaged, tooManyNodes, buildCheck}
 use Rattle.build.specs.Asked.{ownersBad, buildChecked, Ready}
@@ -130,15 +130,15 @@ pub lists-long : (s : Shape) (lent : Lengths) → listsShort s lent ≡ false
 unfolding listsShort storeShort
 lists-long s lent h =
     let (a, b) = or-none (storeShort s lent) (not (leb (workSize s) (lent .work))) h in
-    let (f, rest) = and-all (leb (floatsSize s) (lent .floats)) _ (not-false _ a) in
-    let (n, k) = and-all (leb (numbersSize s) (lent .numbers)) (leb (hashesSize s) (lent .hashes)) rest in
+    let (f, rest) = and-both (leb (floatsSize s) (lent .floats)) _ (not-false _ a) in
+    let (n, k) = and-both (leb (numbersSize s) (lent .numbers)) (leb (hashesSize s) (lent .hashes)) rest in
     (leb-true _ _ f, leb-true _ _ n, leb-true _ _ k, leb-true _ _ (not-false _ b))
 
 pub all-pass-at : (test : ℕ → Bool) (l : List ℕ) (k : ℕ) → allPass test l ≡ true → k < length l → test (getD l k 0) ≡ true
 unfolding allPass
 all-pass-at test [] k h b = absurd (not-suc-le-zero b)
-all-pass-at test (x ∷ xs) zero h b = and-all (test x) (allPass test xs) h .0
-all-pass-at test (x ∷ xs) (suc k) h b = all-pass-at test xs k (and-all (test x) (allPass test xs) h .1) (le-of-suc-le-suc b)
+all-pass-at test (x ∷ xs) zero h b = and-both (test x) (allPass test xs) h .0
+all-pass-at test (x ∷ xs) (suc k) h b = all-pass-at test xs k (and-both (test x) (allPass test xs) h .1) (le-of-suc-le-suc b)
 
 pub from-first : (test : ℕ → Bool) (l : List ℕ) (at count : ℕ) → allPass test (part at count l) ≡ allPass test (part (at + 0) (count - 0) l)
 from-first test l at count =

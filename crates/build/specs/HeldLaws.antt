@@ -20,8 +20,8 @@ use Rattle.tree.specs.NodeLaws.{length-nodesOf, length-ids, length-links, lengt
 use Rattle.tree.specs.Subtrees.{nodesOf-four, nodesOf-wide}
 use Rattle.tree.specs.Layout.{sixFrom, numbersOf, hashesOf, floatsOf}
 use Rattle.tree.specs.LayoutLaws.{nodesOf-fit, length-blocks, length-sixFrom, numbers-order, numbers-six, numbers-links, numbers-entries, floats-centroids}
-use Rattle.walk.specs.declared.Counts.{Counts}
-use Rattle.walk.specs.StoreView.{allPass}
+use Rattle.store.specs.declared.Counts.{Counts}
+use Rattle.lists.specs.Tests.{allPass}
 use Rattle.curator.specs.declared.Changed.{Changed}
 use Rattle.curator.specs.declared.Changed.the-variants as Changed′
 use Rattle.curator.specs.declared.Check.{Check}

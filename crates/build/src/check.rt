@@ -5,7 +5,7 @@ ghost use mathlib.Core.Path.{_≡_};
 ghost use lib.Dec.{ltb};
 ghost use lib.ListN.{length};
 ghost use Rattle.lists.specs.Lists.{part};
-ghost use Rattle.walk.specs.StoreView.{allPass};
+ghost use Rattle.lists.specs.Tests.{allPass};
 ghost use Rattle.curator.specs.Lent.{lengths};
 ghost use Rattle.build.specs.Asked.{buildChecked};
 use curator::Check;

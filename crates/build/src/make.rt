@@ -11,7 +11,7 @@ use curator::CuratorIndex;
 use curator::limits;
 use curator::refusal::Refusal;
 use curator::refusal::StoreRefusal;
-use walk::Counts;
+use store::Counts;
 
 // The state after an accepted build.
 fn built_with(index: CuratorIndex, nodes: usize) -> CuratorIndex

@@ -13,7 +13,7 @@ use curator::Changed;
 use curator::CuratorIndex;
 use curator::CuratorParams;
 use libc::STDOUT_FILENO;
-use walk::Counts;
+use store::Counts;
 ghost use Prim.Native.Nat.{_≤_};
 
 // How many places of each list are lent.

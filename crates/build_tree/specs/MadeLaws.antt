@@ -9,7 +9,8 @@ use native.Mathlib.Omega.{arith}
 use lib.Ieee.{Float}
 use lib.ListN.{length, getD, length-append}
 use Rattle.lists.specs.Lists.{joined}
-use Rattle.lists.specs.Counting.{which, getD-Memᴰ, Memᴰ-getD, joined-snoc, joined-map, joined-Memᴰ}
+use Rattle.lists.specs.Counting.{getD-Memᴰ, Memᴰ-getD, joined-snoc, joined-map, joined-Memᴰ}
+use Rattle.lists.specs.Tests.{which}
 use Rattle.lists.specs.Partition.{perm-length, perm-Memᴰ}
 use Rattle.cluster.specs.Clusters.{meanOf}
 use Rattle.cluster.specs.Laws.{length-meanOf}

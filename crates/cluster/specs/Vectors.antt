@@ -14,7 +14,8 @@ use lib.Ieee.{Float}
 use Rattle.lists.specs.Maps.{getD-map}
 use Rattle.lists.specs.Lists.{part, countFrom}
 use Rattle.lists.specs.Parts.{part-part, length-part, part-sets-same, part-sets-before, part-sets-after, drop-sets-add}
-use Rattle.lists.specs.Counting.{which, length-countFrom, getD-countFrom}
+use Rattle.lists.specs.Counting.{length-countFrom, getD-countFrom}
+use Rattle.lists.specs.Tests.{which}
 use Rattle.store.specs.Store.{vectorAt}
 use Rattle.cluster.specs.Clusters.{vectorOf}
 use Rattle.cluster.specs.Lent.{vectorsIn, vectorsFrom}

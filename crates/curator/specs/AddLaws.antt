@@ -10,7 +10,7 @@ use lib.ListN.{length}
 use Rattle.distance.specs.Vector.{allFinite}
 use Rattle.store.specs.declared.Shape.{Shape}
 use Rattle.store.specs.Store.{Store, floatsSize, numbersSize, hashesSize}
-use Rattle.walk.specs.declared.Counts.{Counts}
+use Rattle.store.specs.declared.Counts.{Counts}
 use Rattle.curator.specs.declared.Changed.{Changed}
 use Rattle.curator.specs.declared.Changed.the-variants as Changed′
 use Rattle.curator.specs.declared.Check.{Check}
@@ -23,15 +23,16 @@ use Rattle.curator.specs.Calls.{lengthsOf, grown}
 use Rattle.curator.specs.Changes.{AddCall, addCheck, Wrote, AddsBy, Adds}
 use Rattle.curator.specs.Lent.{Room}
 use Rattle.curator.specs.RowLaws.{NoneHolds, fine-none, rowsOfAdd, add-check-rows}
-use Rattle.curator.specs.StateLaws.{and-all, Sound, sound-facts, facts-sound}
+use Rattle.curator.specs.StateLaws.{Sound, sound-facts, facts-sound}
+use Rattle.lists.specs.Tests.{and-both}
 
 -- three lists that are not short
 pub long-enough : (s : Shape) (lent : Lengths) → storeShort s lent ≡ false
     → (floatsSize s ≤ lent .floats) × (numbersSize s ≤ lent .numbers) × (hashesSize s ≤ lent .hashes)
 unfolding storeShort
 long-enough s lent h =
-    let (f, rest) = and-all (leb (floatsSize s) (lent .floats)) _ (not-false _ h) in
-    let (n, k) = and-all (leb (numbersSize s) (lent .numbers)) (leb (hashesSize s) (lent .hashes)) rest in
+    let (f, rest) = and-both (leb (floatsSize s) (lent .floats)) _ (not-false _ h) in
+    let (n, k) = and-both (leb (numbersSize s) (lent .numbers)) (leb (hashesSize s) (lent .hashes)) rest in
     (leb-true _ _ f, leb-true _ _ n, leb-true _ _ k)
 
 -- What an accepted add was asked of, as plain facts.

@@ -13,7 +13,7 @@ use Rattle.store.specs.Store.{Store, centroidsAt, centresAt, ownersAt, orderAt,
 use Rattle.tree.specs.Tree.{treeOf, size}
 use Rattle.tree.specs.Nodes.{Node, Entries, nodesOf}
 use Rattle.tree.specs.Layout.{numbersOf, hashesOf, floatsOf}
-use Rattle.walk.specs.StoreView.{allPass}
+use Rattle.lists.specs.Tests.{allPass}
 use Rattle.curator.specs.declared.CuratorParams.{CuratorParams}
 use Rattle.curator.specs.declared.Capacities.{Capacities}
 use Rattle.curator.specs.declared.CuratorIndex.{CuratorIndex}

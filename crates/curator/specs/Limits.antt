@@ -4,7 +4,7 @@ use mathlib.Core.Bool.{Bool, true, _&&_, cond}
 use mathlib.Core.List.{List, [], _∷_}
 use lib.Dec.{leb, ltb, eqb}
 use Rattle.store.specs.declared.Shape.{Shape}
-use Rattle.walk.specs.declared.Counts.{Counts}
+use Rattle.store.specs.declared.Counts.{Counts}
 use Rattle.curator.specs.declared.CuratorParams.{CuratorParams}
 use Rattle.curator.specs.declared.Capacities.{Capacities}
 use Rattle.curator.specs.declared.CuratorIndex.{CuratorIndex}

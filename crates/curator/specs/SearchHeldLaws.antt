@@ -26,7 +26,8 @@ use Rattle.curator.specs.RowLaws.{fine-none}
 use Rattle.curator.specs.Rows.{row, firstOf, stateRow, listsShort, searchRows}
 use Rattle.curator.specs.SearchRowLaws.{walkFor, walkOf, earlyRows, search-check-rows}
 use Rattle.curator.specs.Searches.{SearchCall, SearchEnd, wantedOf, searchCheck, Walked, WalkedTo, SearchesBy, Searches}
-use Rattle.curator.specs.StateLaws.{and-all, sound-facts}
+use Rattle.curator.specs.StateLaws.{sound-facts}
+use Rattle.lists.specs.Tests.{and-both}
 
 -- two ends of a search with the same answer and the same answer lists; the work lists are free
 pub record SameEnd (a b : SearchEnd) : Type 0 where
@@ -58,7 +59,7 @@ some-node index store work call f =
     let (sound, (_, (built, _))) = fine-none (earlyRows index store work call) (sym (search-check-rows index store work call) ∙ f) in
     let facts = sound-facts index (not-false _ sound) in
     let allowed = subst (λ (b : Bool). builtAllowed b (index .counts) ≡ true) (not-false (index .built) built) (facts .built) in
-    let (_, nodes) = and-all (ltb 0 (index .counts .vectors)) (ltb 0 (index .counts .nodes)) allowed in
+    let (_, nodes) = and-both (ltb 0 (index .counts .vectors)) (ltb 0 (index .counts .nodes)) allowed in
     (ltb-true 0 (index .counts .nodes) nodes, omega (arith, facts .nodes, facts .limits .nodes-high))
 
 -- ---- the law

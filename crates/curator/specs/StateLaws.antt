@@ -34,19 +34,12 @@ abbrev All : List Bool → Type 0
 All [] = Unit
 All (test ∷ tests) = (test ≡ true) × All tests
 
-pub and-all : (a b : Bool) → a && b ≡ true → (a ≡ true) × (b ≡ true)
-and-all true b h = (refl, h)
-and-all false b h = let z : false ≡ true = h in (z, absurd (no z))
-  where
-    no : false ≡ true → ⊥
-    no e = let z : _≡_ {A = ℕ} 0 1 = cc in omega arith
-
 both : {a b : Bool} → a ≡ true → b ≡ true → a && b ≡ true
 both e f = rw e f
 
 every-all : (tests : List Bool) → every tests ≡ true → All tests
 every-all [] h = tt
-every-all (test ∷ tests) h = let (a, b) = and-all test (every tests) h in (a, every-all tests b)
+every-all (test ∷ tests) h = let (a, b) = and-both test (every tests) h in (a, every-all tests b)
 
 all-every : (tests : List Bool) → All tests → every tests ≡ true
 all-every [] h = refl
@@ -78,7 +71,7 @@ sound-groups index = refl
 
 dimension-tests : (d : ℕ) → dimensionAllowed d ≡ true → (1 ≤ d) × (d ≤ 128)
 unfolding dimensionAllowed
-dimension-tests d h = let (a, b) = and-all (leb 1 d) (leb d 128) h in (leb-true 1 d a, leb-true d 128 b)
+dimension-tests d h = let (a, b) = and-both (leb 1 d) (leb d 128) h in (leb-true 1 d a, leb-true d 128 b)
 
 abbrev paramsTests : CuratorParams → List Bool
 paramsTests p =
@@ -204,7 +197,7 @@ pub fresh-sound : (dimension : ℕ) (params : CuratorParams) (capacities : Capac
     → stateSound (fresh dimension params capacities) ≡ true
 unfolding newRows builtAllowed
 fresh-sound dimension params capacities (d, (s, _)) =
-    let (p, c) = and-all (paramsAllowed params) (capacitiesAllowed capacities) (not-false _ s) in
+    let (p, c) = and-both (paramsAllowed params) (capacitiesAllowed capacities) (not-false _ s) in
     let index = fresh dimension params capacities in
     let ns = all-every (countsTests index) (leb·zero (capacities .vectors), (leb·zero (capacities .entries), (leb·zero (capacities .nodes), tt))) in
     sound-groups index ∙ all-every (groups index) (not-false _ d, (p, (c, (counts-tests index ∙ ns, (refl, tt)))))

@@ -17,7 +17,7 @@ use crate::refusal::InputRefusal;
 use crate::refusal::Refusal;
 use crate::refusal::StateRefusal;
 use crate::refusal::StoreRefusal;
-use walk::Counts;
+use store::Counts;
 
 // A byte as a size.
 fn wide(byte: u8) -> usize

@@ -10,7 +10,7 @@ pub mod refusal;
 
 use refusal::Refusal;
 use refusal::SettingsRefusal;
-use walk::Counts;
+use store::Counts;
 
 // The settings of an index beside its dimension. `beam_width` is kept and read by no build or search.
 pub struct CuratorParams {

@@ -7,8 +7,8 @@ ghost use Rattle.curator.specs.Lent.{lengths, storeLengths};
 use crate::Capacities;
 use crate::CuratorIndex;
 use crate::CuratorParams;
+use store::Counts;
 use store::Shape;
-use walk::Counts;
 
 pub fn dimension_allowed(dimension: usize) -> bool
     ensures { λ r. ⌜ r ≡ dimensionAllowed dimension ⌝ }

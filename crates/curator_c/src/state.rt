@@ -9,7 +9,7 @@ ghost use Rattle.curator_c.specs.State.{places, stateList, stateOf, stat
 use curator::Capacities;
 use curator::CuratorIndex;
 use curator::CuratorParams;
-use walk::Counts;
+use store::Counts;
 
 // How many places a state takes.
 pub const STATE: usize = 12;

@@ -8,8 +8,7 @@ use lib.ListN.{length, getD}
 use borrow.Author.Tests.{ltb-true, not-true, not-false}
 use Rattle.lists.specs.Parts.{four-mapped}
 use Rattle.lists.specs.Lists.{part}
-use Rattle.walk.specs.StoreView.{allPass}
-use Rattle.walk.specs.StoreViewLaws.{and-left, and-right, allPass-nil, allPass-cons}
+use Rattle.lists.specs.Tests.{allPass, and-left, and-right, allPass-nil, allPass-cons}
 use Rattle.hit_queue.proofs.LeafLists.{allPass-one, and-false}
 
 -- as `all_below` joins them

@@ -12,17 +12,15 @@ use borrow.Author.Tests.{lt-ltb, le-ltb}
 use lib.Seq.{take-all, take-suc, drop-cons, take-set-le, take-suc-set}
 use Rattle.lists.specs.Lists.{part, keep}
 use Rattle.lists.specs.Parts.{length-part, getD-part}
-use Rattle.lists.specs.Counting.{which, keep-nil, keep-pass, keep-fail, keep-append}
-use Rattle.walk.specs.StoreView.{allPass}
-use Rattle.walk.specs.StoreViewLaws.{allPass-nil, allPass-cons}
+use Rattle.lists.specs.Counting.{keep-nil, keep-pass, keep-fail, keep-append}
+use Rattle.lists.specs.Tests.{which, allPass, allPass-nil, allPass-cons, allPass-append}
 use Rattle.store.specs.declared.Shape.{Shape}
 use Rattle.store.specs.Store.{ownersAt}
 use Rattle.walk.specs.declared.Wanted.the-variants.{Everything, Label}
-use Rattle.walk.specs.declared.Counts.{Counts}
+use Rattle.store.specs.declared.Counts.{Counts}
 use Rattle.hit_queue.specs.declared.gather.Added.{Added}
 use Rattle.hit_queue.specs.declared.gather.Added.the-variants as added
 use Rattle.hit_queue.specs.Hits.{passes, has, newVectors, Gathered, GatherDamage, Gathers, AddedVectors, AddedEntries, AddedHits}
-use Rattle.hit_queue.specs.HitsLaws.{allPass-append}
 
 pub allPass-one : (t : ℕ → Bool) (x : ℕ) (b : Bool) → t x ≡ b → allPass t (x ∷ []) ≡ b
 allPass-one t x b e = allPass-cons t x [] ∙ ap₂ _&&_ e (allPass-nil t) ∙ go b

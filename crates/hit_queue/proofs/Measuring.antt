@@ -19,12 +19,11 @@ use Rattle.order.specs.Queue.{Pushed}
 use Rattle.store.specs.declared.Shape.{Shape}
 use Rattle.store.specs.Store.{vectorAt}
 use Rattle.distance.specs.Distance.{distance}
-use Rattle.walk.specs.declared.Counts.{Counts}
-use Rattle.walk.specs.StoreView.{allPass}
-use Rattle.walk.specs.StoreViewLaws.{and-right, allPass-Memᴰ}
+use Rattle.store.specs.declared.Counts.{Counts}
+use Rattle.lists.specs.Tests.{allPass, and-right, allPass-Memᴰ, allPass-append}
 use Rattle.walk.specs.Answer.{hitOf}
 use Rattle.hit_queue.specs.Hits.{hitFor, within, Measured, Measure}
-use Rattle.hit_queue.specs.HitsLaws.{allPass-append, key-is}
+use Rattle.hit_queue.specs.HitsLaws.{key-is}
 
 -- ---- hits are added
 

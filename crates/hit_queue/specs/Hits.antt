@@ -16,11 +16,11 @@ use Rattle.store.specs.Store.{ownersAt, vectorAt}
 use Rattle.distance.specs.Distance.{distance}
 use Rattle.walk.specs.declared.Wanted.{Wanted}
 use Rattle.walk.specs.declared.Wanted.the-variants.{Everything, Label}
-use Rattle.walk.specs.declared.Counts.{Counts}
+use Rattle.store.specs.declared.Counts.{Counts}
 use Rattle.hit_queue.specs.declared.gather.Added.{Added}
 use Rattle.hit_queue.specs.declared.answer.Taken.{Taken}
 use Rattle.walk.specs.Answer.{hitOf, documentOf, distanceOf, dropAfter, dropRepeats}
-use Rattle.walk.specs.StoreView.{allPass}
+use Rattle.lists.specs.Tests.{allPass}
 use Rattle.hit_queue.specs.declared.gather.Added.the-variants as added
 
 -- ---- the hits of a leaf

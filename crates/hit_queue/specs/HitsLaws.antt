@@ -8,7 +8,8 @@ use mathlib.Core.List.{List, [], _∷_, _++_, map, map-map, map-id}
 use lib.Dec.{ltb, eqb}
 use lib.ListN.{getD, drop}
 use lib.Ieee.{Float}
-use Rattle.lists.specs.Counting.{which, keep-nil, keep-pass, keep-fail, keep-all}
+use Rattle.lists.specs.Counting.{keep-nil, keep-pass, keep-fail, keep-all}
+use Rattle.lists.specs.Tests.{which, allPass, and-left, and-right, allPass-nil, allPass-cons}
 use Rattle.lists.specs.Lists.{part, keep}
 use Rattle.lists.specs.Parts.{part-append-parts}
 use Rattle.order.specs.declared.Record.{Record}
@@ -18,10 +19,9 @@ use Rattle.store.specs.declared.Shape.{Shape}
 use Rattle.store.specs.Store.{ownersAt}
 use Rattle.walk.specs.declared.Wanted.{Wanted}
 use Rattle.walk.specs.declared.Wanted.the-variants.{Everything, Label}
-use Rattle.walk.specs.declared.Counts.{Counts}
+use Rattle.store.specs.declared.Counts.{Counts}
 use Rattle.walk.specs.Walk.{hits, damage}
-use Rattle.walk.specs.StoreView.{allPass, vectorsShown, entriesShown, mostHits, hitAt, storeView}
-use Rattle.walk.specs.StoreViewLaws.{and-left, and-right, allPass-nil, allPass-cons}
+use Rattle.walk.specs.StoreView.{vectorsShown, entriesShown, mostHits, hitAt, storeView}
 use Rattle.walk.specs.Answer.{documentOf, dropAfter, dropRepeats}
 use Rattle.walk.specs.AnswerLaws.{drop-nil, drop-other, repeats-nil, repeats-cons}
 use Rattle.walk.specs.Search.{lent, listShown}
@@ -50,14 +50,6 @@ pub vector-held : (s : Shape) (c : Counts) (numbers : List ℕ) (wanted : Wanted
 unfolding passes
 vector-held s c numbers Everything x t = t
 vector-held s c numbers (Label hash) x t = and-right (ltb x (c .entries)) (ltb (getD numbers (ownersAt s + x) 0) (c .vectors)) t
-
-pub allPass-append : (t : ℕ → Bool) (xs ys : List ℕ) → allPass t (xs ++ ys) ≡ (allPass t xs && allPass t ys)
-allPass-append t [] ys = rw (allPass-nil t)
-allPass-append t (x ∷ xs) ys = rw (allPass-cons t x (xs ++ ys), allPass-cons t x xs, allPass-append t xs ys) (go (t x))
-  where
-    go : (b : Bool) → (b && (allPass t xs && allPass t ys)) ≡ ((b && allPass t xs) && allPass t ys)
-    go true = refl
-    go false = refl
 
 -- so are those of a list
 pub vectors-held : (test wants below : ℕ → Bool) (vector : ℕ → ℕ) (l : List ℕ) → ((x : ℕ) → test x ≡ true → below (vector x) ≡ true) → allPass test l ≡ true

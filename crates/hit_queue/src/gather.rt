@@ -1,9 +1,9 @@
 // The vectors that a leaf's list is about are added to those found (document 01, 'Search').
+use store::Counts;
 use store::Shape;
-use walk::Counts;
+use store::wide;
 use walk::Wanted;
 use walk::look::Block;
-use walk::look::wide;
 ghost use mathlib.Core.Path.{_≡_};
 ghost use Prim.Native.Nat.{_+_, _<_, _≤_};
 ghost use lib.ListN.{length, getD, set};

@@ -6,7 +6,7 @@ use curator::Capacities;
 use curator::Changed;
 use curator::CuratorIndex;
 use curator::CuratorParams;
-use walk::Counts;
+use store::Counts;
 
 fn print_number(n: u64) {
     io::print_decimal(1, n);

@@ -11,7 +11,8 @@ use lib.Ieee.{Float}
 use lib.ListN.{length, getD}
 use borrow.Author.Tests.{eqb-true, eqb-false}
 use Rattle.lists.specs.Lists.{keep, joined, countFrom, isIn}
-use Rattle.lists.specs.Counting.{which, getD-Memᴰ, Memᴰ-getD, Memᴰ-isIn, isIn-Memᴰ, isIn-countFrom, Memᴰ-countFrom, Memᴰ-joined, keep-congr}
+use Rattle.lists.specs.Counting.{getD-Memᴰ, Memᴰ-getD, Memᴰ-isIn, isIn-Memᴰ, isIn-countFrom, Memᴰ-countFrom, Memᴰ-joined, keep-congr}
+use Rattle.lists.specs.Tests.{which}
 use Rattle.lists.specs.Partition.{Permᴰ·symm, perm-Memᴰ, count-one-place}
 use Rattle.tree.specs.Tree.{Splitting, treeOf}
 use Rattle.tree.specs.Nodes.{Entries, Node, nodesOf, entriesOf}

@@ -11,7 +11,8 @@ use lib.ListN.{length, getD, take, length-map, List·getD-map}
 use lib.Seq.{sets, length-sets, ext-getD, take-append-seam}
 use borrow.Author.Tests.{ltb-true, ltb-false}
 use Rattle.lists.specs.Lists.{part}
-use Rattle.lists.specs.Counting.{which, sumOf}
+use Rattle.lists.specs.Counting.{sumOf}
+use Rattle.lists.specs.Tests.{which}
 use Rattle.lists.specs.Partition.{count}
 use Rattle.lists.specs.Parts.{getD-part, part-append-right, getD-sets-before, getD-sets-after, getD-sets-in}
 use Rattle.tree.specs.Nodes.{Node}

@@ -12,7 +12,7 @@ use lib.Dec.{eqb}
 use lib.ListN.{length, getD, set, length-set}
 use lib.Seq.{getD-set-same, getD-set-other, set-set, set-comm}
 use borrow.Author.Tests.{eqb-true, eqb-false}
-use Rattle.lists.specs.Counting.{which}
+use Rattle.lists.specs.Tests.{which}
 use Rattle.label_entries.specs.Passes.{written, cellAt, sumTo}
 
 -- below the last, or the last

@@ -13,11 +13,7 @@ use lib.ListN.{length, getD, take, drop, length-append}
 use lib.Dec.{eqb}
 use borrow.Author.Tests.{eqb-true, eq-eqb, ne-eqb}
 use Rattle.lists.specs.Lists.{part, keep, joined, countFrom, isIn}
-
--- a test's two values
-pub which : (b : Bool) → (b ≡ true) ⊎ (b ≡ false)
-which true = inl refl
-which false = inr refl
+use Rattle.lists.specs.Tests.{which}
 
 -- ---- an element and its place
 

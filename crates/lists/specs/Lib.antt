@@ -1,5 +1,6 @@
 -- Definitions and laws on lists beyond those of `lib.ListN` and `lib.Seq`, for every element type.
 pub mod Lists
+pub mod Tests
 pub mod Parts
 pub mod Writes
 pub mod Maps

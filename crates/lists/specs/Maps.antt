@@ -1,6 +1,6 @@
 -- Laws of `map`: of functions that agree on a list, and of an element.
 use mathlib.Core.Path.{_≡_, refl, ap₂}
-use mathlib.Core.List.{List, [], _∷_, map, List·Memᴰ, List·Memᴰ·head, List·Memᴰ·tail}
+use mathlib.Core.List.{List, [], _∷_, map, List·Memᴰ, List·Memᴰ·head, List·Memᴰ·tail, List·Memᴰ·not-nil}
 use Prim.Native.Nat.{ℕ, zero, suc, _<_}
 use native.Mathlib.Nat.{not-suc-le-zero, le-of-suc-le-suc}
 use lib.ListN.{length, getD}
@@ -14,3 +14,9 @@ module _ {ℓ κ} {A : Type ℓ} {B : Type κ} where
   getD-map f [] i d e h = absurd (not-suc-le-zero h)
   getD-map f (x ∷ xs) zero d e h = refl
   getD-map f (x ∷ xs) (suc i) d e h = getD-map f xs i d e (le-of-suc-le-suc h)
+
+-- an element of a mapped list is that of an element
+pub Memᴰ-map {ℓ κ} : {A : Type ℓ} {B : Type κ} (f : A → B) {y : B} {l : List A} → List·Memᴰ y (map f l) → (x : A) × List·Memᴰ x l × (y ≡ f x)
+Memᴰ-map f {l = []} m = absurd (List·Memᴰ·not-nil m)
+Memᴰ-map f {l = x ∷ xs} (List·Memᴰ·head e) = (x, List·Memᴰ·head refl, e)
+Memᴰ-map f {l = x ∷ xs} (List·Memᴰ·tail m) = let (z, k, e) = Memᴰ-map f m in (z, List·Memᴰ·tail k, e)

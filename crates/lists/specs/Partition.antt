@@ -16,7 +16,8 @@ use lib.Dec.{eqb}
 use lib.Arith.{lt-of-le-ne}
 use borrow.Author.Tests.{eqb-true, eqb-false, eq-eqb, ne-eqb}
 use Rattle.lists.specs.Lists.{keep, joined, countFrom, isIn}
-use Rattle.lists.specs.Counting.{which, getD-Memᴰ, isIn-ext, isIn-Memᴰ, Memᴰ-isIn, isIn-keep, countFrom-cons, countFrom-append, isIn-countFrom-not, Memᴰ-countFrom, keep-nil, keep-pass, keep-fail, joined-cons, joined-append, joined-congr, joined-none, sumOf, sumOf-append, sumOf-joined}
+use Rattle.lists.specs.Counting.{getD-Memᴰ, isIn-ext, isIn-Memᴰ, Memᴰ-isIn, isIn-keep, countFrom-cons, countFrom-append, isIn-countFrom-not, Memᴰ-countFrom, keep-nil, keep-pass, keep-fail, joined-cons, joined-append, joined-congr, joined-none, sumOf, sumOf-append, sumOf-joined}
+use Rattle.lists.specs.Tests.{which}
 
 -- ---- laws of every permutation
 

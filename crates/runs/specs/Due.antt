@@ -13,10 +13,11 @@ use lib.Dec.{eqb}
 use lib.Ieee.{Float}
 use lib.ListN.{length, getD, length-map}
 use Rattle.lists.specs.Lists.{joined, keep, countFrom}
-use Rattle.lists.specs.Counting.{which, getD-Memᴰ, keep-none, length-keep-le, length-countFrom, joined-map, map-joined, keep-joined}
+use Rattle.lists.specs.Counting.{getD-Memᴰ, keep-none, length-keep-le, length-countFrom, joined-map, map-joined, keep-joined}
+use Rattle.lists.specs.Tests.{which, either}
 use Rattle.lists.specs.Partition.{List·Permᴰ, List·Permᴰ·trans, Permᴰ·refl, Permᴰ·symm, Permᴰ·map, perm-of-eq, perm-append, perm-keep, perm-length}
 use Rattle.order.specs.Sorted.{sort}
-use Rattle.order.specs.SortedLaws.{either, perm-sort}
+use Rattle.order.specs.SortedLaws.{perm-sort}
 use Rattle.label.specs.Filter.{mayContain}
 use Rattle.tree.specs.Tree.{Tree, Forest, leaf, inner, none, more, Splitting, treeOf, size}
 use Rattle.tree.specs.Nodes.{Node, Entries, roots, entriesOf, filterOf}

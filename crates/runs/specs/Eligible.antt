@@ -12,9 +12,9 @@ use lib.Ieee.{Float}
 use lib.ListN.{length, getD, replicate}
 use Rattle.lists.specs.Maps.{map-on}
 use Rattle.lists.specs.Lists.{joined, keep, countFrom, isIn}
-use Rattle.lists.specs.Counting.{which, isIn-nil, isIn-later, keep-map, keep-pass, keep-fail, keep-nil, Memᴰ-keep}
+use Rattle.lists.specs.Counting.{isIn-nil, isIn-later, keep-map, keep-pass, keep-fail, keep-nil, Memᴰ-keep}
+use Rattle.lists.specs.Tests.{which, either}
 use Rattle.lists.specs.Partition.{hit}
-use Rattle.order.specs.SortedLaws.{either}
 use Rattle.distance.specs.TotalOrder.{keyOf}
 use Rattle.distance.specs.Normalized.{normalized}
 use Rattle.walk.specs.declared.Wanted.{Wanted}

@@ -13,7 +13,7 @@ use Rattle.lists.specs.Lists.{part, countFrom, joined}
 use Rattle.lists.specs.Counting.{countFrom-snoc, Memᴰ-countFrom, joined-snoc, getD-Memᴰ}
 use Rattle.lists.specs.Parts.{part-sets-same, part-sets-before, part-set-before, part-append-parts}
 use Rattle.distance.specs.Normalized.{normalized, normalized-is, length-normalized}
-use Rattle.order.specs.SortedLaws.{either}
+use Rattle.lists.specs.Tests.{either}
 use Rattle.store.specs.Store.{Store, vectorAt, centroidsAt, orderAt, filtersAt}
 use Rattle.curator.specs.Calls.{labelsOf, hashesOfLabels, heldVectors, heldEntries}
 use Rattle.curator.specs.Changes.{AddCall, Wrote}

@@ -10,7 +10,7 @@ use Rattle.lists.specs.Maps.{map-on}
 use Rattle.lists.specs.Counting.{sumOf, sumOf-map, getD-Memᴰ, Memᴰ-keep}
 use Rattle.lists.specs.Partition.{hit, count, count-Memᴰ, Memᴰ-count}
 use Rattle.order.specs.Sorted.{sort}
-use Rattle.order.specs.SortedLaws.{either}
+use Rattle.lists.specs.Tests.{either}
 use Rattle.distance.specs.DistanceLaws.{distance-fits}
 use Rattle.distance.specs.TotalOrder.{keyOf, ofKey}
 use Rattle.distance.specs.OrderLaws.{ofKey-keyOf}

@@ -14,7 +14,8 @@ use Rattle.lists.specs.Maps.{getD-map}
 use Rattle.lists.specs.Counting.{getD-Memᴰ}
 use Rattle.lists.specs.Parts.{getD-sets-in}
 use Rattle.order.specs.Sorted.{sort}
-use Rattle.order.specs.SortedLaws.{either, sort-mem, no-later-length}
+use Rattle.order.specs.SortedLaws.{sort-mem, no-later-length}
+use Rattle.lists.specs.Tests.{either}
 use Rattle.distance.specs.DistanceLaws.{distance-fits}
 use Rattle.distance.specs.TotalOrder.{totalOrder, keyOf}
 use Rattle.distance.specs.OrderLaws.{totalOrder-key}

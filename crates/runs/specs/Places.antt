@@ -7,7 +7,7 @@ use mathlib.Core.Path.{_≡_, refl, sym, ap, _∙_, subst}
 use borrow.Author.Tests.{eq-eqb}
 use lib.Dec.{eqb}
 use lib.ListN.{length, getD, take}
-use Rattle.order.specs.SortedLaws.{either}
+use Rattle.lists.specs.Tests.{either}
 use Rattle.curator.specs.declared.Check.{Check}
 use Rattle.curator.specs.declared.Check.the-variants as Check′
 use Rattle.curator.specs.Changes.{AddCall}

@@ -8,7 +8,7 @@ use mathlib.Core.List.{List, [], _∷_, List·Memᴰ, List·Memᴰ·not-nil, Lis
 use mathlib.Core.Path.{_≡_, refl, sym, ap, _∙_, subst}
 use lib.Dec.{ltb}
 use lib.ListN.{length, take}
-use Rattle.order.specs.SortedLaws.{either}
+use Rattle.lists.specs.Tests.{either}
 use Rattle.store.specs.Store.{Store}
 use Rattle.walk.specs.Walk.{State, Progress, damaged, going}
 use Rattle.walk.specs.Answer.{answer}

@@ -8,7 +8,8 @@ use mathlib.Core.Path.{_≡_, refl, sym, _∙_, subst}
 use lib.Dec.{T}
 use lib.Ieee.{Float, binary32, fits}
 use Rattle.lists.specs.Partition.{perm-Memᴰ}
-use Rattle.order.specs.SortedLaws.{either, le-or-lt}
+use Rattle.order.specs.SortedLaws.{le-or-lt}
+use Rattle.lists.specs.Tests.{either}
 use Rattle.distance.specs.DistanceLaws.{distance-fits}
 use Rattle.distance.specs.TotalOrder.{totalOrder}
 use Rattle.distance.specs.OrderLaws.{totalOrder-refl, totalOrder-antisym, totalOrder-trans, totalOrder-total}

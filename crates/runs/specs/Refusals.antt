@@ -13,7 +13,7 @@ use Rattle.lists.specs.Counting.{Memᴰ-getD}
 use Rattle.store.specs.Store.{Store, floatsSize, numbersSize, hashesSize, workSize}
 use Rattle.tree.specs.Nodes.{Entries}
 use Rattle.tree.specs.Tree.{treeOf, size}
-use Rattle.walk.specs.StoreView.{allPass}
+use Rattle.lists.specs.Tests.{allPass}
 use Rattle.curator.specs.declared.Check.the-variants as Check′
 use Rattle.curator.specs.Limits.{stateSound}
 use Rattle.curator.specs.Rows.{Facts, Lengths, Row, firstOf, stateRow, addRows, buildRows, searchRows, storeShort, listsShort}

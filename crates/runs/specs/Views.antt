@@ -26,11 +26,12 @@ use Rattle.tree.specs.Subtrees.{node-entries, node-children}
 use Rattle.tree.specs.LayoutLaws.{blockAt, row-read, start-read, start-end, six-getD, sixOf, length-sixFrom, length-blocks}
 use Rattle.walk.specs.declared.Wanted.{Wanted}
 use Rattle.walk.specs.declared.Wanted.the-variants.{Everything, Label}
-use Rattle.walk.specs.declared.Counts.{Counts}
+use Rattle.store.specs.declared.Counts.{Counts}
 use Rattle.walk.specs.Walk.{Shown, children, hits, damage, shown, walk}
 use Rattle.walk.specs.WalkLaws.{same-below}
 use Rattle.walk.specs.Answer.{hitOf}
-use Rattle.walk.specs.StoreView.{allPass, blockHeld, nodeField, ownerOf, hitAt, childrenShown, vectorsShown, entriesShown, leafShown, nodeShown, nodeDenied, mostHits, storeView}
+use Rattle.walk.specs.StoreView.{blockHeld, nodeField, ownerOf, hitAt, childrenShown, vectorsShown, entriesShown, leafShown, nodeShown, nodeDenied, mostHits, storeView}
+use Rattle.lists.specs.Tests.{allPass}
 use Rattle.walk.specs.StoreViewLaws.{store-shown, store-children-below}
 use Rattle.curator.specs.Calls.{splittingOf}
 use Rattle.runs.specs.Model.{Setting, Model, noRow, noNode, rowHashes, rowVectors, rowEntries, nodeCount, modelNodes, settingShape, rowHit, leafHits, nodeGives, nodeDenies, mostRows, treeView}

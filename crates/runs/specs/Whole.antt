@@ -11,7 +11,8 @@ use Rattle.lists.specs.Maps.{map-on}
 use Rattle.lists.specs.Parts.{part-sets-same}
 use Rattle.lists.specs.Partition.{perm-Memᴰ, perm-of-eq}
 use Rattle.order.specs.Sorted.{sort, Sorted, Least}
-use Rattle.order.specs.SortedLaws.{either, le-or-lt, sort-sorted, sort-perm, sorted-unique}
+use Rattle.order.specs.SortedLaws.{le-or-lt, sort-sorted, sort-perm, sorted-unique}
+use Rattle.lists.specs.Tests.{either}
 use Rattle.distance.specs.DistanceLaws.{distance-fits}
 use Rattle.distance.specs.TotalOrder.{keyOf, ofKey}
 use Rattle.distance.specs.OrderLaws.{totalOrder-le, keyOf-injective}

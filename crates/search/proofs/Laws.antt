@@ -14,7 +14,7 @@ use Rattle.lists.specs.Lists.{part}
 use Rattle.lists.specs.Parts.{length-part, sets-part}
 use Rattle.store.specs.declared.Shape.{Shape}
 use Rattle.store.specs.Store.{Store, floatsSize, numbersSize, hashesSize, workSize}
-use Rattle.walk.specs.declared.Counts.{Counts}
+use Rattle.store.specs.declared.Counts.{Counts}
 use Rattle.walk.specs.declared.Searched.{Searched}
 use Rattle.walk.specs.declared.Wanted.{Wanted}
 use Rattle.walk.specs.Answer.{answer}
@@ -31,7 +31,8 @@ use Rattle.curator.specs.Limits.{stateSound, indexShape, builtAllowed}
 use Rattle.curator.specs.RowLaws.{NoneHolds, fine-none}
 use Rattle.curator.specs.Rows.{Row, Lengths, stateRow, storeShort, listsShort, searchRows}
 use Rattle.curator.specs.Searches.{wantedOf, SearchCall, SearchEnd, searchCheck, WalkedTo, Walked, SearchesBy, Searches}
-use Rattle.curator.specs.StateLaws.{and-all, Sound, sound-facts}
+use Rattle.curator.specs.StateLaws.{Sound, sound-facts}
+use Rattle.lists.specs.Tests.{and-both}
 use Rattle.curator.specs.Lent.{lengths}
 use Rattle.search.specs.Lent.{Ready, foundOf}
 
@@ -51,8 +52,8 @@ store-long : (s : Shape) (lent : Lengths) → storeShort s lent ≡ false
     × (leb (hashesSize s) (lent .hashes) ≡ true)
 unfolding storeShort
 store-long s lent h =
-    let (f, rest) = and-all (leb (floatsSize s) (lent .floats)) _ (not-false _ h) in
-    let (n, k) = and-all (leb (numbersSize s) (lent .numbers)) (leb (hashesSize s) (lent .hashes)) rest in
+    let (f, rest) = and-both (leb (floatsSize s) (lent .floats)) _ (not-false _ h) in
+    let (n, k) = and-both (leb (numbersSize s) (lent .numbers)) (leb (hashesSize s) (lent .hashes)) rest in
     (f, n, k)
 
 lists-long : (s : Shape) (lent : Lengths) → listsShort s lent ≡ false
@@ -66,7 +67,7 @@ lists-long s lent h =
 has-node : (built : Bool) (c : Counts) → built ≡ true → builtAllowed built c ≡ true → 1 ≤ c .nodes
 unfolding builtAllowed
 has-node true c e h =
-    let (a, b) = and-all (ltb 0 (c .vectors)) (ltb 0 (c .nodes)) h in
+    let (a, b) = and-both (ltb 0 (c .vectors)) (ltb 0 (c .nodes)) h in
     let k = ltb-true 0 (c .nodes) b in
     omega arith
 has-node false c e h = let z : _≡_ {A = ℕ} 0 1 = cc in absurd (omega arith)

@@ -4,6 +4,7 @@ use mathlib.Core.List.{List}
 use lib.Ieee.{Float}
 use Rattle.lists.specs.Lists.{part}
 use Rattle.store.specs.declared.Shape.{Shape}
+use Rattle.store.specs.declared.Counts.{Counts}
 
 -- The three lists that hold an index. The work list holds nothing between calls and is not among them.
 pub record Store : Type 0 where
@@ -22,6 +23,13 @@ pub record Limits (s : Shape) : Type 0 where
   pub entries-high : s .entries ≤ 16384
   pub nodes-low : 1 ≤ s .nodes
   pub nodes-high : s .nodes ≤ 65537
+
+-- counts within the capacities, and these within their limits
+pub record CountsWithin (s : Shape) (c : Counts) : Type 0 where
+  pub limits : Limits s
+  pub vectors : c .vectors ≤ s .vectors
+  pub entries : c .entries ≤ s .entries
+  pub nodes : c .nodes ≤ s .nodes
 
 -- 'Floats (f32): D times (V + M + B): vectors, centroids, cluster centres.'
 abbrev pub centroidsAt : Shape → ℕ

@@ -1,6 +1,8 @@
 // The sizes and the parts of the lent lists (document 01, 'The store'). A list's parts stand in the order in which 01 names them; a vector, a
 // centroid or a centre is the part of the floats that starts at its number times the dimension.
 ghost use mathlib.Core.Path.{_≡_};
+ghost use Prim.Native.Nat.{_^_, _<_};
+ghost use Rattle.store.specs.Lent.{storeShort, listsShort};
 ghost use Rattle.store.specs.Store.{Limits, centroidsAt, centresAt, floatsSize, ownersAt, orderAt, nodesAt, linksAt, entryOrderAt, numbersSize, filtersAt, hashesSize, marksAt, hitsAt, workSize};
 
 // What fixes the sizes of a store: the dimension D, the branching factor B, and the capacities V, E and M.
@@ -10,6 +12,27 @@ pub struct Shape {
     pub vectors: usize,
     pub entries: usize,
     pub nodes: usize,
+}
+
+// How many vectors, label entries and nodes a store holds.
+pub struct Counts {
+    pub vectors: usize,
+    pub entries: usize,
+    pub nodes: usize,
+}
+
+// The lengths of the lent lists of a store.
+pub struct Lengths {
+    pub floats: usize,
+    pub numbers: usize,
+    pub hashes: usize,
+}
+
+// A number of a list as a size.
+pub fn wide(x: u32) -> usize
+    ensures { λ r. ⌜ (r ≡ x) × (r < 2 ^ 32) ⌝ }
+{
+    x as usize
 }
 
 impl Shape {
@@ -112,5 +135,24 @@ impl Shape {
             return 3 * self.nodes + 3 * self.entries;
         }
         3 * self.nodes + 3 * self.vectors
+    }
+
+    // Whether a list of the store is shorter than its size.
+    pub fn store_short(self, lent: Lengths) -> bool
+        requires { ⌜ Limits self ⌝ }
+        ensures { λ r. ⌜ r ≡ storeShort self lent ⌝ }
+    {
+        let floats = self.floats_size();
+        let numbers = self.numbers_size();
+        let hashes = self.hashes_size();
+        !((floats <= lent.floats) & ((numbers <= lent.numbers) & (hashes <= lent.hashes)))
+    }
+
+    // Whether a list of the store, or the work list, is shorter than its size.
+    pub fn lists_short(self, lent: Lengths, work: usize) -> bool
+        requires { ⌜ Limits self ⌝ }
+        ensures { λ r. ⌜ r ≡ listsShort self lent work ⌝ }
+    {
+        self.store_short(lent) | !(self.work_size() <= work)
     }
 }

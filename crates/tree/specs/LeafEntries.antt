@@ -10,7 +10,8 @@ use lib.Dec.{eqb}
 use lib.Ieee.{Float}
 use lib.ListN.{length, getD}
 use Rattle.lists.specs.Lists.{keep, joined, countFrom, isIn}
-use Rattle.lists.specs.Counting.{which, getD-Memᴰ, Memᴰ-getD, isIn-Memᴰ, Memᴰ-isIn, isIn-countFrom, Memᴰ-countFrom, keep-congr, joined-congr, joined-map, Memᴰ-joined}
+use Rattle.lists.specs.Counting.{getD-Memᴰ, Memᴰ-getD, isIn-Memᴰ, Memᴰ-isIn, isIn-countFrom, Memᴰ-countFrom, keep-congr, joined-congr, joined-map, Memᴰ-joined}
+use Rattle.lists.specs.Tests.{which}
 use Rattle.lists.specs.Partition.{Permᴰ·symm, perm-Memᴰ}
 use Rattle.tree.specs.Tree.{Splitting, treeOf}
 use Rattle.tree.specs.Nodes.{Entries, Node, nodesOf, entriesOf}

@@ -11,7 +11,8 @@ use lib.Dec.{leb, eqb}
 use lib.Ieee.{Float}
 use lib.ListN.{length, length-append, length-map}
 use Rattle.lists.specs.Lists.{joined, countFrom}
-use Rattle.lists.specs.Counting.{which, joined-append, joined-map}
+use Rattle.lists.specs.Counting.{joined-append, joined-map}
+use Rattle.lists.specs.Tests.{which}
 use Rattle.lists.specs.Partition.{List·Permᴰ, List·Permᴰ·trans, perm-of-eq, perm-joined}
 use Rattle.cluster.specs.Clusters.{clusters, meanOf}
 use Rattle.cluster.specs.Groups.{perm-clusters}

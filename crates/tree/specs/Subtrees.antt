@@ -14,7 +14,8 @@ use lib.ListN.{length, getD, take, drop, length-append, length-drop, List·getD-
 use lib.Seq.{drop-append-le, drop-append-add, drop-append-seam, take-append-seam, getD-append-add, getD-drop, drop-drop}
 use Rattle.lists.specs.Maps.{map-on}
 use Rattle.lists.specs.Lists.{part, joined}
-use Rattle.lists.specs.Counting.{which, getD-Memᴰ, joined-cons, joined-append, joined-map, joined-joined}
+use Rattle.lists.specs.Counting.{getD-Memᴰ, joined-cons, joined-append, joined-map, joined-joined}
+use Rattle.lists.specs.Tests.{which}
 use Rattle.label.specs.Filter.{emptyFilter, insertAll}
 use Rattle.cluster.specs.Clusters.{meanOf}
 use Rattle.tree.specs.Tree.{Tree, Forest, leaf, inner, none, more, Splitting, groups, forestOf, grow, treeOf, size, sizes}

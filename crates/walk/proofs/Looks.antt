@@ -2,32 +2,29 @@
 use Prim.Native.Nat.{ℕ, zero, suc, _+_, _*_, _≤_, _<_}
 use native.Mathlib.Nat.{add-zero}
 use native.Mathlib.Omega.{arith}
-use mathlib.Core.Path.{_≡_, refl, sym, ap, _∙_}
+use mathlib.Core.Path.{_≡_, refl, sym, ap, ap₂, _∙_}
 use mathlib.Core.Bool.{Bool, true, false, cond}
-use mathlib.Core.List.{List, []}
+use mathlib.Core.List.{List, [], map}
 use lib.Ieee.{Float}
 use lib.ListN.{length, getD}
 use borrow.Author.Tests.{eq-eqb, ne-eqb, le-leb, lt-leb}
 use Rattle.lists.specs.Lists.{part}
+use Rattle.lists.specs.Tests.{allPass-nil}
+use Rattle.store.specs.Lent.{storeOf}
 use Rattle.store.specs.declared.Shape.{Shape}
-use Rattle.store.specs.Store.{orderAt, nodesAt, linksAt, entryOrderAt, filtersAt}
+use Rattle.store.specs.Store.{nodesAt, linksAt, filtersAt}
 use Rattle.walk.specs.declared.Wanted.{Wanted}
-use Rattle.walk.specs.declared.Wanted.the-variants.{Everything, Label}
-use Rattle.walk.specs.declared.Counts.{Counts}
+use Rattle.store.specs.declared.Counts.{Counts}
 use Rattle.walk.specs.declared.look.Placed.{Placed}
 use Rattle.walk.specs.declared.look.Placed.the-variants.{Outside, Within}
 use Rattle.walk.specs.declared.look.Look.{Look}
 use Rattle.walk.specs.Walk.{Shown, hits, damage, shown}
-use Rattle.walk.specs.StoreView.{blockHeld, childrenShown, vectorsShown, entriesShown, leafShown, nodeShown, nodeDenied, storeView}
+use Rattle.walk.specs.Wanted.{listRead, heldIn, denies, passes}
+use Rattle.walk.specs.WantedLaws.{given-nil}
+use Rattle.walk.specs.StoreView.{blockHeld, fieldOf, partOf, hitAt, childrenShown, entryRead, listShown, leafShown, nodeShown, storeView}
 use Rattle.walk.specs.StoreViewLaws.{block-empty, block-some, store-shown}
-use Rattle.walk.specs.Search.{lent, filterDenies, Placing, LeafPlacing, listShown, Looks}
+use Rattle.walk.specs.Contracts.{Placing, LeafPlacing, Looks}
 use Rattle.walk.specs.declared.look.Look.the-variants as look
-
-denied-filter : (s : Shape) (c : Counts) (floats : List Float) (numbers hashes : List ℕ) (wanted : Wanted) (i : ℕ)
-    → nodeDenied s c (lent floats numbers hashes) wanted i ≡ filterDenies wanted (part (filtersAt s + i * 4) 4 hashes)
-unfolding nodeDenied filterDenies
-denied-filter s c floats numbers hashes Everything i = refl
-denied-filter s c floats numbers hashes (Label hash) i = refl
 
 -- blocks
 pub block-out : (start count held : ℕ) → (count ≡ 0 → ⊥) → held < start + count → blockHeld start count held ≡ false
@@ -40,10 +37,12 @@ block-in start (suc count) held h = block-some start count held ∙ le-leb (star
 
 -- a leaf's empty list shows no hits
 nothing : (s : Shape) (c : Counts) (floats : List Float) (numbers hashes : List ℕ) (query : List Float) (wanted : Wanted)
-    → listShown s c (lent floats numbers hashes) query wanted [] ≡ hits []
-unfolding vectorsShown entriesShown
-nothing s c floats numbers hashes query Everything = refl
-nothing s c floats numbers hashes query (Label hash) = refl
+    → listShown s c (storeOf floats numbers hashes) query wanted [] ≡ hits []
+unfolding listShown
+nothing s c floats numbers hashes query wanted =
+    let store = storeOf floats numbers hashes in
+    ap₂ (λ (b : Bool) (l : List ℕ). cond b (hits (map (hitAt s c store query) l)) damage) (allPass-nil (passes wanted c (entryRead s c store)))
+    (given-nil wanted (entryRead s c store))
 
 -- what a block shows
 abbrev placedShown : (List ℕ → Shown) → List ℕ → Placed → Shown
@@ -66,53 +65,49 @@ innerLook (Within b) = look.Inner b
 
 leaf-shown : (s : Shape) (c : Counts) (floats : List Float) (numbers hashes : List ℕ) (query : List Float) (wanted : Wanted) (i : ℕ) (r : Placed)
     → LeafPlacing s c numbers wanted (nodesAt s + i * 6) r
-    → leafShown s c (lent floats numbers hashes) query wanted i ≡ placedShown (listShown s c (lent floats numbers hashes) query wanted) numbers r
+    → leafShown s c (storeOf floats numbers hashes) query wanted i ≡ placedShown (listShown s c (storeOf floats numbers hashes) query wanted) numbers r
 unfolding leafShown
-leaf-shown s c floats numbers hashes query Everything i r h =
-    placed-shown numbers (nodesAt s + i * 6 + 2) (nodesAt s + i * 6 + 3) (orderAt s) (c .vectors) (vectorsShown s c (lent floats numbers hashes) query) r (omega arith) h
-leaf-shown s c floats numbers hashes query (Label hash) i r h =
-    placed-shown numbers (nodesAt s + i * 6 + 4) (nodesAt s + i * 6 + 5) (entryOrderAt s) (c .entries) (entriesShown s c (lent floats numbers hashes) query hash) r (omega arith) h
+leaf-shown s c floats numbers hashes query wanted i r h =
+    let l = listRead wanted in
+    placed-shown numbers (nodesAt s + i * 6 + fieldOf l) (nodesAt s + i * 6 + (fieldOf l + 1)) (partOf s l) (heldIn l c)
+    (listShown s c (storeOf floats numbers hashes) query wanted) r (let t : nodesAt s + i * 6 + (fieldOf (listRead wanted) + 1) ≡ nodesAt s + i * 6 + fieldOf (listRead wanted) + 1 = omega arith in t) h
 
 module _ (s : Shape) (c : Counts) (numbers hashes : List ℕ) (wanted : Wanted) (i : ℕ) where
-  passed : (floats query : List Float) → filterDenies wanted (part (filtersAt s + i * 4) 4 hashes) ≡ false
-      → shown (storeView s c (lent floats numbers hashes) query wanted) i ≡ nodeShown s c (lent floats numbers hashes) query wanted i
+  passed : (floats query : List Float) → denies wanted (part (filtersAt s + i * 4) 4 hashes) ≡ false
+      → shown (storeView s c (storeOf floats numbers hashes) query wanted) i ≡ nodeShown s c (storeOf floats numbers hashes) query wanted i
   passed floats query e =
-      store-shown s c (lent floats numbers hashes) query wanted i
-      ∙ ap (λ (b : Bool). cond b (hits []) (nodeShown s c (lent floats numbers hashes) query wanted i)) (denied-filter s c floats numbers hashes wanted i ∙ e)
+      store-shown s c (storeOf floats numbers hashes) query wanted i
+      ∙ ap (λ (b : Bool). cond b (hits []) (nodeShown s c (storeOf floats numbers hashes) query wanted i)) e
 
-  pub looks-denied : filterDenies wanted (part (filtersAt s + i * 4) 4 hashes) ≡ true → Looks s c numbers hashes wanted i (look.Leaf (record { start = 0; count = 0 }))
+  pub looks-denied : denies wanted (part (filtersAt s + i * 4) 4 hashes) ≡ true → Looks s c numbers hashes wanted i (look.Leaf (record { start = 0; count = 0 }))
   looks-denied e = (
     omega arith,
-    λ floats query. store-shown s c (lent floats numbers hashes) query wanted i
-        ∙ ap (λ (b : Bool). cond b (hits []) (nodeShown s c (lent floats numbers hashes) query wanted i)) (denied-filter s c floats numbers hashes wanted i ∙ e)
+    λ floats query. store-shown s c (storeOf floats numbers hashes) query wanted i
+        ∙ ap (λ (b : Bool). cond b (hits []) (nodeShown s c (storeOf floats numbers hashes) query wanted i)) e
         ∙ sym (nothing s c floats numbers hashes query wanted),
   )
 
   node-leaf : (floats query : List Float) → getD numbers (nodesAt s + i * 6 + 1) 0 ≡ 0
-      → nodeShown s c (lent floats numbers hashes) query wanted i ≡ leafShown s c (lent floats numbers hashes) query wanted i
+      → nodeShown s c (storeOf floats numbers hashes) query wanted i ≡ leafShown s c (storeOf floats numbers hashes) query wanted i
   unfolding nodeShown
   node-leaf floats query z = rw (eq-eqb (getD numbers (nodesAt s + i * 6 + 1) 0) 0 z)
 
   node-inner : (floats query : List Float) (r : Placed) → (getD numbers (nodesAt s + i * 6 + 1) 0 ≡ 0 → ⊥) → Placing numbers (nodesAt s + i * 6) (linksAt s) (c .nodes) r
-      → nodeShown s c (lent floats numbers hashes) query wanted i ≡ placedShown (childrenShown s c (lent floats numbers hashes) i) numbers r
+      → nodeShown s c (storeOf floats numbers hashes) query wanted i ≡ placedShown (childrenShown s c (storeOf floats numbers hashes) i) numbers r
   unfolding nodeShown
   node-inner floats query r n h =
       rw (ne-eqb (getD numbers (nodesAt s + i * 6 + 1) 0) 0 n, add-zero (nodesAt s + i * 6))
-      (placed-shown numbers (nodesAt s + i * 6) (nodesAt s + i * 6 + 1) (linksAt s) (c .nodes) (childrenShown s c (lent floats numbers hashes) i) r refl h)
+      (placed-shown numbers (nodesAt s + i * 6) (nodesAt s + i * 6 + 1) (linksAt s) (c .nodes) (childrenShown s c (storeOf floats numbers hashes) i) r refl h)
 
-  pub looks-leaf : filterDenies wanted (part (filtersAt s + i * 4) 4 hashes) ≡ false → getD numbers (nodesAt s + i * 6 + 1) 0 ≡ 0 → (r : Placed)
+  pub looks-leaf : denies wanted (part (filtersAt s + i * 4) 4 hashes) ≡ false → getD numbers (nodesAt s + i * 6 + 1) 0 ≡ 0 → (r : Placed)
       → LeafPlacing s c numbers wanted (nodesAt s + i * 6) r → Looks s c numbers hashes wanted i (leafLook r)
   looks-leaf e z Outside h = λ floats query. passed floats query e ∙ node-leaf floats query z ∙ leaf-shown s c floats numbers hashes query wanted i Outside h
   looks-leaf e z (Within b) h = (
-    leaf-room wanted h,
+    h .1 .room,
     λ floats query. passed floats query e ∙ node-leaf floats query z ∙ leaf-shown s c floats numbers hashes query wanted i (Within b) h,
   )
-    where
-      leaf-room : (w : Wanted) → LeafPlacing s c numbers w (nodesAt s + i * 6) (Within b) → b .start + b .count ≤ length numbers
-      leaf-room Everything h = h .1 .room
-      leaf-room (Label hash) h = h .1 .room
 
-  pub looks-inner : filterDenies wanted (part (filtersAt s + i * 4) 4 hashes) ≡ false → (getD numbers (nodesAt s + i * 6 + 1) 0 ≡ 0 → ⊥) → (r : Placed)
+  pub looks-inner : denies wanted (part (filtersAt s + i * 4) 4 hashes) ≡ false → (getD numbers (nodesAt s + i * 6 + 1) 0 ≡ 0 → ⊥) → (r : Placed)
       → Placing numbers (nodesAt s + i * 6) (linksAt s) (c .nodes) r → Looks s c numbers hashes wanted i (innerLook r)
   looks-inner e z Outside h = λ floats query. passed floats query e ∙ node-inner floats query Outside z h
   looks-inner e z (Within b) h = (h .1 .room, λ floats query. passed floats query e ∙ node-inner floats query (Within b) z h)

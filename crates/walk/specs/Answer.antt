@@ -1,10 +1,11 @@
 -- Document 01, 'Search': 'Hits are sorted, adjacent equal document ids lose the later, the first k stay.'
 use Prim.Native.Nat.{ℕ, _+_, _*_, _/_, _%_, _^_}
-use mathlib.Core.Bool.{Bool, cond}
+use mathlib.Core.Bool.{Bool, true, cond}
 use mathlib.Core.List.{List, [], _∷_, map}
 use lib.Dec.{eqb}
 use lib.Ieee.{Float}
 use lib.ListN.{length, take}
+use Rattle.lists.specs.Lists.{keep}
 use Rattle.order.specs.Sorted.{sort}
 use Rattle.distance.specs.TotalOrder.{keyOf, ofKey}
 use Rattle.walk.specs.Walk.{Progress, walk, none, whole}
@@ -34,10 +35,14 @@ unfolding dropAfter
 dropRepeats [] = []
 dropRepeats (hit ∷ rest) = hit ∷ dropAfter (documentOf hit) rest
 
--- every hit of a walk in order, repeats dropped
-unfoldable pub ranked : Progress → List ℕ
-unfolding sort dropRepeats
-ranked p = dropRepeats (sort (p .found))
+-- The hits of a search as they are listed: 'sorted, adjacent equal document ids lose the later', and of what is left those that pass a test.
+unfoldable pub listed : (ℕ → Bool) → List ℕ → List ℕ
+unfolding sort dropRepeats keep
+listed test found = keep test (dropRepeats (sort found))
+
+-- every hit stays
+abbrev pub everyHit : ℕ → Bool
+everyHit hit = true
 
 -- 'The answer carries the hit count, the nodes opened, and whole or cut'; its hits are document ids and distances.
 pub record Answer : Type 0 where
@@ -47,13 +52,23 @@ pub record Answer : Type 0 where
   pub opened : ℕ
   pub complete : Bool
 
-unfoldable pub answer : ℕ → Progress → Answer
-unfolding ranked distanceOf none
-answer k p =
+-- 'the first k stay', of hits as they are listed
+unfoldable pub answerOf : List ℕ → ℕ → ℕ → Bool → Answer
+unfolding distanceOf
+answerOf hits k opened complete =
     record {
-      ids = map documentOf (take k (ranked p));
-      distances = map distanceOf (take k (ranked p));
-      total = length (ranked p);
-      opened = length (p .opened);
-      complete = whole p;
+      ids = map documentOf (take k hits);
+      distances = map distanceOf (take k hits);
+      total = length hits;
+      opened = opened;
+      complete = complete;
     }
+
+-- the hits and the answer of a walk
+unfoldable pub ranked : Progress → List ℕ
+unfolding listed
+ranked p = listed everyHit (p .found)
+
+unfoldable pub answer : ℕ → Progress → Answer
+unfolding answerOf ranked none
+answer k p = answerOf (ranked p) k (length (p .opened)) (whole p)

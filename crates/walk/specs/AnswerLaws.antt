@@ -10,14 +10,15 @@ use lib.Ieee.{Float}
 use lib.ListN.{length, getD, take}
 use borrow.Author.Tests.{eqb-true, eqb-false, eq-eqb, ne-eqb}
 use Rattle.lists.specs.Lists.{isIn}
-use Rattle.lists.specs.Counting.{which, isIn-here}
+use Rattle.lists.specs.Counting.{isIn-here, keep-all}
+use Rattle.lists.specs.Tests.{which}
 use Rattle.lists.specs.Partition.{List·Permᴰ, Permᴰ·map, count, count-append, perm-count}
 use Rattle.order.specs.Sorted.{sort, NoLater}
 use Rattle.order.specs.SortedLaws.{sort-perm, length-sort, no-later-sort, no-later-take, no-later-at}
 use Rattle.distance.specs.TotalOrder.{keyOf, ofKey}
 use Rattle.walk.specs.Walk.{Progress}
 use Rattle.walk.specs.WalkLaws.{Different, different-head, different-tail}
-use Rattle.walk.specs.Answer.{hitOf, documentOf, distanceOf, dropAfter, dropRepeats, ranked}
+use Rattle.walk.specs.Answer.{hitOf, documentOf, distanceOf, dropAfter, dropRepeats, listed, everyHit, ranked}
 
 -- ---- what a hit holds
 
@@ -56,9 +57,13 @@ pub repeats-cons : (hit : ℕ) (rest : List ℕ) → dropRepeats (hit ∷ rest) 
 unfolding dropRepeats
 repeats-cons hit rest = refl
 
+pub listed-every : (found : List ℕ) → listed everyHit found ≡ dropRepeats (sort found)
+unfolding listed
+listed-every found = keep-all everyHit (dropRepeats (sort found)) (λ x m. refl)
+
 pub ranked-is : (p : Progress) → ranked p ≡ dropRepeats (sort (p .found))
 unfolding ranked
-ranked-is p = refl
+ranked-is p = listed-every (p .found)
 
 -- With different documents nothing is dropped
 drop-none : (document : ℕ) (l : List ℕ) → Different (document ∷ map documentOf l) → dropAfter document l ≡ l

@@ -12,15 +12,16 @@ use Rattle.lists.specs.Lists.{part}
 use Rattle.lists.specs.Parts.{getD-part, part-part}
 use Rattle.store.specs.declared.Shape.{Shape}
 use Rattle.store.specs.Store.{Store, vectorAt, centroidsAt, ownersAt, orderAt, nodesAt, linksAt, entryOrderAt, filtersAt}
-use Rattle.order.specs.SortedLaws.{either}
+use Rattle.lists.specs.Tests.{either}
 use Rattle.walk.specs.declared.Wanted.{Wanted}
-use Rattle.walk.specs.declared.Wanted.the-variants.{Everything, Label}
-use Rattle.walk.specs.declared.Counts.{Counts}
+use Rattle.store.specs.declared.Counts.{Counts}
 use Rattle.walk.specs.Walk.{walk}
 use Rattle.walk.specs.WalkLaws.{opens-below}
-use Rattle.walk.specs.StoreView.{blockHeld, nodeField, ownerOf, storeView}
+use Rattle.walk.specs.Wanted.{LeafList, vector-list, entry-list, listRead, heldIn, denies}
+use Rattle.walk.specs.WantedLaws.{SameNumber, numbers-same}
+use Rattle.walk.specs.StoreView.{blockHeld, fieldOf, partOf, nodeField, ownerOf, entryRead, filterAt, storeView}
 use Rattle.walk.specs.StoreViewLaws.{block-within, store-children-below}
-use Rattle.walk.specs.ReadLaws.{SameCentroid, SameList, SameVector, SameEntry, SameLeaf, SameFilter, SameNode, SameRead, same-read}
+use Rattle.walk.specs.ReadLaws.{SameCentroid, SameList, SameVector, SameLeaf, SameNode, SameRead, same-read}
 
 -- Two stores agree on what is held: vectors, centroids; document ids, owners, leaf order of vectors, the six of each node, child links, leaf order of
 -- entries; entry hashes, filters; each up to its count
@@ -93,8 +94,8 @@ module _ (s : Shape) (c : Counts) (a b : Store) (same : SameHeld s c a b) where
   vector-held : (v : ℕ) → v < c .vectors → SameVector s c a b v
   vector-held v h = record { document = document-same v h; components = vector-same v h }
 
-  entry-held : (hash e : ℕ) → e < c .entries → SameEntry s c a b hash e
-  entry-held hash e h = record { owner = owner-same e h; own-hash = λ o. hash-same e h; vector = λ o w. vector-held (ownerOf s c a e) o }
+  number-held : (wanted : Wanted) (x : ℕ) → SameNumber wanted c (entryRead s c a) (entryRead s c b) (SameVector s c a b) x
+  number-held wanted x = numbers-same c (entryRead s c a) (entryRead s c b) (SameVector s c a b) wanted owner-same hash-same vector-held x
 
   list-held : (i field base held : ℕ) (Same : ℕ → Type 0) → i < c .nodes → field + 1 < 6 → part base held (a .numbers) ≡ part base held (b .numbers)
       → ((x : ℕ) → Same x) → SameList s c a b i field base held Same
@@ -105,19 +106,27 @@ module _ (s : Shape) (c : Counts) (a b : Store) (same : SameHeld s c a b) where
     each = λ e x m. each x;
   }
 
-  leaf-held : (wanted : Wanted) (i : ℕ) → i < c .nodes → SameLeaf s c a b wanted i
-  leaf-held Everything i h = list-held i 2 (orderAt s) (c .vectors) (λ v. v < c .vectors → SameVector s c a b v) h (omega arith) (same .order) vector-held
-  leaf-held (Label hash) i h =
-      list-held i 4 (entryOrderAt s) (c .entries) (λ e. e < c .entries → SameEntry s c a b hash e) h (omega arith) (same .entry-order) (entry-held hash)
+  list-same : (l : LeafList) → part (partOf s l) (heldIn l c) (a .numbers) ≡ part (partOf s l) (heldIn l c) (b .numbers)
+  list-same vector-list = same .order
+  list-same entry-list = same .entry-order
 
-  filter-held : (wanted : Wanted) (i : ℕ) → i < c .nodes → SameFilter s c a b wanted i
-  filter-held Everything i h = tt
-  filter-held (Label hash) i h =
+  field-low : (l : LeafList) → fieldOf l + 1 < 6
+  field-low vector-list = omega arith
+  field-low entry-list = omega arith
+
+  leaf-held : (wanted : Wanted) (i : ℕ) → i < c .nodes → SameLeaf s c a b wanted i
+  leaf-held wanted i h =
+      let l = listRead wanted in
+      list-held i (fieldOf l) (partOf s l) (heldIn l c) (SameNumber wanted c (entryRead s c a) (entryRead s c b) (SameVector s c a b)) h (field-low l) (list-same l)
+      (number-held wanted)
+
+  filter-held : (i : ℕ) → i < c .nodes → filterAt s c a i ≡ filterAt s c b i
+  filter-held i h =
       same-part (filtersAt s) (c .nodes * 4) (a .hashes) (b .hashes) (same .filters) (i * 4) 4 (let t : i * 4 + 4 ≤ c .nodes * 4 = omega arith in t)
 
   node-held : (wanted : Wanted) (i : ℕ) → i < c .nodes → SameNode s c a b wanted i
   node-held wanted i h = record {
-    filter = filter-held wanted i h;
+    filter = ap (denies wanted) (filter-held i h);
     shows = λ passes. record {
       count = field-same i 1 h (omega arith);
       inner = λ some. list-held i 0 (linksAt s) (c .nodes) (λ child. i < child → child < c .nodes → SameCentroid s c a b child) h (omega arith) (same .links)

@@ -11,7 +11,7 @@ use Rattle.lists.specs.Lists.{part}
 use Rattle.lists.specs.Parts.{drop-sets}
 use Rattle.store.specs.declared.Shape.{Shape}
 use Rattle.store.specs.Store.{Limits, floatsSize, workSize}
-use Rattle.walk.specs.Search.{Works}
+use Rattle.walk.specs.Contracts.{Works}
 
 -- a lent part of a list, by its start and end
 pub lent-is {ℓ} : {A : Type ℓ} (l : List A) (a e s n : ℕ) → a ≡ s → e ≡ s + n → take (e - a) (drop a l) ≡ part s n l

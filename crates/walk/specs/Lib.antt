@@ -1,13 +1,17 @@
--- Document 01, 'Search': the walk, the hits it gives, what a lent store shows, and damage.
+-- Document 01, 'Search': the walk, what is wanted, the hits it gives, what a lent store shows, and damage.
 pub mod Walk
 pub mod Answer
+pub mod Wanted
 pub mod StoreView
+-- what the functions promise each other
+pub mod Contracts
+-- trials and laws
 pub mod Trials
 pub mod WalkLaws
 pub mod SoundWalk
 pub mod AnswerLaws
+pub mod WantedLaws
 pub mod StoreViewLaws
-pub mod Search
 pub mod LentLaws
 pub mod ReadLaws
 pub mod HeldLaws

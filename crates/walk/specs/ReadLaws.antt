@@ -12,22 +12,23 @@ use lib.ListN.{getD}
 use borrow.Author.Tests.{ltb-true, eqb-true, eqb-false}
 use Rattle.lists.specs.Maps.{map-on}
 use Rattle.lists.specs.Lists.{part, keep}
-use Rattle.lists.specs.Counting.{which, keep-congr, Memᴰ-keep}
+use Rattle.lists.specs.Counting.{keep-congr, Memᴰ-keep}
+use Rattle.lists.specs.Tests.{which, allPass, and-left, and-right, allPass-Memᴰ, allPass-congr}
 use Rattle.store.specs.declared.Shape.{Shape}
 use Rattle.store.specs.Store.{Store, vectorAt, orderAt, linksAt, entryOrderAt, filtersAt}
 use Rattle.distance.specs.Distance.{distance}
 use Rattle.distance.specs.TotalOrder.{keyOf}
-use Rattle.label.specs.Filter.{mayContain}
 use Rattle.walk.specs.declared.Wanted.{Wanted}
-use Rattle.walk.specs.declared.Wanted.the-variants.{Everything, Label}
-use Rattle.walk.specs.declared.Counts.{Counts}
+use Rattle.store.specs.declared.Counts.{Counts}
 use Rattle.walk.specs.declared.Searched.{Searched}
 use Rattle.walk.specs.Walk.{Shown, State, children, hits, damage, damaged, going, shown, walk}
 use Rattle.walk.specs.WalkLaws.{Alike, Opens, childrenOf, same-walk}
 use Rattle.walk.specs.Answer.{hitOf}
-use Rattle.walk.specs.StoreView.{allPass, blockHeld, nodeField, ownerOf, hitAt, childrenShown, vectorsShown, entriesShown, leafShown, nodeShown, nodeDenied, mostHits, storeView}
-use Rattle.walk.specs.StoreViewLaws.{and-left, and-right, allPass-Memᴰ, allPass-congr, store-shown, store-child}
-use Rattle.walk.specs.Search.{lent, SearchEnds, Searches}
+use Rattle.walk.specs.Wanted.{listRead, heldIn, denies, passes, given}
+use Rattle.walk.specs.WantedLaws.{SameNumber, passes-same, given-same, given-read}
+use Rattle.walk.specs.StoreView.{blockHeld, fieldOf, partOf, nodeField, hitAt, childrenShown, entryRead, listShown, leafShown, nodeShown, filterAt, storeView}
+use Rattle.walk.specs.StoreViewLaws.{store-shown, store-child}
+use Rattle.walk.specs.Contracts.{SearchEnds, SearchGives}
 
 -- ---- what is read, in the order in which a search comes to it
 
@@ -52,16 +53,11 @@ module _ (s : Shape) (c : Counts) (a b : Store) where
     pub document : getD (a .numbers) v 0 ≡ getD (b .numbers) v 0
     pub components : vectorAt (s .dimension) (a .floats) v ≡ vectorAt (s .dimension) (b .floats) v
 
-  -- of an entry: its owner; if that is held, its hash; if that is the hash wanted, the owner's vector
-  pub record SameEntry (hash entry : ℕ) : Type 0 where
-    pub owner : ownerOf s c a entry ≡ ownerOf s c b entry
-    pub own-hash : ownerOf s c a entry < c .vectors → getD (a .hashes) entry 0 ≡ getD (b .hashes) entry 0
-    pub vector : ownerOf s c a entry < c .vectors → getD (a .hashes) entry 0 ≡ hash → SameVector (ownerOf s c a entry)
-
-  -- of a leaf: its entries, unfiltered its vectors
+  -- of a leaf: the list that is read, and of each of its numbers what `SameNumber` says (WantedLaws.antt)
   abbrev pub SameLeaf : Wanted → ℕ → Type 0
-  SameLeaf Everything i = SameList i 2 (orderAt s) (c .vectors) (λ v. v < c .vectors → SameVector v)
-  SameLeaf (Label hash) i = SameList i 4 (entryOrderAt s) (c .entries) (λ e. e < c .entries → SameEntry hash e)
+  SameLeaf wanted i =
+      SameList i (fieldOf (listRead wanted)) (partOf s (listRead wanted)) (heldIn (listRead wanted) c)
+      (SameNumber wanted c (entryRead s c a) (entryRead s c b) SameVector)
 
   -- of a node that is opened and not denied: the count of children; where there are some, they and their centroids; where there are none, the leaf's list
   pub record SameShown (wanted : Wanted) (i : ℕ) : Type 0 where
@@ -69,14 +65,10 @@ module _ (s : Shape) (c : Counts) (a b : Store) where
     pub inner : (nodeField s c a i 1 ≡ 0 → ⊥) → SameList i 0 (linksAt s) (c .nodes) (λ child. i < child → child < c .nodes → SameCentroid child)
     pub leaf : nodeField s c a i 1 ≡ 0 → SameLeaf wanted i
 
-  -- of a node that is opened: its filter, in a filtered search
-  abbrev pub SameFilter : Wanted → ℕ → Type 0
-  SameFilter Everything i = Unit {0}
-  SameFilter (Label hash) i = part (filtersAt s + i * 4) 4 (a .hashes) ≡ part (filtersAt s + i * 4) 4 (b .hashes)
-
+  -- of a node that is opened: whether its filter denies; an unfiltered search does not read it
   pub record SameNode (wanted : Wanted) (i : ℕ) : Type 0 where
-    pub filter : SameFilter wanted i
-    pub shows : nodeDenied s c a wanted i ≡ false → SameShown wanted i
+    pub filter : denies wanted (filterAt s c a i) ≡ denies wanted (filterAt s c b i)
+    pub shows : denies wanted (filterAt s c a i) ≡ false → SameShown wanted i
 
   -- Two stores agree on what a search reads: the root's centroid, and what is read of each node that the search opens
   pub record SameRead (query : List Float) (wanted : Wanted) (ef : ℕ) : Type 0 where
@@ -123,48 +115,19 @@ module _ (s : Shape) (c : Counts) (a b : Store) where
   unfolding hitAt
   hit-same query v same = ap₂ (λ (x : List Float) (d : ℕ). hitOf (distance query x) d v) (same .components) (same .document)
 
-  vectors-same : (query : List Float) (l : List ℕ) → ((v : ℕ) → List·Memᴰ v l → v < c .vectors → SameVector s c a b v)
-      → vectorsShown s c a query l ≡ vectorsShown s c b query l
-  unfolding vectorsShown
-  vectors-same query l same =
-      same-cond (allPass (λ vector. ltb vector (c .vectors)) l) (allPass (λ vector. ltb vector (c .vectors)) l)
-      (hits (map (hitAt s c a query) l)) (hits (map (hitAt s c b query) l)) refl
-      (λ e. ap hits (map-on (hitAt s c a query) (hitAt s c b query) l
-      (λ v m. hit-same query v (same v m (ltb-true v (c .vectors) (allPass-Memᴰ (λ vector. ltb vector (c .vectors)) l e v m))))))
-
-  entries-same : (query : List Float) (hash : ℕ) (l : List ℕ) → ((e : ℕ) → List·Memᴰ e l → e < c .entries → SameEntry s c a b hash e)
-      → entriesShown s c a query hash l ≡ entriesShown s c b query hash l
-  unfolding entriesShown
-  entries-same query hash l same =
-      same-cond (allPass (testOf a) l) (allPass (testOf b) l) (hits (map (hitOfEntry a) (keep (hasHash a) l))) (hits (map (hitOfEntry b) (keep (hasHash b) l)))
-      (allPass-congr (testOf a) (testOf b) l (λ x m. test-same x m (which (ltb x (c .entries)))))
+  shown-list : (query : List Float) (wanted : Wanted) (l : List ℕ)
+      → ((x : ℕ) → List·Memᴰ x l → SameNumber wanted c (entryRead s c a) (entryRead s c b) (SameVector s c a b) x)
+      → listShown s c a query wanted l ≡ listShown s c b query wanted l
+  unfolding listShown
+  shown-list query wanted l same =
+      let ra = entryRead s c a in
+      let rb = entryRead s c b in
+      same-cond (allPass (passes wanted c ra) l) (allPass (passes wanted c rb) l)
+      (hits (map (hitAt s c a query) (given wanted ra l))) (hits (map (hitAt s c b query) (given wanted rb l)))
+      (passes-same c ra rb (SameVector s c a b) wanted l same)
       (λ e. ap hits
-      (map-on (hitOfEntry a) (hitOfEntry b) (keep (hasHash a) l)
-      (λ x m. let k = Memᴰ-keep (hasHash a) x l m in
-      let entry = same x (k .1) (held e x (k .1)) in
-      hit-same query (ownerOf s c a x) (entry .vector (owned e x (k .1)) (eqb-true (getD (a .hashes) x 0) hash (k .0)))
-      ∙ ap (hitAt s c b query) (entry .owner))
-      ∙ ap (map (hitOfEntry b)) (keep-congr (hasHash a) (hasHash b) l
-      (λ x m. ap (λ (h : ℕ). eqb h hash) (same x m (held e x m) .own-hash (owned e x m))))))
-    where
-      testOf : Store → ℕ → Bool
-      testOf store x = ltb x (c .entries) && ltb (ownerOf s c store x) (c .vectors)
-
-      hasHash : Store → ℕ → Bool
-      hasHash store x = eqb (getD (store .hashes) x 0) hash
-
-      hitOfEntry : Store → ℕ → ℕ
-      hitOfEntry store x = hitAt s c store query (ownerOf s c store x)
-
-      test-same : (x : ℕ) → List·Memᴰ x l → (ltb x (c .entries) ≡ true) ⊎ (ltb x (c .entries) ≡ false) → testOf a x ≡ testOf b x
-      test-same x m (inl e) = ap (λ (o : ℕ). ltb x (c .entries) && ltb o (c .vectors)) (same x m (ltb-true x (c .entries) e) .owner)
-      test-same x m (inr e) = rw e
-
-      held : allPass (testOf a) l ≡ true → (x : ℕ) → List·Memᴰ x l → x < c .entries
-      held e x m = ltb-true x (c .entries) (and-left (ltb x (c .entries)) (ltb (ownerOf s c a x) (c .vectors)) (allPass-Memᴰ (testOf a) l e x m))
-
-      owned : allPass (testOf a) l ≡ true → (x : ℕ) → List·Memᴰ x l → ownerOf s c a x < c .vectors
-      owned e x m = ltb-true (ownerOf s c a x) (c .vectors) (and-right (ltb x (c .entries)) (ltb (ownerOf s c a x) (c .vectors)) (allPass-Memᴰ (testOf a) l e x m))
+      (map-on (hitAt s c a query) (hitAt s c b query) (given wanted ra l) (λ v m. hit-same query v (given-read c ra rb (SameVector s c a b) wanted l same e v m))
+      ∙ ap (map (hitAt s c b query)) (given-same c ra rb (SameVector s c a b) wanted l same e)))
 
   children-same : (parent : ℕ) (l : List ℕ) → childrenShown s c a parent l ≡ childrenShown s c b parent l
   unfolding childrenShown
@@ -172,11 +135,10 @@ module _ (s : Shape) (c : Counts) (a b : Store) where
 
   leaf-same : (query : List Float) (wanted : Wanted) (i : ℕ) → SameLeaf s c a b wanted i → leafShown s c a query wanted i ≡ leafShown s c b query wanted i
   unfolding leafShown
-  leaf-same query Everything i same =
-      list-same i 2 (orderAt s) (c .vectors) (λ v. v < c .vectors → SameVector s c a b v) same (vectorsShown s c a query) (vectorsShown s c b query) (vectors-same query)
-  leaf-same query (Label hash) i same =
-      list-same i 4 (entryOrderAt s) (c .entries) (λ e. e < c .entries → SameEntry s c a b hash e) same (entriesShown s c a query hash) (entriesShown s c b query hash)
-      (entries-same query hash)
+  leaf-same query wanted i same =
+      list-same i (fieldOf (listRead wanted)) (partOf s (listRead wanted)) (heldIn (listRead wanted) c)
+      (SameNumber wanted c (entryRead s c a) (entryRead s c b) (SameVector s c a b)) same (listShown s c a query wanted) (listShown s c b query wanted)
+      (shown-list query wanted)
 
   node-same : (query : List Float) (wanted : Wanted) (i : ℕ) → SameShown s c a b wanted i → nodeShown s c a query wanted i ≡ nodeShown s c b query wanted i
   unfolding nodeShown
@@ -201,30 +163,24 @@ module _ (s : Shape) (c : Counts) (a b : Store) where
           (same .inner (eqb-false (nodeField s c a i 1) 0 e)) (childrenShown s c a i) (childrenShown s c b i) (λ l h. children-same i l)
           ∙ ap (λ (t : Bool). shownOf t b) (sym e ∙ ap (λ (n : ℕ). eqb n 0) (same .count))
 
-  denied-same : (wanted : Wanted) (i : ℕ) → SameFilter s c a b wanted i → nodeDenied s c a wanted i ≡ nodeDenied s c b wanted i
-  unfolding nodeDenied
-  denied-same Everything i same = refl
-  denied-same (Label hash) i same = ap (λ (f : List ℕ). not (mayContain f hash)) same
-
   shown-same : (query : List Float) (wanted : Wanted) (i : ℕ) → SameNode s c a b wanted i
       → shown (storeView s c a query wanted) i ≡ shown (storeView s c b query wanted) i
   shown-same query wanted i same =
-      store-shown s c a query wanted i ∙ go (which (nodeDenied s c a wanted i))
-      ∙ ap (λ (d : Bool). cond d (hits []) (nodeShown s c b query wanted i)) (denied-same wanted i (same .filter)) ∙ sym (store-shown s c b query wanted i)
+      store-shown s c a query wanted i ∙ go (which (denies wanted (filterAt s c a i)))
+      ∙ ap (λ (d : Bool). cond d (hits []) (nodeShown s c b query wanted i)) (same .filter) ∙ sym (store-shown s c b query wanted i)
     where
-      go : (nodeDenied s c a wanted i ≡ true) ⊎ (nodeDenied s c a wanted i ≡ false)
-          → cond (nodeDenied s c a wanted i) (hits []) (nodeShown s c a query wanted i) ≡ cond (nodeDenied s c a wanted i) (hits []) (nodeShown s c b query wanted i)
+      go : (denies wanted (filterAt s c a i) ≡ true) ⊎ (denies wanted (filterAt s c a i) ≡ false)
+          → cond (denies wanted (filterAt s c a i)) (hits []) (nodeShown s c a query wanted i) ≡ cond (denies wanted (filterAt s c a i)) (hits []) (nodeShown s c b query wanted i)
       go (inl e) = rw e
-      go (inr e) = ap (cond (nodeDenied s c a wanted i) (hits [])) (node-same query wanted i (same .shows e))
+      go (inr e) = ap (cond (denies wanted (filterAt s c a i)) (hits [])) (node-same query wanted i (same .shows e))
 
   key-same : (query : List Float) (wanted : Wanted) (i : ℕ) → SameCentroid s c a b i → storeView s c a query wanted .key i ≡ storeView s c b query wanted .key i
   unfolding storeView
   key-same query wanted i same = ap (λ (v : List Float). keyOf (distance query v)) same
 
   most-same : (query : List Float) (wanted : Wanted) → storeView s c a query wanted .most ≡ storeView s c b query wanted .most
-  unfolding storeView mostHits
-  most-same query Everything = refl
-  most-same query (Label hash) = refl
+  unfolding storeView
+  most-same query wanted = refl
 
   node-alike : (query : List Float) (wanted : Wanted) (i : ℕ) → SameNode s c a b wanted i → Alike (storeView s c a query wanted) (storeView s c b query wanted) i
   node-alike query wanted i same = record {
@@ -257,14 +213,10 @@ ends-same (going p) k r r′ ids ids′ ids″ distances distances′ distances�
     (x .is ∙ sym (y .is), x .ids-are ∙ sym (y .ids-are), x .distances-are ∙ sym (y .distances-are))
 
 -- and the same search, whatever stands in work: the same answer or damage, and the same answer lists
-pub same-search : (s : Shape) (c : Counts) (floats floats′ : List Float) (numbers numbers′ hashes hashes′ : List ℕ) (query : List Float) (wanted : Wanted)
+pub same-search : (s : Shape) (c : Counts) (store store′ : Store) (query : List Float) (wanted : Wanted)
     (ef k : ℕ) (work work₁ work′ work₂ ids ids₁ ids₂ : List ℕ) (distances distances₁ distances₂ : List Float) (r₁ r₂ : Searched)
-    → SameRead s c (lent floats numbers hashes) (lent floats′ numbers′ hashes′) query wanted ef
-    → Searches s c ef floats numbers hashes query wanted k work ids distances r₁ work₁ ids₁ distances₁
-    → Searches s c ef floats′ numbers′ hashes′ query wanted k work′ ids distances r₂ work₂ ids₂ distances₂
-    → (r₁ ≡ r₂) × (ids₁ ≡ ids₂) × (distances₁ ≡ distances₂)
-same-search s c floats floats′ numbers numbers′ hashes hashes′ query wanted ef k work work₁ work′ work₂ ids ids₁ ids₂ distances distances₁ distances₂ r₁ r₂ same x y =
-    ends-same (walk (storeView s c (lent floats′ numbers′ hashes′) query wanted) ef) k r₁ r₂ ids ids₁ ids₂ distances distances₁ distances₂
-    (subst (λ (st : State). SearchEnds st k r₁ ids ids₁ distances distances₁)
-    (same-read s c (lent floats numbers hashes) (lent floats′ numbers′ hashes′) query wanted ef same) (x .ends))
-    (y .ends)
+    → SameRead s c store store′ query wanted ef → SearchGives s c ef store query wanted k work ids distances r₁ work₁ ids₁ distances₁
+    → SearchGives s c ef store′ query wanted k work′ ids distances r₂ work₂ ids₂ distances₂ → (r₁ ≡ r₂) × (ids₁ ≡ ids₂) × (distances₁ ≡ distances₂)
+same-search s c store store′ query wanted ef k work work₁ work′ work₂ ids ids₁ ids₂ distances distances₁ distances₂ r₁ r₂ same x y =
+    ends-same (walk (storeView s c store′ query wanted) ef) k r₁ r₂ ids ids₁ ids₂ distances distances₁ distances₂
+    (subst (λ (st : State). SearchEnds st k r₁ ids ids₁ distances distances₁) (same-read s c store store′ query wanted ef same) (x .ends)) (y .ends)

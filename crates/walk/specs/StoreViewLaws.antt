@@ -12,43 +12,14 @@ use borrow.Author.Tests.{leb-true, ltb-true, eqb-false}
 use Rattle.lists.specs.Lists.{part, keep}
 use Rattle.store.specs.declared.Shape.{Shape}
 use Rattle.store.specs.Store.{Store, orderAt, linksAt, entryOrderAt}
-use Rattle.order.specs.SortedLaws.{either}
+use Rattle.lists.specs.Tests.{either, allPass}
+use Rattle.lists.specs.Tests.{which, and-left, and-right, allPass-Memᴰ, cond-cases}
 use Rattle.walk.specs.declared.Wanted.{Wanted}
-use Rattle.walk.specs.declared.Wanted.the-variants.{Everything, Label}
-use Rattle.walk.specs.declared.Counts.{Counts}
+use Rattle.store.specs.declared.Counts.{Counts}
 use Rattle.walk.specs.Walk.{Shown, children, hits, damage, shown}
 use Rattle.walk.specs.WalkLaws.{ChildrenBelow}
-use Rattle.walk.specs.StoreView.{allPass, blockHeld, nodeField, ownerOf, hitAt, childrenShown, vectorsShown, entriesShown, leafShown, nodeShown, nodeDenied, storeView}
-
-pub and-left : (a b : Bool) → (a && b) ≡ true → a ≡ true
-and-left true b e = refl
-and-left false b e = e
-
-pub and-right : (a b : Bool) → (a && b) ≡ true → b ≡ true
-and-right true b e = e
-and-right false b e = absurd (false≢true e)
-
--- ---- tests of every number
-
-pub allPass-nil : (t : ℕ → Bool) → allPass t [] ≡ true
-unfolding allPass
-allPass-nil t = refl
-
-pub allPass-cons : (t : ℕ → Bool) (x : ℕ) (xs : List ℕ) → allPass t (x ∷ xs) ≡ (t x && allPass t xs)
-unfolding allPass
-allPass-cons t x xs = refl
-
-pub allPass-Memᴰ : (t : ℕ → Bool) (l : List ℕ) → allPass t l ≡ true → (x : ℕ) → List·Memᴰ x l → t x ≡ true
-allPass-Memᴰ t [] e x m = absurd (List·Memᴰ·not-nil m)
-allPass-Memᴰ t (y ∷ ys) e x m =
-    let both : (t y && allPass t ys) ≡ true = sym (allPass-cons t y ys) ∙ e in
-    either (List·Memᴰ·cases-cons m) (λ s. ap t s ∙ and-left (t y) (allPass t ys) both)
-    (λ k. allPass-Memᴰ t ys (and-right (t y) (allPass t ys) both) x k)
-
-pub allPass-congr : (t u : ℕ → Bool) (l : List ℕ) → ((x : ℕ) → List·Memᴰ x l → t x ≡ u x) → allPass t l ≡ allPass u l
-allPass-congr t u [] h = allPass-nil t ∙ sym (allPass-nil u)
-allPass-congr t u (x ∷ xs) h =
-    allPass-cons t x xs ∙ ap₂ _&&_ (h x (List·Memᴰ·head refl)) (allPass-congr t u xs (λ y m. h y (List·Memᴰ·tail m))) ∙ sym (allPass-cons u x xs)
+use Rattle.walk.specs.Wanted.{listRead, heldIn, denies, passes, given}
+use Rattle.walk.specs.StoreView.{blockHeld, fieldOf, partOf, nodeField, hitAt, childrenShown, entryRead, listShown, leafShown, nodeShown, filterAt, storeView}
 
 -- ---- blocks
 
@@ -67,11 +38,6 @@ block-within start (suc count) held e = inr (leb-true (start + suc count) held (
 
 -- ---- the children that a store shows
 
--- a choice is one of the two
-pub cond-cases {ℓ} : {A : Type ℓ} (b : Bool) (x y : A) → ((b ≡ true) × (cond b x y ≡ x)) ⊎ ((b ≡ false) × (cond b x y ≡ y))
-cond-cases true x y = inl (refl, refl)
-cond-cases false x y = inr (refl, refl)
-
 -- neither hits nor damage are children
 abbrev Childless : Shown → Type 0
 Childless sh = (numbers : List ℕ) → sh ≡ children numbers → ⊥
@@ -87,25 +53,20 @@ childless-cond true x y f g = f
 childless-cond false x y f g = g
 
 module _ (s : Shape) (c : Counts) (store : Store) where
-  childless-vectors : (query : List Float) (l : List ℕ) → Childless (vectorsShown s c store query l)
-  unfolding vectorsShown
-  childless-vectors query l =
-      childless-cond (allPass (λ vector. ltb vector (c .vectors)) l) (hits (map (hitAt s c store query) l)) damage (childless-hits (map (hitAt s c store query) l)) childless-damage
-
-  childless-entries : (query : List Float) (hash : ℕ) (l : List ℕ) → Childless (entriesShown s c store query hash l)
-  unfolding entriesShown
-  childless-entries query hash l =
-      let found : List ℕ = map (λ entry. hitAt s c store query (ownerOf s c store entry)) (keep (λ entry. eqb (getD (store .hashes) entry 0) hash) l) in
-      childless-cond (allPass (λ entry. ltb entry (c .entries) && ltb (ownerOf s c store entry) (c .vectors)) l) (hits found) damage (childless-hits found) childless-damage
+  childless-list : (query : List Float) (wanted : Wanted) (l : List ℕ) → Childless (listShown s c store query wanted l)
+  unfolding listShown
+  childless-list query wanted l =
+      let found : List ℕ = map (hitAt s c store query) (given wanted (entryRead s c store) l) in
+      childless-cond (allPass (passes wanted c (entryRead s c store)) l) (hits found) damage (childless-hits found) childless-damage
 
   childless-leaf : (query : List Float) (wanted : Wanted) (i : ℕ) → Childless (leafShown s c store query wanted i)
   unfolding leafShown
-  childless-leaf query Everything i =
-      let l : List ℕ = part (orderAt s + nodeField s c store i 2) (nodeField s c store i 3) (store .numbers) in
-      childless-cond (blockHeld (nodeField s c store i 2) (nodeField s c store i 3) (c .vectors)) (vectorsShown s c store query l) damage (childless-vectors query l) childless-damage
-  childless-leaf query (Label hash) i =
-      let l : List ℕ = part (entryOrderAt s + nodeField s c store i 4) (nodeField s c store i 5) (store .numbers) in
-      childless-cond (blockHeld (nodeField s c store i 4) (nodeField s c store i 5) (c .entries)) (entriesShown s c store query hash l) damage (childless-entries query hash l) childless-damage
+  childless-leaf query wanted i =
+      let list = listRead wanted in
+      let start = nodeField s c store i (fieldOf list) in
+      let count = nodeField s c store i (fieldOf list + 1) in
+      let l : List ℕ = part (partOf s (listRead wanted) + start) count (store .numbers) in
+      childless-cond (blockHeld start count (heldIn list c)) (listShown s c store query wanted l) damage (childless-list query wanted l) childless-damage
 
   -- what is shown as children was listed and tested
   childrenShown-below : (parent : ℕ) (numbers shownAs : List ℕ) → childrenShown s c store parent numbers ≡ children shownAs
@@ -142,15 +103,15 @@ module _ (s : Shape) (c : Counts) (store : Store) where
       (λ q. absurd (childless-damage numbers (sym (q .1) ∙ sym (p .1) ∙ e))))
 
   pub store-shown : (query : List Float) (wanted : Wanted) (i : ℕ)
-      → shown (storeView s c store query wanted) i ≡ cond (nodeDenied s c store wanted i) (hits []) (nodeShown s c store query wanted i)
+      → shown (storeView s c store query wanted) i ≡ cond (denies wanted (filterAt s c store i)) (hits []) (nodeShown s c store query wanted i)
   unfolding shown storeView
   store-shown query wanted i = refl
 
   -- The children that a store shows, by a node that its filter does not deny
   pub store-child : (query : List Float) (wanted : Wanted) (i : ℕ) (numbers : List ℕ) (x : ℕ) → shown (storeView s c store query wanted) i ≡ children numbers
-      → List·Memᴰ x numbers → (nodeDenied s c store wanted i ≡ false) × ShownChild i x
+      → List·Memᴰ x numbers → (denies wanted (filterAt s c store i) ≡ false) × ShownChild i x
   store-child query wanted i numbers x e m =
-      either (cond-cases (nodeDenied s c store wanted i) (hits []) (nodeShown s c store query wanted i))
+      either (cond-cases (denies wanted (filterAt s c store i)) (hits []) (nodeShown s c store query wanted i))
       (λ p. absurd (childless-hits [] numbers (sym (p .1) ∙ sym (store-shown query wanted i) ∙ e)))
       (λ p. (p .0, nodeShown-child query wanted i numbers (sym (p .1) ∙ sym (store-shown query wanted i) ∙ e) x m))
 

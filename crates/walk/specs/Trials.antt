@@ -8,7 +8,7 @@ use Rattle.store.specs.declared.Shape.{Shape}
 use Rattle.store.specs.Store.{Store}
 use Rattle.label.specs.Filter.{emptyFilter, insertAll}
 use Rattle.walk.specs.declared.Wanted.the-variants.{Label}
-use Rattle.walk.specs.declared.Counts.{Counts}
+use Rattle.store.specs.declared.Counts.{Counts}
 use Rattle.walk.specs.Walk.{State, damaged, going, walk}
 use Rattle.walk.specs.Answer.{answer}
 use Rattle.walk.specs.StoreView.{storeView}

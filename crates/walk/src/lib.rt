@@ -7,13 +7,6 @@ pub enum Wanted {
     Label(u64),
 }
 
-// How many vectors, label entries and nodes a store holds.
-pub struct Counts {
-    pub vectors: usize,
-    pub entries: usize,
-    pub nodes: usize,
-}
-
 // What a search gives: the hits written to the answer lists, the nodes opened, and whether no node waited.
 pub enum Searched {
     Found {

@@ -1,14 +1,16 @@
 // What an opened node shows: the part of the numbers in which its list stands.
-use crate::Counts;
 use crate::Wanted;
 use label::bloom::may_contain;
+use store::Counts;
 use store::Shape;
+use store::wide;
 ghost use mathlib.Core.Path.{_≡_};
 ghost use Prim.Native.Nat.{_+_, _*_, _^_, _<_, _≤_};
 ghost use lib.ListN.{length};
 ghost use Rattle.lists.specs.Lists.{part};
 ghost use Rattle.store.specs.Store.{filtersAt};
-ghost use Rattle.walk.specs.Search.{HashesLent, NumbersLent, filterDenies, BlockAsked, Placing, LeafPlacing, Looks};
+ghost use Rattle.walk.specs.Wanted.{denies};
+ghost use Rattle.walk.specs.Contracts.{FilterLent, LeafLent, NodeLent, BlockAsked, Placing, LeafPlacing, Looks};
 
 // A list's places in the numbers.
 pub struct Block {
@@ -29,17 +31,10 @@ pub enum Look {
     Inner(Block),
 }
 
-pub fn wide(x: u32) -> usize
-    ensures { λ r. ⌜ (r ≡ x) × (r < 2 ^ 32) ⌝ }
-{
-    x as usize
-}
-
 // Whether the filter of node i denies what is wanted.
-fn denies(shape: Shape, hashes: &[u64], wanted: Wanted, i: usize) -> bool
-    requires { ⌜ HashesLent shape (now hashes) ⌝ }
-    requires { ⌜ i < shape .nodes ⌝ }
-    ensures { λ r. ⌜ r ≡ filterDenies wanted (part (filtersAt shape + i * 4) 4 (now (hashes .entry))) ⌝ }
+fn denied(shape: Shape, hashes: &[u64], wanted: Wanted, i: usize) -> bool
+    requires { ⌜ FilterLent shape (now hashes) i ⌝ }
+    ensures { λ r. ⌜ r ≡ denies wanted (part (filtersAt shape + i * 4) 4 (now (hashes .entry))) ⌝ }
 {
     match wanted {
         Wanted::Everything => false,
@@ -75,8 +70,7 @@ fn block_at(numbers: &[u32], at: usize, base: usize, held: usize) -> Placed
 
 // The list that a search reads in the leaf whose six numbers start at a place: its entries, unfiltered its vectors.
 fn leaf_list(shape: Shape, counts: Counts, numbers: &[u32], wanted: Wanted, at: usize) -> Placed
-    requires { ⌜ NumbersLent shape counts (now numbers) ⌝ }
-    requires { ⌜ at + 6 ≤ length (now numbers) ⌝ }
+    requires { ⌜ LeafLent shape counts (now numbers) at ⌝ }
     ensures { λ r. ⌜ LeafPlacing shape counts (now (numbers .entry)) wanted at r ⌝ }
 {
     match wanted {
@@ -94,12 +88,10 @@ pub fn look_at(
     wanted: Wanted,
     i: usize,
 ) -> Look
-    requires { ⌜ NumbersLent shape counts (now numbers) ⌝ }
-    requires { ⌜ HashesLent shape (now hashes) ⌝ }
-    requires { ⌜ i < counts .nodes ⌝ }
+    requires { ⌜ NodeLent shape counts (now numbers) (now hashes) i ⌝ }
     ensures { λ r. ⌜ Looks shape counts (now (numbers .entry)) (now (hashes .entry)) wanted i r ⌝ }
 {
-    if denies(shape, hashes, wanted, i) {
+    if denied(shape, hashes, wanted, i) {
         return Look::Leaf(Block { start: 0, count: 0 });
     }
     let at = shape.nodes_at() + i * 6;

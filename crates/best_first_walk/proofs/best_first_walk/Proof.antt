@@ -11,7 +11,8 @@ use Rattle.walk.specs.declared.look.Look.{Look}
 use Rattle.walk.specs.declared.look.Look.the-variants as look
 use Rattle.walk.specs.LentLaws.{lent-is, works-trans, works-sets}
 use Rattle.walk.specs.Search.{lent, WorkLent, Works, Looks}
-use Rattle.walk.specs.StoreView.{allPass, storeView}
+use Rattle.walk.specs.StoreView.{storeView}
+use Rattle.lists.specs.Tests.{allPass}
 use Rattle.walk.specs.StoreViewLaws.{store-children-below}
 use Rattle.walk.specs.Walk.{View, hits, damage, shown}
 use Rattle.walk.specs.WalkLaws.{ChildrenBelow}

@@ -12,7 +12,7 @@ use lib.ListN.{length, drop}
 use Rattle.lists.specs.Lists.{part}
 use Rattle.store.specs.declared.Shape.{Shape}
 use Rattle.store.specs.Store.{Limits, ownersAt}
-use Rattle.walk.specs.StoreView.{allPass}
+use Rattle.lists.specs.Tests.{allPass}
 use Rattle.curator.specs.Limits.{indexShape}
 use Rattle.curator.specs.RowLaws.{no-rows, row-stops, row-passes}
 use Rattle.curator.specs.Rows.{Row, Lengths, firstOf, listsShort}

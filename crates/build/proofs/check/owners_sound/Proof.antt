@@ -7,7 +7,7 @@ use borrow.Author.Tests.{lt-ltb, le-ltb}
 use lib.Dec.{ltb}
 use lib.ListN.{getD}
 use Rattle.lists.specs.Lists.{part}
-use Rattle.walk.specs.StoreView.{allPass}
+use Rattle.lists.specs.Tests.{allPass}
 use Rattle.build.specs.CheckLaws.{from-first, passed-here, failed-here, passed-all}
 use Rattle.build.proofs.check.owners_sound.Statement.{statement}
 use Rattle.build.proofs.check.owners_sound.Tie as tie

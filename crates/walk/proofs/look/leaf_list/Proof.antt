@@ -1,5 +1,5 @@
 -- `look::leaf_list` meets its contract. Assumes nothing.
-use Rattle.walk.specs.Search.{Placing, LeafPlacing}
+use Rattle.walk.specs.Contracts.{Placing, LeafPlacing}
 use Prim.Native.Nat.{_+_}
 use mathlib.Core.Path.{sym, subst}
 use borrow.Author.Needs.{needs}

@@ -1,6 +1,7 @@
 -- `look::look_at` meets its contract: what was read of the node decides what it shows. Assumes nothing.
 use Rattle.walk.proofs.Looks.{looks-denied, looks-leaf, looks-inner, leafLook, innerLook}
-use Rattle.walk.specs.Search.{filterDenies, Placing, LeafPlacing, Looks}
+use Rattle.walk.specs.Wanted.{denies}
+use Rattle.walk.specs.Contracts.{Placing, LeafPlacing, Looks}
 use Rattle.walk.specs.declared.look.Look.{Look}
 use Rattle.walk.specs.declared.look.Placed.{Placed}
 use Rattle.walk.specs.declared.look.Placed.the-variants.{Outside, Within}
@@ -24,8 +25,8 @@ leaf l = l .before .before .before
 abbrev inner : tie.After-block-at → tie.After-nodes-at
 inner b = b .before .before .before .before
 
-passed : (n : tie.After-nodes-at) → filterDenies (entry n .args .wanted) (part (filtersAt (entry n .args .shape) + entry n .args .i * 4) 4 (entry n .args .hashes .now)) ≡ false
-passed n = sym (n .before .before .denies .ensures) ∙ n .before .if1 .left
+passed : (n : tie.After-nodes-at) → denies (entry n .args .wanted) (part (filtersAt (entry n .args .shape) + entry n .args .i * 4) 4 (entry n .args .hashes .now)) ≡ false
+passed n = sym (n .before .before .denied .ensures) ∙ n .before .if1 .left
 
 abbrev Shows : tie.Start → Look → Type 0
 Shows e r = Looks (e .args .shape) (e .args .counts) (e .args .numbers .now) (e .args .hashes .now) (e .args .wanted) (e .args .i) r
@@ -47,14 +48,14 @@ inner-shows b r is =
     (subst (λ (r : Placed). Placing (a .numbers .now) (nodesAt (a .shape) + a .i * 6) (linksAt (a .shape)) (a .counts .nodes) r) is
     (subst₂ (λ (at base : ℕ). Placing (a .numbers .now) (at + a .i * 6) base (a .counts .nodes) (b .block-at .result)) (n .nodes-at .ensures) (b .before .links-at .ensures) (b .block-at .ensures)))
 
-denies-requires : tie.Need-denies-requires
-denies-requires c κs = search needs
+denied-requires : tie.Need-denied-requires
+denied-requires c κs = search needs
 
 returns : tie.Need-returns
 returns c =
     let d = c .before in
     let a = d .before .before .before .args in
-    looks-denied (a .shape) (a .counts) (a .numbers .now) (a .hashes .now) (a .wanted) (a .i) (sym (d .denies .ensures) ∙ c .if1 .taken)
+    looks-denied (a .shape) (a .counts) (a .numbers .now) (a .hashes .now) (a .wanted) (a .i) (sym (d .denied .ensures) ∙ c .if1 .taken)
 
 nodes-at-requires : tie.Need-nodes-at-requires
 nodes-at-requires c κs = search needs
@@ -111,7 +112,7 @@ pub look-at-spec : {M : Type 1} → statement M
 look-at-spec =
     tie.close
     (tie.spec
-    denies-requires
+    denied-requires
     returns
     nodes-at-requires
     mul-at

@@ -1,4 +1,4 @@
--- `look::denies` meets its contract: everything is denied nowhere, a hash where the filter lacks one of its bits. Assumes nothing.
+-- `look::denied` meets its contract: everything is denied nowhere, a hash where the filter lacks one of its bits. Assumes nothing.
 use Rattle.walk.specs.LentLaws.{lent-is}
 use Rattle.label.specs.Filter.{mayContain}
 use mathlib.Core.Bool.{not}
@@ -6,10 +6,10 @@ use Prim.Native.Nat.{_+_, _*_}
 use mathlib.Core.Path.{_≡_, sym, ap, _∙_}
 use Rattle.lists.specs.Lists.{part}
 use Rattle.store.specs.Store.{filtersAt}
-use Rattle.walk.specs.Search.{filterDenies}
+use Rattle.walk.specs.Wanted.{denies}
 use borrow.Author.Needs.{needs}
-use Rattle.walk.proofs.look.denies.Statement.{statement}
-use Rattle.walk.proofs.look.denies.Tie as tie
+use Rattle.walk.proofs.look.denied.Statement.{statement}
+use Rattle.walk.proofs.look.denied.Tie as tie
 
 enum-told : tie.Need-enum-told
 enum-told c = search needs
@@ -45,21 +45,21 @@ may-contain-requires : tie.Need-may-contain-requires
 may-contain-requires c κs = search needs
 
 returns : tie.Need-returns
-unfolding filterDenies
+unfolding denies
 returns c =
-    sym (ap (λ w. filterDenies w (part (filtersAt (c .before .before .before .args .shape) + c .before .before .before .args .i * 4) 4 (c .before .before .before .args .hashes .now))) (c .enum-told .given .1))
+    sym (ap (λ w. denies w (part (filtersAt (c .before .before .before .args .shape) + c .before .before .before .args .i * 4) 4 (c .before .before .before .args .hashes .now))) (c .enum-told .given .1))
 
 returns-2 : tie.Need-returns-2
-unfolding filterDenies
+unfolding denies
 returns-2 c =
     let start = c .before .before .before .before .before .before .before in
     let from = filtersAt (start .args .shape) + start .args .i * 4 in
     let begins : c .before .before .filters-at .result + start .args .i * 4 ≡ from = ap (λ n. n + start .args .i * 4) (c .before .before .filters-at .ensures) in
     ap not (c .may-contain .ensures ∙ ap (λ f. mayContain f (c .before .before .before .before .wanted .given .0 .0)) (lent-is (start .args .hashes .now) _ _ from 4 begins (ap (λ n. n + 4) begins)))
-    ∙ sym (ap (λ w. filterDenies w (part from 4 (start .args .hashes .now))) (c .before .before .before .before .wanted .given .1))
+    ∙ sym (ap (λ w. denies w (part from 4 (start .args .hashes .now))) (c .before .before .before .before .wanted .given .1))
 
-pub denies-spec : {M : Type 1} → statement M
-denies-spec =
+pub denied-spec : {M : Type 1} → statement M
+denied-spec =
     tie.close
     (tie.spec
     enum-told

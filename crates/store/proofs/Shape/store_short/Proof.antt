@@ -3,10 +3,10 @@ use Prim.Native.Nat.{ℕ}
 use mathlib.Core.Bool.{not, _&&_}
 use mathlib.Core.Path.{ap, ap₂}
 use lib.Dec.{leb}
-use Rattle.curator.specs.Rows.{storeShort}
+use Rattle.store.specs.Lent.{storeShort}
 use borrow.Author.Needs.{needs}
-use Rattle.curator.proofs.limits.store_short.Statement.{statement}
-use Rattle.curator.proofs.limits.store_short.Tie as tie
+use Rattle.store.proofs.Shape.store_short.Statement.{statement}
+use Rattle.store.proofs.Shape.store_short.Tie as tie
 
 floats-size-requires : tie.Need-floats-size-requires
 floats-size-requires c κs = search needs
@@ -20,10 +20,12 @@ hashes-size-requires c κs = search needs
 returns : tie.Need-returns
 unfolding storeShort
 returns c =
+    let sizes = c .before .before .before in
+    let start = sizes .before .before .before in
     ap not
-    (ap₂ _&&_ (ap (λ (n : ℕ). leb n (c .before .before .before .args .floats)) (c .before .before .floats-size .ensures))
-    (ap₂ _&&_ (ap (λ (n : ℕ). leb n (c .before .before .before .args .numbers)) (c .before .numbers-size .ensures))
-    (ap (λ (n : ℕ). leb n (c .before .before .before .args .hashes)) (c .hashes-size .ensures))))
+    (ap₂ _&&_ (ap (λ (n : ℕ). leb n (start .args .lent .floats)) (sizes .before .before .floats-size .ensures))
+    (ap₂ _&&_ (ap (λ (n : ℕ). leb n (start .args .lent .numbers)) (sizes .before .numbers-size .ensures))
+    (ap (λ (n : ℕ). leb n (start .args .lent .hashes)) (sizes .hashes-size .ensures))))
 
 pub store-short-spec : {M : Type 1} → statement M
 store-short-spec =

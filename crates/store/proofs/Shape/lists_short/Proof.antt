@@ -3,10 +3,10 @@ use Prim.Native.Nat.{ℕ}
 use mathlib.Core.Bool.{not, _||_}
 use mathlib.Core.Path.{ap, ap₂}
 use lib.Dec.{leb}
-use Rattle.curator.specs.Rows.{storeShort, listsShort}
+use Rattle.store.specs.Lent.{storeShort, listsShort}
 use borrow.Author.Needs.{needs}
-use Rattle.curator.proofs.limits.lists_short.Statement.{statement}
-use Rattle.curator.proofs.limits.lists_short.Tie as tie
+use Rattle.store.proofs.Shape.lists_short.Statement.{statement}
+use Rattle.store.proofs.Shape.lists_short.Tie as tie
 
 store-short-requires : tie.Need-store-short-requires
 store-short-requires c κs = search needs
