@@ -12,8 +12,10 @@ use Rattle.curator.specs.declared.Check.{Check}
 use Rattle.curator.specs.declared.Check.the-variants.{Fine}
 use Rattle.curator.specs.declared.CuratorIndex.{CuratorIndex}
 use Rattle.curator.specs.Limits.{stateSound, indexShape}
-use Rattle.curator.specs.Rows.{Lengths, firstOf, stateRow, buildRows}
-use Rattle.curator.specs.Calls.{factsOf, lengthsOf}
+use Rattle.curator.specs.Rows.{firstOf, stateRow, buildRows}
+use Rattle.store.specs.declared.Lengths.{Lengths}
+use Rattle.curator.specs.Calls.{factsOf}
+use Rattle.store.specs.Lent.{lengthsOf}
 use Rattle.curator.specs.StateLaws.{Sound}
 
 -- 'Build's 15: an owner not below n', by the numbers alone
@@ -30,7 +32,7 @@ buildChecked index lent numbers =
 
 -- What the making of the tree relies on, as plain facts: the index is not built, and no row's case but perhaps row 13's holds.
 pub record Ready (index : CuratorIndex) (store : Store) (work : List ℕ) : Type 0 where
-  pub passed : buildChecked index (lengthsOf store work) (store .numbers) ≡ Fine
+  pub passed : buildChecked index (lengthsOf store) (length work) (store .numbers) ≡ Fine
   pub unbuilt : index .built ≡ false
   pub sound : Sound index
   pub some : 1 ≤ index .counts .vectors

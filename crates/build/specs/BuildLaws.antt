@@ -16,7 +16,8 @@ use Rattle.curator.specs.declared.Changed.the-variants as Changed′
 use Rattle.curator.specs.declared.Check.{Check}
 use Rattle.curator.specs.declared.Check.the-variants.{Fine, Refused}
 use Rattle.curator.specs.declared.CuratorIndex.{CuratorIndex}
-use Rattle.curator.specs.Calls.{lengthsOf, builtWith}
+use Rattle.curator.specs.Calls.{builtWith}
+use Rattle.store.specs.Lent.{lengthsOf}
 use Rattle.curator.specs.Changes.{tooManyNodes, buildCheck, heldNodes, LaidOut, BuildsFine, BuildsBy, Builds}
 use Rattle.build.specs.CheckLaws.{earlyRows, fullRow, check-rows}
 use Rattle.build.specs.MakeLaws.{treeSize, too-many-is, length-held}
@@ -54,7 +55,7 @@ unfolding builtAllowed
 builds-sound index store work index′ store′ work′ h b =
     let (fine, e, _) = builds-accepted index store work index′ store′ work′ h b in
     let (sound, (_, (empty, (_, (full, _))))) =
-    fine-none (earlyRows index (lengthsOf store work) (store .numbers) ++ (fullRow index (tooManyNodes index store) ∷ [])) (sym (check-rows index store work) ∙ fine) in
+    fine-none (earlyRows index (lengthsOf store) (length work) (store .numbers) ++ (fullRow index (tooManyNodes index store) ∷ [])) (sym (check-rows index store work) ∙ fine) in
     let s = sound-facts index (not-false _ sound) in
     let unempty = eqb-false (index .counts .vectors) 0 (ap (λ (t : Bool). not t && eqb (index .counts .vectors) 0) (sym b) ∙ empty) in
     let few = ltb-false (index .capacities .nodes) (treeSize index (store .floats)) (sym (too-many-is index store) ∙ ap (λ (t : Bool). not t && tooManyNodes index store) (sym b) ∙ full) in

@@ -22,10 +22,12 @@ use Rattle.curator.specs.declared.refusal.StateRefusal.{StateRefusal}
 use Rattle.curator.specs.declared.refusal.StateRefusal.the-variants.{InvalidState, EmptyIndex}
 use Rattle.curator.specs.declared.refusal.StoreRefusal.the-variants.{ListTooShort, NodesFull, Damaged}
 use Rattle.curator.specs.Limits.{stateSound, indexShape}
-use Rattle.curator.specs.Rows.{Row, row, Lengths, firstOf, stateRow, storeShort, listsShort, buildRows}
+use Rattle.curator.specs.Rows.{Row, row, firstOf, stateRow, buildRows}
+use Rattle.store.specs.declared.Lengths.{Lengths}
+use Rattle.store.specs.Lent.{storeShort, listsShort, lengthsOf}
 use Rattle.curator.specs.RowLaws.{FirstAt, refusalAt, refused-first, fine-none, no-rows, row-stops, row-passes, rows-then}
 use Rattle.curator.specs.StateLaws.{Sound, sound-facts}
-use Rattle.curator.specs.Calls.{lengthsOf, heldEntries}
+use Rattle.curator.specs.Calls.{heldEntries}
 use Rattle.curator.specs.Changes.{Part, workPart, Freed, freeOf, Left, ownersDamaged, tooManyNodes, buildCheck}
 use Rattle.build.specs.Asked.{ownersBad, buildChecked, Ready}
 
@@ -74,7 +76,7 @@ checked-rows index lent numbers = refl
 
 pub check-rows : (index : CuratorIndex) (store : Store) (work : List ℕ)
     → buildCheck index store work
-    ≡ firstOf (earlyRows index (lengthsOf store work) (store .numbers) ++ (fullRow index (tooManyNodes index store) ∷ []))
+    ≡ firstOf (earlyRows index (lengthsOf store) (length work) (store .numbers) ++ (fullRow index (tooManyNodes index store) ∷ []))
 unfolding buildCheck buildRows ownersDamaged ownersBad heldEntries
 check-rows index store work = refl
 
@@ -84,35 +86,35 @@ and-false false = refl
 
 -- a refusal by the check is the refusal of the call
 pub check-refused : (index : CuratorIndex) (store : Store) (work : List ℕ) (r : Refusal)
-    → buildChecked index (lengthsOf store work) (store .numbers) ≡ Refused r → buildCheck index store work ≡ Refused r
+    → buildChecked index (lengthsOf store) (length work) (store .numbers) ≡ Refused r → buildCheck index store work ≡ Refused r
 check-refused index store work r f =
     check-rows index store work
-    ∙ earlier-refused (earlyRows index (lengthsOf store work) (store .numbers)) (fullRow index false) (fullRow index (tooManyNodes index store)) r
+    ∙ earlier-refused (earlyRows index (lengthsOf store) (length work) (store .numbers)) (fullRow index false) (fullRow index (tooManyNodes index store)) r
     (and-false (not (index .built)))
-    (sym (checked-rows index (lengthsOf store work) (store .numbers)) ∙ f)
+    (sym (checked-rows index (lengthsOf store) (length work) (store .numbers)) ∙ f)
 
 -- where the check passes, row 13 decides
-decided : (index : CuratorIndex) (store : Store) (work : List ℕ) → buildChecked index (lengthsOf store work) (store .numbers) ≡ Fine
+decided : (index : CuratorIndex) (store : Store) (work : List ℕ) → buildChecked index (lengthsOf store) (length work) (store .numbers) ≡ Fine
     → buildCheck index store work ≡ firstOf (fullRow index (tooManyNodes index store) ∷ [])
 decided index store work f =
     check-rows index store work
-    ∙ last-decides (earlyRows index (lengthsOf store work) (store .numbers)) (fullRow index false) (fullRow index (tooManyNodes index store))
-    (sym (checked-rows index (lengthsOf store work) (store .numbers)) ∙ f)
+    ∙ last-decides (earlyRows index (lengthsOf store) (length work) (store .numbers)) (fullRow index false) (fullRow index (tooManyNodes index store))
+    (sym (checked-rows index (lengthsOf store) (length work) (store .numbers)) ∙ f)
 
-pub check-built : (index : CuratorIndex) (store : Store) (work : List ℕ) → buildChecked index (lengthsOf store work) (store .numbers) ≡ Fine
+pub check-built : (index : CuratorIndex) (store : Store) (work : List ℕ) → buildChecked index (lengthsOf store) (length work) (store .numbers) ≡ Fine
     → index .built ≡ true → buildCheck index store work ≡ Fine
 check-built index store work f b =
     decided index store work f
     ∙ row-passes (fullRow index (tooManyNodes index store)) [] (ap (λ (t : Bool). not t && tooManyNodes index store) b)
     ∙ no-rows
 
-pub check-full : (index : CuratorIndex) (store : Store) (work : List ℕ) → buildChecked index (lengthsOf store work) (store .numbers) ≡ Fine
+pub check-full : (index : CuratorIndex) (store : Store) (work : List ℕ) → buildChecked index (lengthsOf store) (length work) (store .numbers) ≡ Fine
     → index .built ≡ false → tooManyNodes index store ≡ true → buildCheck index store work ≡ Refused (Refusal′.Store NodesFull)
 check-full index store work f b t =
     decided index store work f
     ∙ row-stops (fullRow index (tooManyNodes index store)) [] (ap (λ (t : Bool). not t && tooManyNodes index store) b ∙ t)
 
-pub check-fine : (index : CuratorIndex) (store : Store) (work : List ℕ) → buildChecked index (lengthsOf store work) (store .numbers) ≡ Fine
+pub check-fine : (index : CuratorIndex) (store : Store) (work : List ℕ) → buildChecked index (lengthsOf store) (length work) (store .numbers) ≡ Fine
     → index .built ≡ false → tooManyNodes index store ≡ false → buildCheck index store work ≡ Fine
 check-fine index store work f b t =
     decided index store work f
@@ -183,7 +185,7 @@ owners-below index numbers h room k b =
     subst (λ (x : ℕ). x < index .counts .vectors) (getD-part (ownersAt (indexShape index)) (index .counts .entries) numbers k 0 b) below
 
 -- the check passes and the index is not built
-pub ready : (index : CuratorIndex) (store : Store) (work : List ℕ) → buildChecked index (lengthsOf store work) (store .numbers) ≡ Fine
+pub ready : (index : CuratorIndex) (store : Store) (work : List ℕ) → buildChecked index (lengthsOf store) (length work) (store .numbers) ≡ Fine
     → index .built ≡ false → Ready index store work
 ready index store work f b =
     let lent = lengthsOf store work in
@@ -229,12 +231,12 @@ same-refusal e = cc
 
 -- the lists are as they were, which every one of these rows allows
 pub left-alone : (index : CuratorIndex) (store : Store) (work : List ℕ) (r : Refusal)
-    → buildChecked index (lengthsOf store work) (store .numbers) ≡ Refused r → Left (indexShape index) r store work store work
+    → buildChecked index (lengthsOf store) (length work) (store .numbers) ≡ Refused r → Left (indexShape index) r store work store work
 left-alone index store work r f =
-    by (refused-first (earlyRows index (lengthsOf store work) (store .numbers) ++ (fullRow index false ∷ [])) r (sym (checked-rows index (lengthsOf store work) (store .numbers)) ∙ f))
+    by (refused-first (earlyRows index (lengthsOf store) (length work) (store .numbers) ++ (fullRow index false ∷ [])) r (sym (checked-rows index (lengthsOf store) (length work) (store .numbers)) ∙ f))
   where
-    by : (i : ℕ) × FirstAt (earlyRows index (lengthsOf store work) (store .numbers) ++ (fullRow index false ∷ [])) i
-        × (refusalAt (earlyRows index (lengthsOf store work) (store .numbers) ++ (fullRow index false ∷ [])) i ≡ Refused r)
+    by : (i : ℕ) × FirstAt (earlyRows index (lengthsOf store) (length work) (store .numbers) ++ (fullRow index false ∷ [])) i
+        × (refusalAt (earlyRows index (lengthsOf store) (length work) (store .numbers) ++ (fullRow index false ∷ [])) i ≡ Refused r)
         → Left (indexShape index) r store work store work
     by (zero, h, e) = subst (λ (q : Refusal). Left (indexShape index) q store work store work) (same-refusal e) (left-state (indexShape index) InvalidState store work)
     by (suc zero, h, e) = subst (λ (q : Refusal). Left (indexShape index) q store work store work) (same-refusal e) (left-short (indexShape index) store work)
@@ -242,7 +244,7 @@ left-alone index store work r f =
         subst (λ (q : Refusal). Left (indexShape index) q store work store work) (same-refusal e) (left-state (indexShape index) EmptyIndex store work)
     by (suc (suc (suc zero)), (_, (short, _)), e) =
         subst (λ (q : Refusal). Left (indexShape index) q store work store work) (same-refusal e)
-        (left-damaged (indexShape index) store work (lists-long (indexShape index) (lengthsOf store work) short .3))
+        (left-damaged (indexShape index) store work (lists-long (indexShape index) (lengthsOf store) (length work) short .3))
     by (suc (suc (suc (suc zero))), (_, (_, (_, (_, last)))), e) =
         let z : false ≡ true = sym (and-false (not (index .built))) ∙ last in
         absurd (false-not-true z)

@@ -30,11 +30,12 @@ use Rattle.curator.specs.declared.CuratorIndex.{CuratorIndex}
 use Rattle.curator.specs.declared.refusal.Refusal.the-variants as Refusal′
 use Rattle.curator.specs.declared.refusal.StateRefusal.the-variants.{EmptyIndex}
 use Rattle.curator.specs.declared.refusal.StoreRefusal.the-variants.{ListTooShort, NodesFull, Damaged}
-use Rattle.curator.specs.Calls.{lengthsOf, heldVectors, heldEntries, splittingOf, builtWith}
+use Rattle.curator.specs.Calls.{heldVectors, heldEntries, splittingOf, builtWith}
+use Rattle.store.specs.Lent.{lengthsOf, listsShort}
 use Rattle.curator.specs.Changes.{ownersDamaged, tooManyNodes, buildCheck, heldNodes, LaidOut, BuildsFine, BuildsBy, Builds}
 use Rattle.curator.specs.Limits.{stateSound, indexShape}
 use Rattle.curator.specs.RowLaws.{none-fine, fine-none}
-use Rattle.curator.specs.Rows.{row, firstOf, stateRow, listsShort, buildRows}
+use Rattle.curator.specs.Rows.{row, firstOf, stateRow, buildRows}
 use Rattle.build.specs.Asked.{Ready}
 use Rattle.build.specs.CheckLaws.{earlyRows, fullRow, check-rows, checked-rows, and-false, ready}
 use Rattle.build.specs.BuildLaws.{builds-accepted}
@@ -43,7 +44,7 @@ use Rattle.build.specs.MakeLaws.{held-vectors}
 -- What a build reads is the same: whether a list is too short, the vectors held, and the owners and hashes of the entries held. Document ids are not
 -- read.
 pub record SameRead (index : CuratorIndex) (s : Store) (work : List ℕ) (t : Store) (other : List ℕ) : Type 0 where
-  pub short : listsShort (indexShape index) (lengthsOf s work) ≡ listsShort (indexShape index) (lengthsOf t other)
+  pub short : listsShort (indexShape index) (lengthsOf s) (length work) ≡ listsShort (indexShape index) (lengthsOf t) (length other)
   pub vectors : heldVectors index s ≡ heldVectors index t
   pub entries : heldEntries index s ≡ heldEntries index t
 
@@ -84,7 +85,7 @@ rowsBy index short damaged full =
 
 check-by : (index : CuratorIndex) (store : Store) (work : List ℕ)
     → buildCheck index store work
-    ≡ rowsBy index (listsShort (indexShape index) (lengthsOf store work)) (ownersDamaged index store) (tooManyNodes index store)
+    ≡ rowsBy index (listsShort (indexShape index) (lengthsOf store) (length work)) (ownersDamaged index store) (tooManyNodes index store)
 unfolding buildCheck buildRows rowsBy
 check-by index store work = refl
 
@@ -107,7 +108,7 @@ module _ (index : CuratorIndex) (s : Store) (work : List ℕ) (t : Store) (other
   build-check-same =
       check-by index s work
       ∙ ap (λ (b : Bool). rowsBy index b (ownersDamaged index s) (tooManyNodes index s)) (same .short)
-      ∙ ap₂ (λ (d f : Bool). rowsBy index (listsShort (indexShape index) (lengthsOf t other)) d f) owners-same too-many-same
+      ∙ ap₂ (λ (d f : Bool). rowsBy index (listsShort (indexShape index) (lengthsOf t) (length other)) d f) owners-same too-many-same
       ∙ sym (check-by index t other)
 
 -- what a build answers, by what its rows come to
@@ -149,10 +150,10 @@ laid-of index store work store′ work′ nodes e l =
 -- an accepted build of an unbuilt index was ready
 fine-ready : (index : CuratorIndex) (store : Store) (work : List ℕ) → buildCheck index store work ≡ Fine → index .built ≡ false → Ready index store work
 fine-ready index store work f u =
-    let early = earlyRows index (lengthsOf store work) (store .numbers) in
+    let early = earlyRows index (lengthsOf store) (length work) (store .numbers) in
     let (a, (b, (c, (d, _)))) = fine-none (early ++ (fullRow index (tooManyNodes index store) ∷ [])) (sym (check-rows index store work) ∙ f) in
     ready index store work
-    (checked-rows index (lengthsOf store work) (store .numbers)
+    (checked-rows index (lengthsOf store) (length work) (store .numbers)
     ∙ none-fine (early ++ (fullRow index false ∷ [])) (a, (b, (c, (d, (and-false (not (index .built)), tt))))))
     u
 
@@ -256,7 +257,7 @@ same-standing s c nodes a b x y =
 fine-few : (index : CuratorIndex) (store : Store) (work : List ℕ) → buildCheck index store work ≡ Fine → index .built ≡ false
     → tooManyNodes index store ≡ false
 fine-few index store work f u =
-    let early = earlyRows index (lengthsOf store work) (store .numbers) in
+    let early = earlyRows index (lengthsOf store) (length work) (store .numbers) in
     let (_, (_, (_, (_, (full, _))))) = fine-none (early ++ (fullRow index (tooManyNodes index store) ∷ [])) (sym (check-rows index store work) ∙ f) in
     ap (λ (t : Bool). not t && tooManyNodes index store) (sym u) ∙ full
 

@@ -35,7 +35,8 @@ use Rattle.curator.specs.declared.refusal.Refusal.{Refusal}
 use Rattle.curator.specs.declared.refusal.Refusal.the-variants as Refusal′
 use Rattle.curator.specs.declared.refusal.StoreRefusal.the-variants.{NodesFull}
 use Rattle.curator.specs.Limits.{indexShape}
-use Rattle.curator.specs.Calls.{lengthsOf, heldVectors, heldEntries, splittingOf, builtWith}
+use Rattle.curator.specs.Calls.{heldVectors, heldEntries, splittingOf, builtWith}
+use Rattle.store.specs.Lent.{lengthsOf}
 use Rattle.curator.specs.Changes.{Freed, freeOf, Left, tooManyNodes, buildCheck, heldNodes, LaidOut, BuildsFine, BuildsBy, Builds}
 use Rattle.build.specs.Asked.{buildChecked, Ready}
 use Rattle.build.specs.CheckLaws.{left-alone, check-refused, check-full, check-fine}
@@ -351,7 +352,7 @@ unfolding BuildsBy
 builds-built index store work f b = builds-by index store work _ _ _ Fine f (built-fine index store work b)
 
 -- a refusal by the check leaves the lists as they are
-pub builds-refused : (index : CuratorIndex) (store : Store) (work : List ℕ) (q : Refusal) → buildChecked index (lengthsOf store work) (store .numbers) ≡ Refused q
+pub builds-refused : (index : CuratorIndex) (store : Store) (work : List ℕ) (q : Refusal) → buildChecked index (lengthsOf store) (length work) (store .numbers) ≡ Refused q
     → Builds index store work (Changed′.Refused q) store work
 unfolding BuildsBy
 builds-refused index store work q f =

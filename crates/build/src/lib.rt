@@ -1,7 +1,7 @@
 // The entry point `build`: what it asks, the tree, and the finishing passes (document 01, 'Calls').
 ghost use denote.Ref.{now};
 ghost use Rattle.curator.specs.Changes.{Builds};
-ghost use Rattle.curator.specs.Lent.{lent};
+ghost use Rattle.store.specs.Lent.{lent};
 
 mod check;
 mod make;

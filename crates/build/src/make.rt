@@ -3,7 +3,7 @@ ghost use denote.Ref.{now};
 ghost use mathlib.Core.Path.{_≡_};
 ghost use Rattle.curator.specs.Calls.{builtWith};
 ghost use Rattle.curator.specs.Changes.{Builds};
-ghost use Rattle.curator.specs.Lent.{lent};
+ghost use Rattle.store.specs.Lent.{lent};
 ghost use Rattle.build.specs.Asked.{Ready};
 use build_tree::Made;
 use curator::Changed;

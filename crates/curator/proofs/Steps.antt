@@ -12,8 +12,8 @@ use lib.Dec.{eqb}
 use lib.ListN.{length, getD, drop, set, replicate, drop-of-length-le}
 use lib.Seq.{sets}
 use Rattle.label.specs.Fnv.{fnv}
-use Rattle.lists.specs.Lists.{part}
-use Rattle.curator.specs.Calls.{labelsOf, hashesOfLabels}
+use Rattle.lists.specs.Lists.{part, pieces}
+use Rattle.curator.specs.Calls.{hashesOfLabels}
 use Rattle.curator.specs.LabelLaws.{hashes-drop}
 
 -- two tests that follow from each other
@@ -46,7 +46,7 @@ hash-step l lengths bytes place i start end hash h e g =
 
 -- past the last label nothing is due
 pub hash-end : (l lengths rest : List ℕ) (place i : ℕ) → length lengths ≤ i → sets l place (hashesOfLabels (drop i lengths) rest) ≡ l
-unfolding hashesOfLabels labelsOf
+unfolding hashesOfLabels pieces
 hash-end l lengths rest place i h = rw (drop-of-length-le lengths h)
 
 -- ---- the place of the next vector

@@ -9,7 +9,8 @@ use lib.Dec.{leb, eqb}
 use lib.ListN.{length}
 use Rattle.distance.specs.Vector.{allFinite}
 use Rattle.store.specs.declared.Shape.{Shape}
-use Rattle.store.specs.Store.{Store, floatsSize, numbersSize, hashesSize}
+use Rattle.store.specs.Store.{Store}
+use Rattle.store.specs.LentLaws.{store-long}
 use Rattle.store.specs.declared.Counts.{Counts}
 use Rattle.curator.specs.declared.Changed.{Changed}
 use Rattle.curator.specs.declared.Changed.the-variants as Changed′
@@ -18,35 +19,28 @@ use Rattle.curator.specs.declared.Check.the-variants.{Fine, Refused}
 use Rattle.curator.specs.declared.CuratorIndex.{CuratorIndex}
 use Rattle.curator.specs.declared.refusal.Refusal.{Refusal}
 use Rattle.curator.specs.Limits.{builtAllowed, stateSound, indexShape}
-use Rattle.curator.specs.Rows.{Lengths, storeShort, addRows}
-use Rattle.curator.specs.Calls.{lengthsOf, grown}
-use Rattle.curator.specs.Changes.{AddCall, addCheck, Wrote, AddsBy, Adds}
-use Rattle.curator.specs.Lent.{Room}
+use Rattle.curator.specs.Rows.{addRows}
+use Rattle.store.specs.declared.Lengths.{Lengths}
+use Rattle.store.specs.Lent.{storeShort, lengthsOf}
+use Rattle.curator.specs.Calls.{grown}
+use Rattle.curator.specs.Changes.{addCheck, Wrote, AddsBy, Adds}
+use Rattle.curator.specs.Arguments.{AddCall}
+use Rattle.curator.specs.Lent.{AddRoom}
 use Rattle.curator.specs.RowLaws.{NoneHolds, fine-none, rowsOfAdd, add-check-rows}
 use Rattle.curator.specs.StateLaws.{Sound, sound-facts, facts-sound}
 use Rattle.lists.specs.Tests.{and-both}
-
--- three lists that are not short
-pub long-enough : (s : Shape) (lent : Lengths) → storeShort s lent ≡ false
-    → (floatsSize s ≤ lent .floats) × (numbersSize s ≤ lent .numbers) × (hashesSize s ≤ lent .hashes)
-unfolding storeShort
-long-enough s lent h =
-    let (f, rest) = and-both (leb (floatsSize s) (lent .floats)) _ (not-false _ h) in
-    let (n, k) = and-both (leb (numbersSize s) (lent .numbers)) (leb (hashesSize s) (lent .hashes)) rest in
-    (leb-true _ _ f, leb-true _ _ n, leb-true _ _ k)
 
 -- What an accepted add was asked of, as plain facts.
 pub record Accepted (index : CuratorIndex) (store : Store) (call : AddCall) : Type 0 where
   pub sound : Sound index
   pub unbuilt : index .built ≡ false
   pub finite : allFinite (call .vector) ≡ true
-  pub room : Room index store call
+  pub room : AddRoom index store call
 
 accepted-of : (index : CuratorIndex) (store : Store) (call : AddCall) → NoneHolds (rowsOfAdd index store call) → Accepted index store call
 unfolding addRows
 accepted-of index store call (sound, (short, (built, (dimension, (finite, (labels, (full, (entries, _)))))))) =
     let s = sound-facts index (not-false _ sound) in
-    let (f, n, h) = long-enough (indexShape index) (lengthsOf store []) short in
     let below = eqb-false (index .counts .vectors) (index .capacities .vectors) full in
     record {
       sound = s;
@@ -55,9 +49,7 @@ accepted-of index store call (sound, (short, (built, (dimension, (finite, (label
       room =
           record {
             limits = s .limits;
-            floats = f;
-            numbers = n;
-            hashes = h;
+            long = store-long (indexShape index) (lengthsOf store) short;
             dimension = eqb-true _ _ (not-false _ dimension);
             labels = eqb-true _ _ (not-false _ labels);
             vectors = omega arith;

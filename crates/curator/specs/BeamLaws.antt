@@ -22,12 +22,14 @@ use Rattle.curator.specs.declared.CuratorParams.{CuratorParams}
 use Rattle.curator.specs.declared.refusal.Refusal.the-variants.{Settings}
 use Rattle.curator.specs.declared.refusal.SettingsRefusal.the-variants.{InvalidDimension, InvalidConfig}
 use Rattle.curator.specs.AddLaws.{adds-by}
-use Rattle.curator.specs.Calls.{factsOf, lengthsOf, builtWith}
-use Rattle.curator.specs.Changes.{newAnswer, created, AddCall, addCheck, AddsBy, Adds}
+use Rattle.curator.specs.Calls.{factsOf, builtWith}
+use Rattle.store.specs.Lent.{lengthsOf}
+use Rattle.curator.specs.Changes.{newAnswer, created, addCheck, AddsBy, Adds}
+use Rattle.curator.specs.Arguments.{AddCall, SearchCall, askingOf}
 use Rattle.curator.specs.Changes.{ownersDamaged, tooManyNodes, buildCheck, heldNodes, BuildsFine, BuildsBy, Builds}
 use Rattle.curator.specs.Limits.{dimensionAllowed, paramsAllowed, capacitiesAllowed, countsAllowed, builtAllowed, stateSound, indexShape}
 use Rattle.curator.specs.Rows.{Row, row, firstOf, stateRow, newRows, addRows, buildRows, searchRows}
-use Rattle.curator.specs.Searches.{SearchCall, SearchEnd, wantedOf, searchCheck, WalkedTo, SearchesBy, Searches}
+use Rattle.curator.specs.Searches.{SearchEnd, wantedOf, searchCheck, WalkedTo, SearchesBy, Searches}
 
 -- the same with another beam width
 abbrev pub paramsWithBeam : ℕ → CuratorParams → CuratorParams
@@ -95,7 +97,7 @@ pub add-check-beam : (beam : ℕ) (index : CuratorIndex) (store : Store) (call :
     → addCheck (withBeam beam index) store call ≡ addCheck index store call
 unfolding addCheck
 add-check-beam beam index store call h g =
-    ap (λ (b : Bool). firstOf (stateRow b ∷ addRows (factsOf index) (lengthsOf store []) (call .vector) (call .lengths) (call .bytes)))
+    ap (λ (b : Bool). firstOf (stateRow b ∷ addRows (factsOf index) (lengthsOf store) call))
     (sound-beam beam index h g)
 
 pub adds-beam : (beam : ℕ) (index : CuratorIndex) (store : Store) (call : AddCall) (answer : Changed) (store′ : Store) → beam ≤ 65535
@@ -127,7 +129,7 @@ unfolding buildCheck
 build-check-beam beam index store work h g =
     ap
     (λ (b : Bool).
-    firstOf (stateRow b ∷ buildRows (factsOf index) (lengthsOf store work) (ownersDamaged index store) (tooManyNodes index store)))
+    firstOf (stateRow b ∷ buildRows (factsOf index) (lengthsOf store) (length work) (ownersDamaged index store) (tooManyNodes index store)))
     (sound-beam beam index h g)
 
 pub builds-beam : (beam : ℕ) (index : CuratorIndex) (store : Store) (work : List ℕ) (answer : Changed) (store′ : Store) (work′ : List ℕ)
@@ -174,7 +176,7 @@ search-check-beam beam index store work call h g =
     (λ (b : Bool).
     firstOf
     (stateRow b
-    ∷ searchRows (factsOf index) (lengthsOf store work) (call .query) (call .k) (length (call .ids)) (length (call .distances))))
+    ∷ searchRows (factsOf index) (lengthsOf store) (length work) (askingOf call)))
     (sound-beam beam index h g)
 
 pub searches-beam : (beam : ℕ) (index : CuratorIndex) (store : Store) (work : List ℕ) (call : SearchCall) (end : SearchEnd) → beam ≤ 65535
@@ -185,7 +187,7 @@ searches-beam beam index store work call end h g searches =
     (by (searchCheck index store work call) searches)
   where
     view : List Float → View
-    view query = storeView (indexShape index) (index .counts) store query (wantedOf (call .asked))
+    view query = storeView (indexShape index) (index .counts) store query (wantedOf (call .question .asked))
 
     walked : (state : State) → WalkedTo state index work call end → WalkedTo state (withBeam beam index) work call end
     walked damaged w = record { answer = w .answer; work = w .work; ids = w .ids; distances = w .distances }

@@ -8,7 +8,7 @@ use mathlib.Core.Path.{_≡_, refl, sym, ap, _∙_, subst}
 use native.Mathlib.Omega.{arith}
 use borrow.Author.Tests.{eqb-true, eqb-false, eq-eqb, ne-eqb, ltb-true, lt-ltb}
 use lib.Dec.{eqb, ltb}
-use lib.ListN.{getD}
+use lib.ListN.{getD, length}
 use Rattle.store.specs.Store.{Store}
 use Rattle.tree.specs.Tree.{treeOf, size}
 use Rattle.curator.specs.declared.Changed.{Changed}
@@ -16,16 +16,17 @@ use Rattle.curator.specs.declared.Changed.the-variants as Changed′
 use Rattle.curator.specs.declared.Check.{Check}
 use Rattle.curator.specs.declared.Check.the-variants.{Fine, Refused}
 use Rattle.curator.specs.declared.CuratorIndex.{CuratorIndex}
-use Rattle.curator.specs.Calls.{factsOf, lengthsOf, heldVectors, splittingOf}
+use Rattle.curator.specs.Calls.{factsOf, heldVectors, splittingOf}
+use Rattle.store.specs.Lent.{lengthsOf, listsShort}
 use Rattle.curator.specs.Changes.{ownersDamaged, tooManyNodes, buildCheck, BuildsFine, BuildsBy, Builds}
 use Rattle.curator.specs.Limits.{stateSound, indexShape}
 use Rattle.curator.specs.Outcome.{checkNumber, changedNumber}
 use Rattle.curator.specs.RowLaws.{NoneHolds, FirstAt, numbersOfRows, different, none-fine, fine-none, zero-fine, returned-exactly, test-failed, test-passed}
-use Rattle.curator.specs.Rows.{Row, firstOf, stateRow, listsShort, buildRows}
+use Rattle.curator.specs.Rows.{Row, firstOf, stateRow, buildRows}
 
 abbrev pub rowsOfBuild : CuratorIndex → Store → List ℕ → List Row
 rowsOfBuild index store work =
-    stateRow (stateSound index) ∷ buildRows (factsOf index) (lengthsOf store work) (ownersDamaged index store) (tooManyNodes index store)
+    stateRow (stateSound index) ∷ buildRows (factsOf index) (lengthsOf store) (length work) (ownersDamaged index store) (tooManyNodes index store)
 
 abbrev pub buildNumbers : List ℕ
 buildNumbers = 4 ∷ 3 ∷ 12 ∷ 15 ∷ 13 ∷ []
@@ -88,7 +89,7 @@ module _ (index : CuratorIndex) (store : Store) (work : List ℕ) (answer : Chan
 
   -- 4 and 3 do not hold, and more
   abbrev Asked : Type 0 → Type 0
-  Asked more = (stateSound index ≡ true) × ((listsShort (indexShape index) (lengthsOf store work) ≡ false) × more)
+  Asked more = (stateSound index ≡ true) × ((listsShort (indexShape index) (lengthsOf store) (length work) ≡ false) × more)
 
   -- and the index is not built and holds a vector
   abbrev Some : Type 0 → Type 0
@@ -97,7 +98,7 @@ module _ (index : CuratorIndex) (store : Store) (work : List ℕ) (answer : Chan
   pub build-4 : (changedNumber answer ≡ 4) ↔ (stateSound index ≡ false)
   build-4 = Iff·trans (build-returned 0 (omega arith)) (test-failed (stateSound index))
 
-  pub build-3 : (changedNumber answer ≡ 3) ↔ ((stateSound index ≡ true) × (listsShort (indexShape index) (lengthsOf store work) ≡ true))
+  pub build-3 : (changedNumber answer ≡ 3) ↔ ((stateSound index ≡ true) × (listsShort (indexShape index) (lengthsOf store) (length work) ≡ true))
   unfolding buildRows
   build-3 = Iff·trans (build-returned 1 (omega arith)) (Iff·and (test-passed (stateSound index)) Iff·rfl)
 

@@ -1,10 +1,9 @@
 -- What a call is about: the facts of the state that its rows look at, what the store holds, and the labels of an add.
 use Prim.Native.Nat.{ℕ, _+_}
 use mathlib.Core.Bool.{true, false}
-use mathlib.Core.List.{List, [], _∷_, map}
+use mathlib.Core.List.{List, map}
 use lib.Ieee.{Float}
-use lib.ListN.{length, take, drop}
-use Rattle.lists.specs.Lists.{part}
+use Rattle.lists.specs.Lists.{part, pieces}
 use Rattle.label.specs.Fnv.{fnv}
 use Rattle.store.specs.declared.Shape.{Shape}
 use Rattle.store.specs.Store.{Store, ownersAt}
@@ -15,25 +14,16 @@ use Rattle.curator.specs.declared.CuratorParams.{CuratorParams}
 use Rattle.curator.specs.declared.Capacities.{Capacities}
 use Rattle.curator.specs.declared.CuratorIndex.{CuratorIndex}
 use Rattle.curator.specs.Limits.{indexShape}
-use Rattle.curator.specs.Rows.{Facts, Lengths}
+use Rattle.curator.specs.Rows.{Facts}
 
 abbrev pub factsOf : CuratorIndex → Facts
 factsOf index =
     record { shape = indexShape index; vectors = index .counts .vectors; entries = index .counts .entries; built = index .built }
 
-abbrev pub lengthsOf : Store → List ℕ → Lengths
-lengthsOf store work =
-    record { floats = length (store .floats); numbers = length (store .numbers); hashes = length (store .hashes); work = length work }
-
--- 'lengths are a list of bytes': the labels that the lengths cut from the label bytes
-unfoldable pub labelsOf : List ℕ → List ℕ → List (List ℕ)
-labelsOf [] bytes = []
-labelsOf (n ∷ lengths) bytes = take n bytes ∷ labelsOf lengths (drop n bytes)
-
--- each label's hash
+-- each label's hash: 'lengths are a list of bytes', and cut the labels from the label bytes
 unfoldable pub hashesOfLabels : List ℕ → List ℕ → List ℕ
-unfolding labelsOf fnv
-hashesOfLabels lengths bytes = map fnv (labelsOf lengths bytes)
+unfolding pieces fnv
+hashesOfLabels lengths bytes = map fnv (pieces lengths bytes)
 
 -- the vectors, their document ids, and the entries, that a store holds
 unfoldable pub heldVectors : CuratorIndex → Store → List (List Float)

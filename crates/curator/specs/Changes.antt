@@ -26,8 +26,11 @@ use Rattle.curator.specs.declared.refusal.Refusal.the-variants as Refusa
 use Rattle.curator.specs.declared.refusal.StoreRefusal.{StoreRefusal}
 use Rattle.curator.specs.declared.refusal.StoreRefusal.the-variants.{ListTooShort, VectorsFull, EntriesFull, NodesFull, Damaged}
 use Rattle.curator.specs.Limits.{stateSound, indexShape}
+use Rattle.store.specs.Lent.{lengthsOf}
+use Rattle.curator.specs.Arguments.{AddCall}
 use Rattle.curator.specs.Rows.{firstOf, stateRow, newRows, addRows, buildRows}
-use Rattle.curator.specs.Calls.{factsOf, lengthsOf, hashesOfLabels, heldVectors, heldEntries, splittingOf, fresh, grown, builtWith}
+use Rattle.curator.specs.Calls.{factsOf, hashesOfLabels, heldVectors, heldEntries, splittingOf, fresh, grown, builtWith}
+use Rattle.store.specs.Lent.{lengthsOf}
 
 -- ---- free parts
 
@@ -100,17 +103,10 @@ created dimension params capacities = newAnswer (firstOf (newRows dimension para
 
 -- ---- add
 
--- what an add brings: document id, vector, label lengths and label bytes
-pub record AddCall : Type 0 where
-  pub document : ℕ
-  pub vector : List Float
-  pub lengths : List ℕ
-  pub bytes : List ℕ
-
 unfoldable pub addCheck : CuratorIndex → Store → AddCall → Check
 unfolding firstOf stateSound addRows
 addCheck index store call =
-    firstOf (stateRow (stateSound index) ∷ addRows (factsOf index) (lengthsOf store []) (call .vector) (call .lengths) (call .bytes))
+    firstOf (stateRow (stateSound index) ∷ addRows (factsOf index) (lengthsOf store) call)
 
 -- an accepted add writes the normalised vector, the document id, and one owner and hash for each label, after those held; nothing else
 pub record Wrote (index : CuratorIndex) (store : Store) (call : AddCall) (store′ : Store) : Type 0 where
@@ -150,7 +146,7 @@ unfoldable pub buildCheck : CuratorIndex → Store → List ℕ → Check
 unfolding firstOf stateSound buildRows ownersDamaged tooManyNodes
 buildCheck index store work =
     firstOf
-    (stateRow (stateSound index) ∷ buildRows (factsOf index) (lengthsOf store work) (ownersDamaged index store) (tooManyNodes index store))
+    (stateRow (stateSound index) ∷ buildRows (factsOf index) (lengthsOf store) (length work) (ownersDamaged index store) (tooManyNodes index store))
 
 -- the nodes of the tree of what is held
 unfoldable pub heldNodes : CuratorIndex → Store → List Node

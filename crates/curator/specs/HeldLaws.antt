@@ -20,12 +20,15 @@ use Rattle.curator.specs.declared.Check.{Check}
 use Rattle.curator.specs.declared.Check.the-variants.{Fine, Refused}
 use Rattle.curator.specs.declared.CuratorIndex.{CuratorIndex}
 use Rattle.curator.specs.AddLaws.{add-facts}
-use Rattle.curator.specs.Calls.{lengthsOf, factsOf, hashesOfLabels, heldVectors, heldDocuments, heldEntries, grown}
-use Rattle.curator.specs.Changes.{AddCall, addCheck, Wrote, AddsBy, Adds}
+use Rattle.curator.specs.Calls.{factsOf, hashesOfLabels, heldVectors, heldDocuments, heldEntries, grown}
+use Rattle.store.specs.Lent.{lengthsOf}
+use Rattle.curator.specs.Changes.{addCheck, Wrote, AddsBy, Adds}
+use Rattle.curator.specs.Arguments.{AddCall}
 use Rattle.curator.specs.LabelLaws.{length-hashesOfLabels}
-use Rattle.curator.specs.Lent.{Room}
+use Rattle.curator.specs.Lent.{AddRoom}
 use Rattle.curator.specs.Limits.{stateSound, indexShape}
-use Rattle.curator.specs.Rows.{Lengths, firstOf, stateRow, addRows}
+use Rattle.curator.specs.Rows.{firstOf, stateRow, addRows}
+use Rattle.store.specs.declared.Lengths.{Lengths}
 use Rattle.curator.specs.StateLaws.{length-stored}
 
 -- ---- lists
@@ -62,14 +65,14 @@ part-grows l s m xs h =
 
 -- ---- an accepted add grows what is held by its line
 
-module _ (index : CuratorIndex) (store : Store) (call : AddCall) (store′ : Store) (room : Room index store call)
+module _ (index : CuratorIndex) (store : Store) (call : AddCall) (store′ : Store) (room : AddRoom index store call)
     (wrote : Wrote index store call store′) where
   vectors-fit : index .counts .vectors * index .dimension + index .dimension ≤ length (store .floats)
   vectors-fit =
       let h = room .vectors in
       let parts = index .capacities .vectors + index .capacities .nodes + index .params .«branching_factor» in
       let next = next-place (index .counts .vectors) parts (index .dimension) (omega arith) in
-      omega (arith, room .floats, mul-comm parts (index .dimension))
+      omega (arith, room .long .floats, mul-comm parts (index .dimension))
 
   pub vectors-grown :
       heldVectors (grown index (length (call .lengths))) store′ ≡ heldVectors index store ++ (wrote .stored ∷ [])
@@ -85,7 +88,7 @@ module _ (index : CuratorIndex) (store : Store) (call : AddCall) (store′ : Sto
   unfolding heldDocuments
   documents-grown =
       let h = room .vectors in
-      let fits : index .counts .vectors < length (store .numbers) = omega (arith, room .numbers) in
+      let fits : index .counts .vectors < length (store .numbers) = omega (arith, room .long .numbers) in
       ap (part 0 (index .counts .vectors + 1)) (wrote .numbers)
       ∙ part-sets-before 0 (index .counts .vectors + 1) (set (store .numbers) (index .counts .vectors) (call .document))
       (ownersAt (indexShape index) + index .counts .entries)
@@ -104,7 +107,7 @@ module _ (index : CuratorIndex) (store : Store) (call : AddCall) (store′ : Sto
       let many : length owners ≡ length (call .lengths) = length-replicate (length (call .lengths)) (index .counts .vectors) in
       let wide : length numbers ≡ length (store .numbers) = length-set (store .numbers) (index .counts .vectors) (call .document) in
       let start = ownersAt (indexShape index) in
-      let fits : start + index .counts .entries + length owners ≤ length numbers = omega (arith, room .numbers, room .entries) in
+      let fits : start + index .counts .entries + length owners ≤ length numbers = omega (arith, room .long .numbers, room .entries) in
       ap₂ (λ (k : ℕ) (l : List ℕ). part (ownersAt (indexShape index)) (index .counts .entries + k) l) (sym many) (wrote .numbers)
       ∙ part-grows numbers (ownersAt (indexShape index)) (index .counts .entries) owners fits
       ∙ ap (λ (l : List ℕ). l ++ owners)
@@ -117,7 +120,7 @@ module _ (index : CuratorIndex) (store : Store) (call : AddCall) (store′ : Sto
   hashes-grown =
       let hashes = hashesOfLabels (call .lengths) (call .bytes) in
       let many : length hashes ≡ length (call .lengths) = length-hashesOfLabels (call .lengths) (call .bytes) in
-      let fits : 0 + index .counts .entries + length hashes ≤ length (store .hashes) = omega (arith, room .hashes, room .entries) in
+      let fits : 0 + index .counts .entries + length hashes ≤ length (store .hashes) = omega (arith, room .long .hashes, room .entries) in
       ap₂ (λ (k : ℕ) (l : List ℕ). part 0 (index .counts .entries + k) l) (sym many)
       (wrote .hashes ∙ ap (λ (k : ℕ). sets (store .hashes) k hashes) (sym (zero-add (index .counts .entries))))
       ∙ part-grows (store .hashes) 0 (index .counts .entries) hashes fits
@@ -199,12 +202,6 @@ adds-has index store call = by (addCheck index store call)
 
 -- ---- 'Parts past the counts held are never read'
 
--- two stores whose lists have the same lengths
-pub record SameLengths (s t : Store) : Type 0 where
-  pub floats : length (s .floats) ≡ length (t .floats)
-  pub numbers : length (s .numbers) ≡ length (t .numbers)
-  pub hashes : length (s .hashes) ≡ length (t .hashes)
-
 -- two stores that agree on what an index holds
 pub record SameHeld (index : CuratorIndex) (s t : Store) : Type 0 where
   pub vectors : heldVectors index s ≡ heldVectors index t
@@ -212,18 +209,17 @@ pub record SameHeld (index : CuratorIndex) (s t : Store) : Type 0 where
   pub entries : heldEntries index s ≡ heldEntries index t
 
 -- an add is refused, or not, by the lengths alone
-pub add-check-same : (index : CuratorIndex) (s t : Store) (call : AddCall) → SameLengths s t → addCheck index s call ≡ addCheck index t call
+pub add-check-same : (index : CuratorIndex) (s t : Store) (call : AddCall) → lengthsOf s ≡ lengthsOf t → addCheck index s call ≡ addCheck index t call
 unfolding addCheck
 add-check-same index s t call h =
-    let same : lengthsOf s [] ≡ lengthsOf t [] = λ i. record { floats = h .floats i; numbers = h .numbers i; hashes = h .hashes i; work = 0 } in
-    ap (λ (l : Lengths). firstOf (stateRow (stateSound index) ∷ addRows (factsOf index) l (call .vector) (call .lengths) (call .bytes))) same
+    ap (λ (l : Lengths). firstOf (stateRow (stateSound index) ∷ addRows (factsOf index) l call)) h
 
 -- the state from now on
 abbrev pub stateAfter : CuratorIndex → Changed → CuratorIndex
 stateAfter index (Changed′.Index next) = next
 stateAfter index (Changed′.Refused r) = index
 
-grown-same : (index : CuratorIndex) (s t : Store) (call : AddCall) → SameHeld index s t → Room index s call → Room index t call
+grown-same : (index : CuratorIndex) (s t : Store) (call : AddCall) → SameHeld index s t → AddRoom index s call → AddRoom index t call
     → SameHeld (grown index (length (call .lengths))) (added index s call) (added index t call)
 grown-same index s t call h r q =
     let w = added-wrote index s call in
@@ -250,7 +246,7 @@ grown-same index s t call h r q =
     }
 
 -- stores that agree on what is held give the same answer, are written alike, and agree afterwards on what is held
-pub adds-same : (index : CuratorIndex) (s t : Store) (call : AddCall) (a b : Changed) (s′ t′ : Store) → SameLengths s t → SameHeld index s t
+pub adds-same : (index : CuratorIndex) (s t : Store) (call : AddCall) (a b : Changed) (s′ t′ : Store) → lengthsOf s ≡ lengthsOf t → SameHeld index s t
     → Adds index s call a s′ → Adds index t call b t′ → (a ≡ b) × SameHeld (stateAfter index a) s′ t′
 adds-same index s t call a b s′ t′ l h x y =
     let check = add-check-same index s t call l in

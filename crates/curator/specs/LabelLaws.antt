@@ -7,9 +7,8 @@ use native.Mathlib.Omega.{arith}
 use lib.ListN.{length, getD, take, drop, length-map}
 use lib.Seq.{drop-cons, drop-drop}
 use Rattle.label.specs.Fnv.{fnv}
-use Rattle.lists.specs.Lists.{part}
-use Rattle.curator.specs.Rows.{total}
-use Rattle.curator.specs.Calls.{labelsOf, hashesOfLabels}
+use Rattle.lists.specs.Lists.{part, total, pieces}
+use Rattle.curator.specs.Calls.{hashesOfLabels}
 
 -- ---- sums
 
@@ -29,13 +28,13 @@ total-drop l i h = ap total (drop-cons l i 0 h)
 abbrev pub labelAt : List ℕ → List ℕ → ℕ → List ℕ
 labelAt lengths bytes i = part (total (take i lengths)) (getD lengths i 0) bytes
 
-pub length-labelsOf : (lengths bytes : List ℕ) → length (labelsOf lengths bytes) ≡ length lengths
-unfolding labelsOf
+pub length-labelsOf : (lengths bytes : List ℕ) → length (pieces lengths bytes) ≡ length lengths
+unfolding pieces
 length-labelsOf [] bytes = refl
 length-labelsOf (n ∷ lengths) bytes = ap suc (length-labelsOf lengths (drop n bytes))
 
-pub label-at : (lengths bytes : List ℕ) (i : ℕ) → i < length lengths → getD (labelsOf lengths bytes) i [] ≡ labelAt lengths bytes i
-unfolding labelsOf total
+pub label-at : (lengths bytes : List ℕ) (i : ℕ) → i < length lengths → getD (pieces lengths bytes) i [] ≡ labelAt lengths bytes i
+unfolding pieces total
 label-at [] bytes i h = absurd (omega arith)
 label-at (n ∷ lengths) bytes zero h = refl
 label-at (n ∷ lengths) bytes (suc i) h =
@@ -46,14 +45,14 @@ label-at (n ∷ lengths) bytes (suc i) h =
 
 pub length-hashesOfLabels : (lengths bytes : List ℕ) → length (hashesOfLabels lengths bytes) ≡ length lengths
 unfolding hashesOfLabels
-length-hashesOfLabels lengths bytes = length-map (labelsOf lengths bytes) fnv ∙ length-labelsOf lengths bytes
+length-hashesOfLabels lengths bytes = length-map (pieces lengths bytes) fnv ∙ length-labelsOf lengths bytes
 
 -- the hashes from a place on, where its label starts
 pub hashes-drop : (lengths bytes : List ℕ) (i start : ℕ) → i < length lengths
     → hashesOfLabels (drop i lengths) (drop start bytes)
     ≡ fnv (part start (getD lengths i 0) bytes) ∷ hashesOfLabels (drop (suc i) lengths) (drop (start + getD lengths i 0) bytes)
-unfolding hashesOfLabels labelsOf
+unfolding hashesOfLabels pieces
 hashes-drop lengths bytes i start h =
-    ap (λ (l : List ℕ). map fnv (labelsOf l (drop start bytes))) (drop-cons lengths i 0 h)
-    ∙ ap (λ (r : List ℕ). fnv (part start (getD lengths i 0) bytes) ∷ map fnv (labelsOf (drop (suc i) lengths) r))
+    ap (λ (l : List ℕ). map fnv (pieces l (drop start bytes))) (drop-cons lengths i 0 h)
+    ∙ ap (λ (r : List ℕ). fnv (part start (getD lengths i 0) bytes) ∷ map fnv (pieces (drop (suc i) lengths) r))
     (drop-drop (getD lengths i 0) start bytes)

@@ -28,8 +28,10 @@ use Rattle.curator.specs.declared.refusal.StoreRefusal.the-variants.{Lis
 use Rattle.curator.specs.Outcome.{number, checkNumber, changedNumber}
 use Rattle.curator.specs.Limits.{stateSound}
 use Rattle.curator.specs.Rows.{Row, firstOf, newRows, stateRow, addRows}
-use Rattle.curator.specs.Calls.{factsOf, lengthsOf}
-use Rattle.curator.specs.Changes.{created, newAnswer, AddCall, addCheck, AddsBy, Adds}
+use Rattle.curator.specs.Calls.{factsOf}
+use Rattle.store.specs.Lent.{lengthsOf}
+use Rattle.curator.specs.Changes.{created, newAnswer, addCheck, AddsBy, Adds}
+use Rattle.curator.specs.Arguments.{AddCall}
 
 -- ---- one row
 
@@ -259,7 +261,7 @@ new-returned dimension params capacities i h =
 
 abbrev pub rowsOfAdd : CuratorIndex → Store → AddCall → List Row
 rowsOfAdd index store call =
-    stateRow (stateSound index) ∷ addRows (factsOf index) (lengthsOf store []) (call .vector) (call .lengths) (call .bytes)
+    stateRow (stateSound index) ∷ addRows (factsOf index) (lengthsOf store) call
 
 abbrev pub addNumbers : List ℕ
 addNumbers = 4 ∷ 3 ∷ 5 ∷ 7 ∷ 8 ∷ 9 ∷ 10 ∷ 11 ∷ []

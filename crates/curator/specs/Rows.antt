@@ -4,12 +4,14 @@
 use Prim.Native.Nat.{ℕ, suc, _+_}
 use mathlib.Core.Bool.{Bool, not, _&&_, _||_, cond}
 use mathlib.Core.List.{List, [], _∷_}
-use lib.Dec.{leb, ltb, eqb}
+use lib.Dec.{ltb, eqb}
 use lib.Ieee.{Float}
 use lib.ListN.{length}
+use Rattle.lists.specs.Lists.{total}
 use Rattle.distance.specs.Vector.{allFinite}
 use Rattle.store.specs.declared.Shape.{Shape}
-use Rattle.store.specs.Store.{floatsSize, numbersSize, hashesSize, workSize}
+use Rattle.store.specs.declared.Lengths.{Lengths}
+use Rattle.store.specs.Lent.{storeShort, listsShort}
 use Rattle.curator.specs.declared.Check.{Check}
 use Rattle.curator.specs.declared.Check.the-variants.{Fine, Refused}
 use Rattle.curator.specs.declared.CuratorParams.{CuratorParams}
@@ -21,6 +23,7 @@ use Rattle.curator.specs.declared.refusal.StateRefusal.the-variants.{Inv
 use Rattle.curator.specs.declared.refusal.InputRefusal.the-variants.{DimensionMismatch, NonFiniteInput, LabelLengths, AnswerTooShort}
 use Rattle.curator.specs.declared.refusal.StoreRefusal.the-variants.{ListTooShort, VectorsFull, EntriesFull, NodesFull, Damaged}
 use Rattle.curator.specs.Limits.{dimensionAllowed, paramsAllowed, capacitiesAllowed}
+use Rattle.curator.specs.Arguments.{AddCall, Asking}
 
 -- a row: whether its case holds, and what is then returned
 pub record Row : Type 0 where
@@ -42,13 +45,6 @@ pub record Facts : Type 0 where
   pub entries : ℕ
   pub built : Bool
 
--- the lengths of the lent lists: floats, numbers, hashes, work
-pub record Lengths : Type 0 where
-  pub floats : ℕ
-  pub numbers : ℕ
-  pub hashes : ℕ
-  pub work : ℕ
-
 -- rows 1 and 2: 'new: D outside 1 to 128', 'new: another setting or capacity outside its limits'
 unfoldable pub newRows : ℕ → CuratorParams → Capacities → List Row
 unfolding dimensionAllowed paramsAllowed capacitiesAllowed
@@ -61,47 +57,34 @@ newRows dimension params capacities =
 abbrev pub stateRow : Bool → Row
 stateRow sound = row (not sound) (State InvalidState)
 
--- row 3: 'a lent store or work list too short'; add is lent no work list
-unfoldable pub storeShort : Shape → Lengths → Bool
-storeShort s lent = not (leb (floatsSize s) (lent .floats) && (leb (numbersSize s) (lent .numbers) && leb (hashesSize s) (lent .hashes)))
-
-unfoldable pub listsShort : Shape → Lengths → Bool
-unfolding storeShort
-listsShort s lent = storeShort s lent || not (leb (workSize s) (lent .work))
-
--- the sum of a list
-unfoldable pub total : List ℕ → ℕ
-total [] = 0
-total (x ∷ xs) = x + total xs
-
--- 'Add 4, 3, 5, 7, 8, 9, 10, 11', after row 4
-unfoldable pub addRows : Facts → Lengths → List Float → List ℕ → List ℕ → List Row
+-- 'Add 4, 3, 5, 7, 8, 9, 10, 11', after row 4; add is lent no work list
+unfoldable pub addRows : Facts → Lengths → AddCall → List Row
 unfolding storeShort allFinite total
-addRows f lent vector lengths bytes =
+addRows f lent call =
     row (storeShort (f .shape) lent) (Store ListTooShort) ∷ row (f .built) (State AlreadyBuilt)
-    ∷ row (not (eqb (length vector) (f .shape .dimension))) (Input DimensionMismatch)
-    ∷ row (not (allFinite vector)) (Input NonFiniteInput)
-    ∷ row (not (eqb (total lengths) (length bytes))) (Input LabelLengths)
+    ∷ row (not (eqb (length (call .vector)) (f .shape .dimension))) (Input DimensionMismatch)
+    ∷ row (not (allFinite (call .vector))) (Input NonFiniteInput)
+    ∷ row (not (eqb (total (call .lengths)) (length (call .bytes)))) (Input LabelLengths)
     ∷ row (eqb (f .vectors) (f .shape .vectors)) (Store VectorsFull)
-    ∷ row (ltb (f .shape .entries) (f .entries + length lengths)) (Store EntriesFull)
+    ∷ row (ltb (f .shape .entries) (f .entries + length (call .lengths))) (Store EntriesFull)
     ∷ []
 
 -- 'Build 4, 3; a built index then succeeds unchanged; then 12, 15, 13', after row 4. Whether an owner is not below n (15) and whether the defined
 -- tree has more than M nodes (13) are handed in.
-unfoldable pub buildRows : Facts → Lengths → Bool → Bool → List Row
+unfoldable pub buildRows : Facts → Lengths → ℕ → Bool → Bool → List Row
 unfolding listsShort
-buildRows f lent damaged tooMany =
-    row (listsShort (f .shape) lent) (Store ListTooShort) ∷ row (not (f .built) && eqb (f .vectors) 0) (State EmptyIndex)
+buildRows f lent work damaged tooMany =
+    row (listsShort (f .shape) lent work) (Store ListTooShort) ∷ row (not (f .built) && eqb (f .vectors) 0) (State EmptyIndex)
     ∷ row (not (f .built) && damaged) (Store Damaged)
     ∷ row (not (f .built) && tooMany) (Store NodesFull)
     ∷ []
 
--- 'Search 4, 3, 6, 7, 8, 14, 15', after row 4 and up to 14; idsLent and distancesLent are the lengths of the answer lists
-unfoldable pub searchRows : Facts → Lengths → List Float → ℕ → ℕ → ℕ → List Row
+-- 'Search 4, 3, 6, 7, 8, 14, 15', after row 4 and up to 14
+unfoldable pub searchRows : Facts → Lengths → ℕ → Asking → List Row
 unfolding listsShort allFinite
-searchRows f lent query k idsLent distancesLent =
-    row (listsShort (f .shape) lent) (Store ListTooShort) ∷ row (not (f .built)) (State NotBuilt)
-    ∷ row (not (eqb (length query) (f .shape .dimension))) (Input DimensionMismatch)
-    ∷ row (not (allFinite query)) (Input NonFiniteInput)
-    ∷ row (ltb idsLent k || ltb distancesLent k) (Input AnswerTooShort)
+searchRows f lent work asking =
+    row (listsShort (f .shape) lent work) (Store ListTooShort) ∷ row (not (f .built)) (State NotBuilt)
+    ∷ row (not (eqb (length (asking .query)) (f .shape .dimension))) (Input DimensionMismatch)
+    ∷ row (not (allFinite (asking .query))) (Input NonFiniteInput)
+    ∷ row (ltb (asking .ids) (asking .k) || ltb (asking .distances) (asking .k)) (Input AnswerTooShort)
     ∷ []

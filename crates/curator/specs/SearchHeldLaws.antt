@@ -20,12 +20,13 @@ use Rattle.curator.specs.declared.refusal.Refusal.the-variants as Refusa
 use Rattle.curator.specs.declared.refusal.StateRefusal.the-variants.{NotBuilt}
 use Rattle.curator.specs.declared.refusal.InputRefusal.the-variants.{DimensionMismatch, NonFiniteInput, AnswerTooShort}
 use Rattle.curator.specs.declared.refusal.StoreRefusal.the-variants.{ListTooShort}
-use Rattle.curator.specs.Calls.{lengthsOf}
+use Rattle.store.specs.Lent.{lengthsOf, listsShort}
 use Rattle.curator.specs.Limits.{builtAllowed, stateSound, indexShape}
 use Rattle.curator.specs.RowLaws.{fine-none}
-use Rattle.curator.specs.Rows.{row, firstOf, stateRow, listsShort, searchRows}
+use Rattle.curator.specs.Rows.{row, firstOf, stateRow, searchRows}
 use Rattle.curator.specs.SearchRowLaws.{walkFor, walkOf, earlyRows, search-check-rows}
-use Rattle.curator.specs.Searches.{SearchCall, SearchEnd, wantedOf, searchCheck, Walked, WalkedTo, SearchesBy, Searches}
+use Rattle.curator.specs.Searches.{SearchEnd, wantedOf, searchCheck, Walked, WalkedTo, SearchesBy, Searches}
+use Rattle.curator.specs.Arguments.{SearchCall}
 use Rattle.curator.specs.StateLaws.{sound-facts}
 use Rattle.lists.specs.Tests.{and-both}
 
@@ -41,13 +42,13 @@ rowsBy : CuratorIndex → SearchCall → Bool → Check
 rowsBy index call short =
     firstOf
     (stateRow (stateSound index) ∷ row short (Refusal′.Store ListTooShort) ∷ row (not (index .built)) (Refusal′.State NotBuilt)
-    ∷ row (not (eqb (length (call .query)) (index .dimension))) (Refusal′.Input DimensionMismatch)
-    ∷ row (not (allFinite (call .query))) (Refusal′.Input NonFiniteInput)
+    ∷ row (not (eqb (length (call .question .query)) (index .dimension))) (Refusal′.Input DimensionMismatch)
+    ∷ row (not (allFinite (call .question .query))) (Refusal′.Input NonFiniteInput)
     ∷ row (ltb (length (call .ids)) (call .k) || ltb (length (call .distances)) (call .k)) (Refusal′.Input AnswerTooShort)
     ∷ [])
 
 check-by : (index : CuratorIndex) (store : Store) (work : List ℕ) (call : SearchCall)
-    → searchCheck index store work call ≡ rowsBy index call (listsShort (indexShape index) (lengthsOf store work))
+    → searchCheck index store work call ≡ rowsBy index call (listsShort (indexShape index) (lengthsOf store) (length work))
 unfolding searchCheck searchRows rowsBy
 check-by index store work call = refl
 
@@ -73,9 +74,9 @@ module _ (index : CuratorIndex) (call : SearchCall) (work other : List ℕ) (a b
   -- by the walk for the normalised query
   walked-of : (store : Store) (work : List ℕ) (end : SearchEnd) → Walked index store work call end → WalkedTo (walkOf index store call) index work call end
   walked-of store work end w =
-      subst (λ (q : List _). WalkedTo (walkFor index store call q) index work call end) (normalized-is (call .query) (w .query) (w .normalized)) (w .walked)
+      subst (λ (q : List _). WalkedTo (walkFor index store call q) index work call end) (normalized-is (call .question .query) (w .query) (w .normalized)) (w .walked)
 
-  pub searches-same : (s t : Store) → listsShort (indexShape index) (lengthsOf s work) ≡ listsShort (indexShape index) (lengthsOf t other)
+  pub searches-same : (s t : Store) → listsShort (indexShape index) (lengthsOf s) (length work) ≡ listsShort (indexShape index) (lengthsOf t) (length other)
       → SameHeld (indexShape index) (index .counts) s t → Searches index s work call a → Searches index t other call b → SameEnd a b
   unfolding Searches SearchesBy
   searches-same s t short same x y = by (searchCheck index s work call) refl x (subst (λ (c : Check). SearchesBy c index t other call b) (sym check) y)
@@ -86,7 +87,7 @@ module _ (index : CuratorIndex) (call : SearchCall) (work other : List ℕ) (a b
       by : (c : Check) → searchCheck index s work call ≡ c → SearchesBy c index s work call a → SearchesBy c index t other call b → SameEnd a b
       by Fine f w v =
           let (some, fits) = some-node index s work call f in
-          let walks = same-held (indexShape index) (index .counts) s t same (normalized (call .query)) (wantedOf (call .asked)) some fits (index .params .«ef_search») in
+          let walks = same-held (indexShape index) (index .counts) s t same (normalized (call .question .query)) (wantedOf (call .question .asked)) some fits (index .params .«ef_search») in
           ended (walkOf index s call) (walked-of s work a w)
           (subst (λ (state : State). WalkedTo state index other call b) (sym walks) (walked-of t other b v))
       by (Refused r) f u v =

@@ -20,20 +20,22 @@ use Rattle.curator.specs.declared.Check.the-variants.{Fine, Refused}
 use Rattle.curator.specs.declared.CuratorIndex.{CuratorIndex}
 use Rattle.curator.specs.declared.refusal.Refusal.the-variants as Refusal′
 use Rattle.curator.specs.declared.refusal.StoreRefusal.the-variants as StoreRefusal′
-use Rattle.curator.specs.Calls.{factsOf, lengthsOf}
+use Rattle.curator.specs.Calls.{factsOf}
+use Rattle.store.specs.Lent.{lengthsOf, listsShort}
 use Rattle.curator.specs.Limits.{stateSound, indexShape}
 use Rattle.curator.specs.Outcome.{checkNumber, foundNumber}
 use Rattle.curator.specs.RowLaws.{NoneHolds, FirstAt, numbersOfRows, different, none-fine, fine-none, zero-fine, row-stops, row-passes, no-rows, returned-exactly, rows-then, test-failed, test-passed}
-use Rattle.curator.specs.Rows.{Row, row, firstOf, stateRow, listsShort, searchRows}
-use Rattle.curator.specs.Searches.{SearchCall, SearchEnd, wantedOf, searchCheck, WalkedTo, SearchesBy, Searches}
+use Rattle.curator.specs.Rows.{Row, row, firstOf, stateRow, searchRows}
+use Rattle.curator.specs.Searches.{SearchEnd, wantedOf, searchCheck, WalkedTo, SearchesBy, Searches}
+use Rattle.curator.specs.Arguments.{SearchCall, askingOf}
 
 -- the walk of a search over what the store shows, for a normalised query
 abbrev pub walkFor : CuratorIndex → Store → SearchCall → List Float → State
 walkFor index store call query =
-    walk (storeView (indexShape index) (index .counts) store query (wantedOf (call .asked))) (index .params .«ef_search»)
+    walk (storeView (indexShape index) (index .counts) store query (wantedOf (call .question .asked))) (index .params .«ef_search»)
 
 abbrev pub walkOf : CuratorIndex → Store → SearchCall → State
-walkOf index store call = walkFor index store call (normalized (call .query))
+walkOf index store call = walkFor index store call (normalized (call .question .query))
 
 -- whether a walk came to damage
 abbrev pub isDamaged : State → Bool
@@ -47,7 +49,7 @@ damagedRow index store call = row (isDamaged (walkOf index store call)) (Refusal
 abbrev pub earlyRows : CuratorIndex → Store → List ℕ → SearchCall → List Row
 earlyRows index store work call =
     stateRow (stateSound index)
-    ∷ searchRows (factsOf index) (lengthsOf store work) (call .query) (call .k) (length (call .ids)) (length (call .distances))
+    ∷ searchRows (factsOf index) (lengthsOf store) (length work) (askingOf call)
 
 abbrev pub rowsOfSearch : CuratorIndex → Store → List ℕ → SearchCall → List Row
 rowsOfSearch index store work call = earlyRows index store work call ++ (damagedRow index store call ∷ [])
@@ -118,7 +120,7 @@ module _ (index : CuratorIndex) (store : Store) (work : List ℕ) (call : Search
       by : (check : Check) → firstOf (earlyRows index store work call) ≡ check → SearchesBy check index store work call end
           → foundNumber (end .answer) ≡ checkNumber (firstOf (rowsOfSearch index store work call))
       by Fine e w =
-          let same = ap (λ (query : List Float). walkFor index store call query) (normalized-is (call .query) (w .query) (w .normalized)) in
+          let same = ap (λ (query : List Float). walkFor index store call query) (normalized-is (call .question .query) (w .query) (w .normalized)) in
           walked (walkFor index store call (w .query)) (sym same) (w .walked)
           ∙ ap checkNumber (sym (rows-then (earlyRows index store work call) (last ∷ []) Fine e))
       by (Refused r) e u = ap foundNumber (u .answer) ∙ ap checkNumber (sym (rows-then (earlyRows index store work call) (last ∷ []) (Refused r) e))
@@ -143,16 +145,16 @@ module _ (index : CuratorIndex) (store : Store) (work : List ℕ) (call : Search
   Past4 more = (stateSound index ≡ true) × more
 
   abbrev Past3 : Type 0 → Type 0
-  Past3 more = Past4 ((listsShort (indexShape index) (lengthsOf store work) ≡ false) × more)
+  Past3 more = Past4 ((listsShort (indexShape index) (lengthsOf store) (length work) ≡ false) × more)
 
   abbrev Past6 : Type 0 → Type 0
   Past6 more = Past3 ((index .built ≡ true) × more)
 
   abbrev Past7 : Type 0 → Type 0
-  Past7 more = Past6 ((length (call .query) ≡ index .dimension) × more)
+  Past7 more = Past6 ((length (call .question .query) ≡ index .dimension) × more)
 
   abbrev Past8 : Type 0 → Type 0
-  Past8 more = Past7 ((allFinite (call .query) ≡ true) × more)
+  Past8 more = Past7 ((allFinite (call .question .query) ≡ true) × more)
 
   abbrev Past14 : Type 0 → Type 0
   Past14 more = Past8 (((call .k ≤ length (call .ids)) × (call .k ≤ length (call .distances))) × more)
@@ -160,7 +162,7 @@ module _ (index : CuratorIndex) (store : Store) (work : List ℕ) (call : Search
   pub search-4 : (foundNumber (end .answer) ≡ 4) ↔ (stateSound index ≡ false)
   search-4 = Iff·trans (search-returned 0 (omega arith)) (test-failed (stateSound index))
 
-  pub search-3 : (foundNumber (end .answer) ≡ 3) ↔ Past4 (listsShort (indexShape index) (lengthsOf store work) ≡ true)
+  pub search-3 : (foundNumber (end .answer) ≡ 3) ↔ Past4 (listsShort (indexShape index) (lengthsOf store) (length work) ≡ true)
   unfolding searchRows
   search-3 = Iff·trans (search-returned 1 (omega arith)) (Iff·and (test-passed _) Iff·rfl)
 
@@ -170,21 +172,21 @@ module _ (index : CuratorIndex) (store : Store) (work : List ℕ) (call : Search
   search-6 = Iff·trans (search-returned 2 (omega arith)) (Iff·and (test-passed _) (Iff·and Iff·rfl (test-failed _)))
 
   -- the query's length is D, and it is not
-  is-dimension : (not (eqb (length (call .query)) (index .dimension)) ≡ false) ↔ (length (call .query) ≡ index .dimension)
-  is-dimension = Iff·trans (test-passed _) (eqb-true (length (call .query)) (index .dimension), eq-eqb (length (call .query)) (index .dimension))
+  is-dimension : (not (eqb (length (call .question .query)) (index .dimension)) ≡ false) ↔ (length (call .question .query) ≡ index .dimension)
+  is-dimension = Iff·trans (test-passed _) (eqb-true (length (call .question .query)) (index .dimension), eq-eqb (length (call .question .query)) (index .dimension))
 
-  not-dimension : (not (eqb (length (call .query)) (index .dimension)) ≡ true) ↔ (length (call .query) ≡ index .dimension → ⊥)
-  not-dimension = Iff·trans (test-failed _) (eqb-false (length (call .query)) (index .dimension), ne-eqb (length (call .query)) (index .dimension))
+  not-dimension : (not (eqb (length (call .question .query)) (index .dimension)) ≡ true) ↔ (length (call .question .query) ≡ index .dimension → ⊥)
+  not-dimension = Iff·trans (test-failed _) (eqb-false (length (call .question .query)) (index .dimension), ne-eqb (length (call .question .query)) (index .dimension))
 
   -- 'vector or query length is not D'
-  pub search-7 : (foundNumber (end .answer) ≡ 7) ↔ Past6 (length (call .query) ≡ index .dimension → ⊥)
+  pub search-7 : (foundNumber (end .answer) ≡ 7) ↔ Past6 (length (call .question .query) ≡ index .dimension → ⊥)
   unfolding searchRows
   search-7 =
       Iff·trans (search-returned 3 (omega arith))
       (Iff·and (test-passed _) (Iff·and Iff·rfl (Iff·and (test-passed _) not-dimension)))
 
   -- 'a component infinite or NaN'
-  pub search-8 : (foundNumber (end .answer) ≡ 8) ↔ Past7 (allFinite (call .query) ≡ false)
+  pub search-8 : (foundNumber (end .answer) ≡ 8) ↔ Past7 (allFinite (call .question .query) ≡ false)
   unfolding searchRows
   search-8 =
       Iff·trans (search-returned 4 (omega arith))

@@ -21,27 +21,16 @@ use Rattle.curator.specs.declared.Found.the-variants as Found′
 use Rattle.curator.specs.declared.refusal.Refusal.the-variants as Refusal′
 use Rattle.curator.specs.declared.refusal.StoreRefusal.the-variants as StoreRefusal′
 use Rattle.curator.specs.Limits.{stateSound, indexShape}
+use Rattle.curator.specs.Arguments.{Asked, everything, labelled, SearchCall, askingOf}
 use Rattle.curator.specs.Rows.{firstOf, stateRow, searchRows}
-use Rattle.curator.specs.Calls.{factsOf, lengthsOf}
+use Rattle.curator.specs.Calls.{factsOf}
+use Rattle.store.specs.Lent.{lengthsOf}
 use Rattle.curator.specs.Changes.{Freed, workPart}
-
--- what a search asks for: every vector, or those with a label, which is any bytes
-pub data Asked : Type 0 where
-  everything : Asked
-  labelled : List ℕ → Asked
 
 unfoldable pub wantedOf : Asked → Wanted
 unfolding fnv
 wantedOf everything = Everything
 wantedOf (labelled bytes) = Label (fnv bytes)
-
--- what a search brings: the query, what it asks for, k, and the two answer lists
-pub record SearchCall : Type 0 where
-  pub query : List Float
-  pub asked : Asked
-  pub k : ℕ
-  pub ids : List ℕ
-  pub distances : List Float
 
 -- what a search leaves: its answer, the work list and the two answer lists
 pub record SearchEnd : Type 0 where
@@ -55,7 +44,7 @@ unfolding firstOf stateSound searchRows
 searchCheck index store work call =
     firstOf
     (stateRow (stateSound index)
-    ∷ searchRows (factsOf index) (lengthsOf store work) (call .query) (call .k) (length (call .ids)) (length (call .distances)))
+    ∷ searchRows (factsOf index) (lengthsOf store) (length work) (askingOf call))
 
 -- nothing but the answer
 pub record Untouched (lent : List ℕ) (call : SearchCall) (found : Found) (end : SearchEnd) : Type 0 where
@@ -86,10 +75,10 @@ WalkedTo (going p) index work call end = Answered index work call (answer (call 
 -- 'Normalise the query', then the walk over what the store shows
 pub record Walked (index : CuratorIndex) (store : Store) (work : List ℕ) (call : SearchCall) (end : SearchEnd) : Type 0 where
   pub query : List Float
-  pub normalized : Normalized (dot (call .query) (call .query)) (call .query) query
+  pub normalized : Normalized (dot (call .question .query) (call .question .query)) (call .question .query) query
   pub walked :
       WalkedTo
-      (walk (storeView (indexShape index) (index .counts) store query (wantedOf (call .asked))) (index .params .«ef_search»))
+      (walk (storeView (indexShape index) (index .counts) store query (wantedOf (call .question .asked))) (index .params .«ef_search»))
       index
       work
       call

@@ -23,6 +23,7 @@ use Rattle.curator.specs.Changes.{newAnswer, created}
 use Rattle.curator.specs.RowLaws.{NoneHolds, fine-none, row-passes}
 use Rattle.curator.specs.Rows.{Row, firstOf, stateRow, newRows}
 use Rattle.curator.specs.Limits.{every, dimensionAllowed, paramsAllowed, capacitiesAllowed, countsAllowed, builtAllowed, stateSound, indexShape}
+use Rattle.lists.specs.Tests.{and-both}
 
 -- what is stored of a vector is as long as the vector
 pub length-stored : {squares : Float} {v w : List Float} → Normalized squares v w → length w ≡ length v

@@ -1,7 +1,8 @@
 -- The definitions on small values: `new` at the limits, and the labels of an add.
+use Prim.Native.Nat.{ℕ}
 use mathlib.Core.List.{[], _∷_}
 use mathlib.Core.Path.{_≡_, refl}
-use Rattle.curator.specs.Calls.{labelsOf}
+use Rattle.lists.specs.Lists.{pieces}
 use Rattle.curator.specs.Changes.{created}
 use Rattle.curator.specs.Limits.{usual}
 use Rattle.curator.specs.Outcome.{changedNumber}
@@ -18,6 +19,6 @@ unfolding created
 trial-new = (refl, refl, refl, refl, refl, refl)
 
 -- two labels of lengths 1 and 2, and an empty one
-trial-labels : labelsOf (1 ∷ 0 ∷ 2 ∷ []) (97 ∷ 98 ∷ 99 ∷ []) ≡ (97 ∷ []) ∷ [] ∷ (98 ∷ 99 ∷ []) ∷ []
-unfolding labelsOf
+trial-labels : pieces {A = ℕ} (1 ∷ 0 ∷ 2 ∷ []) (97 ∷ 98 ∷ 99 ∷ []) ≡ (97 ∷ []) ∷ [] ∷ (98 ∷ 99 ∷ []) ∷ []
+unfolding pieces
 trial-labels = refl

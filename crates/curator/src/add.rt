@@ -5,11 +5,11 @@ ghost use lib.Dec.{eqb};
 ghost use lib.ListN.{length, set, replicate};
 ghost use lib.Seq.{sets};
 ghost use Rattle.label.specs.Fnv.{fnv};
-ghost use Rattle.lists.specs.Lists.{part};
-ghost use Rattle.curator.specs.Rows.{total};
+ghost use Rattle.lists.specs.Lists.{part, total};
 ghost use Rattle.curator.specs.Calls.{hashesOfLabels, grown};
 ghost use Rattle.curator.specs.Changes.{Wrote};
-ghost use Rattle.curator.specs.Lent.{lent, storeLengths, adding, addChecked, Room, VectorAt};
+ghost use Rattle.curator.specs.Lent.{adding, addChecked, AddRoom, VectorAt};
+ghost use Rattle.store.specs.Lent.{lent};
 use crate::Check;
 use crate::CuratorIndex;
 use crate::limits;
@@ -18,6 +18,7 @@ use crate::refusal::Refusal;
 use crate::refusal::StateRefusal;
 use crate::refusal::StoreRefusal;
 use store::Counts;
+use store::Lengths;
 
 // A byte as a size.
 fn wide(byte: u8) -> usize
@@ -43,22 +44,20 @@ fn sums_to(lengths: &[u8], sum: usize) -> bool
     left == 0
 }
 
-// The first refusal whose case holds.
+// The first refusal whose case holds. No row looks at the document id.
 pub fn add_check(
     index: CuratorIndex,
-    floats: usize,
-    numbers: usize,
-    hashes: usize,
+    lent: Lengths,
     vector: &[f32],
     lengths: &[u8],
     bytes: &[u8],
 ) -> Check
-    ensures { λ r. ⌜ r ≡ addChecked index (storeLengths floats numbers hashes) (vector .entry) (lengths .entry) (bytes .entry) ⌝ }
+    ensures { λ r. ⌜ r ≡ addChecked index lent (adding 0 (vector .entry) (lengths .entry) (bytes .entry)) ⌝ }
 {
     if !limits::state_sound(index) {
         return Check::Refused(Refusal::State(StateRefusal::InvalidState));
     }
-    if limits::store_short(limits::shape_of(index), floats, numbers, hashes) {
+    if limits::shape_of(index).store_short(lent) {
         return Check::Refused(Refusal::Store(StoreRefusal::ListTooShort));
     }
     if index.built {
@@ -148,7 +147,7 @@ pub fn write_add(
     lengths: &[u8],
     bytes: &[u8],
 )
-    requires { ⌜ Room index (lent floats numbers hashes) (adding «doc_id» vector lengths bytes) ⌝ }
+    requires { ⌜ AddRoom index (lent floats numbers hashes) (adding «doc_id» vector lengths bytes) ⌝ }
     ensures { λ _. ⌜ Wrote index (lent (floats .entry) (numbers .entry) (hashes .entry))
         (adding «doc_id» (vector .entry) (lengths .entry) (bytes .entry))
         (lent (floats .exit) (numbers .exit) (hashes .exit)) ⌝ }

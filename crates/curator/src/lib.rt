@@ -2,7 +2,8 @@
 ghost use mathlib.Core.Path.{_≡_};
 ghost use Rattle.curator.specs.Limits.{usual};
 ghost use Rattle.curator.specs.Changes.{created, Adds};
-ghost use Rattle.curator.specs.Lent.{lent, adding};
+ghost use Rattle.curator.specs.Lent.{adding};
+ghost use Rattle.store.specs.Lent.{lent};
 
 mod add;
 pub mod limits;
@@ -11,6 +12,7 @@ pub mod refusal;
 use refusal::Refusal;
 use refusal::SettingsRefusal;
 use store::Counts;
+use store::Lengths;
 
 // The settings of an index beside its dimension. `beam_width` is kept and read by no build or search.
 pub struct CuratorParams {
@@ -121,15 +123,12 @@ impl CuratorIndex {
             r
             (lent (floats .exit) (numbers .exit) (hashes .exit)) ⌝ }
     {
-        let check = add::add_check(
-            self,
-            floats.len(),
-            numbers.len(),
-            hashes.len(),
-            vector,
-            lengths,
-            bytes,
-        );
+        let lent = Lengths {
+            floats: floats.len(),
+            numbers: numbers.len(),
+            hashes: hashes.len(),
+        };
+        let check = add::add_check(self, lent, vector, lengths, bytes);
         match check {
             Check::Refused(refusal) => Changed::Refused(refusal),
             Check::Fine => {

@@ -1,9 +1,6 @@
 // The limits of settings, capacities and counts (document 01, 'The store'), as tests.
 ghost use mathlib.Core.Path.{_≡_};
-ghost use Rattle.store.specs.Store.{Limits};
 ghost use Rattle.curator.specs.Limits.{dimensionAllowed, paramsAllowed, capacitiesAllowed, countsAllowed, builtAllowed, stateSound, indexShape};
-ghost use Rattle.curator.specs.Rows.{storeShort, listsShort};
-ghost use Rattle.curator.specs.Lent.{lengths, storeLengths};
 use crate::Capacities;
 use crate::CuratorIndex;
 use crate::CuratorParams;
@@ -71,21 +68,4 @@ pub fn shape_of(index: CuratorIndex) -> Shape
         entries: index.capacities.entries,
         nodes: index.capacities.nodes,
     }
-}
-
-// Whether a list of the store is shorter than its size.
-pub fn store_short(shape: Shape, floats: usize, numbers: usize, hashes: usize) -> bool
-    requires { ⌜ Limits shape ⌝ }
-    ensures { λ r. ⌜ r ≡ storeShort shape (storeLengths floats numbers hashes) ⌝ }
-{
-    !((shape.floats_size() <= floats)
-        & ((shape.numbers_size() <= numbers) & (shape.hashes_size() <= hashes)))
-}
-
-// Whether a list of the store, or the work list, is shorter than its size.
-pub fn lists_short(shape: Shape, floats: usize, numbers: usize, hashes: usize, work: usize) -> bool
-    requires { ⌜ Limits shape ⌝ }
-    ensures { λ r. ⌜ r ≡ listsShort shape (lengths floats numbers hashes work) ⌝ }
-{
-    store_short(shape, floats, numbers, hashes) | !(shape.work_size() <= work)
 }

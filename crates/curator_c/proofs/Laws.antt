@@ -14,8 +14,9 @@ use Rattle.curator.specs.declared.Found.{Found}
 use Rattle.curator.specs.declared.Found.the-variants as Found′
 use Rattle.curator.specs.declared.refusal.Refusal.{Refusal}
 use Rattle.curator.specs.Outcome.{number, foundNumber, foundValues}
-use Rattle.curator.specs.Changes.{AddCall, Adds, Builds}
-use Rattle.curator.specs.Searches.{SearchCall, SearchEnd, Searches}
+use Rattle.curator.specs.Changes.{Adds, Builds}
+use Rattle.curator.specs.Arguments.{AddCall, SearchCall}
+use Rattle.curator.specs.Searches.{SearchEnd, Searches}
 use Rattle.curator_c.specs.declared.state.Held.{Held}
 use Rattle.curator_c.specs.declared.state.Held.the-variants.{State, Nothing}
 use Rattle.curator_c.specs.State.{places, stateList, stateIn}

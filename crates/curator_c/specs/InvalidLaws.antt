@@ -18,9 +18,11 @@ use Rattle.curator.specs.Limits.{stateSound}
 use Rattle.curator.specs.Outcome.{foundNumber, foundValues}
 use Rattle.curator.specs.Rows.{stateRow, addRows, buildRows, searchRows}
 use Rattle.curator.specs.RowLaws.{row-stops}
-use Rattle.curator.specs.Calls.{factsOf, lengthsOf}
-use Rattle.curator.specs.Changes.{AddCall, AddsBy, addCheck, Adds, ownersDamaged, tooManyNodes, BuildsBy, buildCheck, Builds, Freed, freeOf}
-use Rattle.curator.specs.Searches.{SearchCall, Untouched, SearchesBy, searchCheck, Searches}
+use Rattle.curator.specs.Calls.{factsOf}
+use Rattle.store.specs.Lent.{lengthsOf}
+use Rattle.curator.specs.Changes.{AddsBy, addCheck, Adds, ownersDamaged, tooManyNodes, BuildsBy, buildCheck, Builds, Freed, freeOf}
+use Rattle.curator.specs.Arguments.{AddCall, SearchCall}
+use Rattle.curator.specs.Searches.{Untouched, SearchesBy, searchCheck, Searches}
 use Rattle.curator_c.specs.declared.state.Held.{Held}
 use Rattle.curator_c.specs.declared.state.Held.the-variants.{State, Nothing}
 use Rattle.curator_c.specs.State.{stateIn}
@@ -36,13 +38,13 @@ soundIn (State index) = stateSound index
 add-first : (index : CuratorIndex) (store : Store) (call : AddCall) → stateSound index ≡ false → addCheck index store call ≡ Check′.Refused invalid
 unfolding addCheck
 add-first index store call u =
-    row-stops (stateRow (stateSound index)) (addRows (factsOf index) (lengthsOf store []) (call .vector) (call .lengths) (call .bytes)) (ap not u)
+    row-stops (stateRow (stateSound index)) (addRows (factsOf index) (lengthsOf store) call) (ap not u)
 
 build-first : (index : CuratorIndex) (store : Store) (work : List ℕ) → stateSound index ≡ false → buildCheck index store work ≡ Check′.Refused invalid
 unfolding buildCheck
 build-first index store work u =
     row-stops (stateRow (stateSound index))
-    (buildRows (factsOf index) (lengthsOf store work) (ownersDamaged index store) (tooManyNodes index store))
+    (buildRows (factsOf index) (lengthsOf store) (length work) (ownersDamaged index store) (tooManyNodes index store))
     (ap not u)
 
 search-first : (index : CuratorIndex) (store : Store) (work : List ℕ) (call : SearchCall)
@@ -50,7 +52,7 @@ search-first : (index : CuratorIndex) (store : Store) (work : List ℕ) (call : 
 unfolding searchCheck
 search-first index store work call u =
     row-stops (stateRow (stateSound index))
-    (searchRows (factsOf index) (lengthsOf store work) (call .query) (call .k) (length (call .ids)) (length (call .distances)))
+    (searchRows (factsOf index) (lengthsOf store) (length work) (askingOf call))
     (ap not u)
 
 refused-invalid : (answer : Changed) (state : List ℕ) (n : ℕ) (state′ : List ℕ)

@@ -20,8 +20,10 @@ use Rattle.curator.specs.Limits.{stateSound}
 use Rattle.curator.specs.Outcome.{foundValues}
 use Rattle.curator.specs.Rows.{firstOf, stateRow, searchRows}
 use Rattle.curator.specs.RowLaws.{fine-none}
-use Rattle.curator.specs.Calls.{factsOf, lengthsOf}
-use Rattle.curator.specs.Searches.{SearchCall, SearchEnd, Untouched, SearchesBy, searchCheck, Searches}
+use Rattle.curator.specs.Calls.{factsOf}
+use Rattle.store.specs.Lent.{lengthsOf}
+use Rattle.curator.specs.Searches.{SearchEnd, Untouched, SearchesBy, searchCheck, Searches}
+use Rattle.curator.specs.Arguments.{SearchCall}
 use Rattle.curator_c.specs.declared.state.Held.the-variants.{State}
 use Rattle.curator_c.specs.State.{places, stateIn}
 use Rattle.curator_c.specs.StateLaws.{in-holds}
@@ -41,7 +43,7 @@ long-answer answer call h = rw (le-ltb (length answer) 3 h) refl
 unfoldable pub noRoom : CuratorIndex → Store → List ℕ → SearchCall → Check
 unfolding firstOf stateSound searchRows
 noRoom index store work call =
-    firstOf (stateRow (stateSound index) ∷ searchRows (factsOf index) (lengthsOf store work) (call .query) 1 0 0)
+    firstOf (stateRow (stateSound index) ∷ searchRows (factsOf index) (lengthsOf store) (length work) (call .question .query) 1 0 0)
 
 -- without room for three numbers, these are the rows of the search
 asking-rows : (index : CuratorIndex) (store : Store) (work answer : List ℕ) (call : SearchCall)
@@ -54,7 +56,7 @@ no-room-refused : (index : CuratorIndex) (store : Store) (work : List ℕ) (call
 unfolding noRoom searchRows
 no-room-refused index store work call f =
     let (_, (_, (_, (_, (_, (room, _)))))) =
-    fine-none (stateRow (stateSound index) ∷ searchRows (factsOf index) (lengthsOf store work) (call .query) 1 0 0) f in
+    fine-none (stateRow (stateSound index) ∷ searchRows (factsOf index) (lengthsOf store) (length work) (call .question .query) 1 0 0) f in
     let z : _≡_ {A = ℕ} 0 1 = cc in
     omega arith
 

@@ -18,8 +18,9 @@ use Rattle.curator.specs.declared.refusal.Refusal.{Refusal}
 use Rattle.curator.specs.declared.refusal.Refusal.the-variants as Refusal′
 use Rattle.curator.specs.declared.refusal.StateRefusal.the-variants.{InvalidState}
 use Rattle.curator.specs.Outcome.{changedNumber, foundNumber, foundValues}
-use Rattle.curator.specs.Changes.{created, AddCall, Adds, Builds}
-use Rattle.curator.specs.Searches.{SearchCall, SearchEnd, Untouched, Searches}
+use Rattle.curator.specs.Changes.{created, Adds, Builds}
+use Rattle.curator.specs.Arguments.{AddCall, SearchCall}
+use Rattle.curator.specs.Searches.{SearchEnd, Untouched, Searches}
 use Rattle.curator_c.specs.declared.state.Held.{Held}
 use Rattle.curator_c.specs.declared.state.Held.the-variants.{State, Nothing}
 use Rattle.curator_c.specs.State.{places, stateList, stateIn}
@@ -83,7 +84,7 @@ hitsAsked answer ids k = cond (ltb answer 3) (ids + 1) k
 
 abbrev pub withHits : ℕ → SearchCall → SearchCall
 withHits hits call =
-    record { query = call .query; asked = call .asked; k = hits; ids = call .ids; distances = call .distances }
+    record { query = call .question .query; asked = call .question .asked; k = hits; ids = call .ids; distances = call .distances }
 
 abbrev pub asking : List ℕ → SearchCall → SearchCall
 asking answer call = withHits (hitsAsked (length answer) (length (call .ids)) (call .k)) call

@@ -12,7 +12,8 @@ use Rattle.echo_file.specs.declared.counted.Counted.the-variants.{Cut, P
 use Rattle.echo_file.specs.declared.Reading.the-variants.{Bad, Found}
 use Rattle.echo_file.specs.declared.Located.the-variants.{Settings, Vector, Filtered, Search}
 use Rattle.echo_file.specs.Format.{Record}
-use Rattle.echo_file.specs.Decode.{Decoded, none, andThen, value, counted, numbers, total, settingsOf, decodeSettings, decodeVector, decodeFiltered, decodeUnfiltered, decodeAfter, decode}
+use Rattle.echo_file.specs.Decode.{Decoded, none, andThen, value, counted, numbers, settingsOf, decodeSettings, decodeVector, decodeFiltered, decodeUnfiltered, decodeAfter, decode}
+use Rattle.lists.specs.Lists.{total}
 use Rattle.echo_file.specs.Places.{NumberAt, CountedAt, Shows}
 use Rattle.echo_file.specs.Reads.{between}
 use Rattle.echo_file.specs.FieldLaws.{getD-numbers}

@@ -8,10 +8,10 @@ use native.Mathlib.Omega.{arith}
 use lib.ListN.{length, getD, take, drop, set, length-map, List·getD-map, drop-of-length-le}
 use lib.Seq.{drop-cons, drop-drop, paste, paste-suc, take-all}
 use lib.Ieee.{Float, binary32, ofBits}
-use Rattle.lists.specs.Lists.{part}
+use Rattle.lists.specs.Lists.{part, total}
 use Rattle.lists.specs.Counting.{sumOf}
 use Rattle.lists.specs.Parts.{part-append-parts, part-cons, part-zero, length-part}
-use Rattle.echo_file.specs.Decode.{value, numbers, total}
+use Rattle.echo_file.specs.Decode.{value, numbers}
 use Rattle.echo_file.specs.FieldLaws.{length-numbers, getD-numbers}
 
 value-append : (a b : List ℕ) → value (a ++ b) ≡ value a + 256 ^ length a * value b

@@ -5,7 +5,7 @@ use mathlib.Core.Bool.{cond}
 use mathlib.Core.List.{List, [], _∷_}
 use lib.ListN.{length, getD, take, drop}
 use lib.Dec.{eqb, leb}
-use Rattle.lists.specs.Counting.{sumOf}
+use Rattle.lists.specs.Lists.{pieces, total}
 use Rattle.echo_file.specs.declared.Known.{Known}
 use Rattle.echo_file.specs.Format.{Record, settings, vector, filtered, unfiltered}
 
@@ -38,16 +38,6 @@ unfolding value
 numbers zero bytes = []
 numbers (suc n) bytes = value (take 4 bytes) ∷ numbers n (drop 4 bytes)
 
--- the labels that lengths cut from label bytes
-unfoldable pub labelsOf : List ℕ → List ℕ → List (List ℕ)
-labelsOf [] bytes = []
-labelsOf (n ∷ lengths) bytes = take n bytes ∷ labelsOf lengths (drop n bytes)
-
--- the sum of lengths
-unfoldable pub total : List ℕ → ℕ
-unfolding sumOf
-total lengths = sumOf (λ n. n) lengths
-
 -- five numbers, as settings
 unfoldable pub settingsOf : List ℕ → Record
 settingsOf ns = settings (getD ns 0 0) (getD ns 1 0) (getD ns 2 0) (getD ns 3 0) (getD ns 4 0)
@@ -59,13 +49,13 @@ unfolding andThen split numbers settingsOf
 decodeSettings bytes = andThen (split 20 bytes) (λ five rest. found (settingsOf (numbers 5 five)) rest)
 
 unfoldable pub decodeVector : Known → List ℕ → Decoded Record
-unfolding andThen split value counted numbers labelsOf total
+unfolding andThen split value counted numbers pieces total
 decodeVector known bytes =
     andThen (split 4 bytes) (λ document rest.
     andThen (counted rest) (λ lengths rest.
     andThen (split (total lengths) rest) (λ labels rest.
     andThen (split (4 * known .dimension) rest) (λ floats rest.
-    found (vector (value document) (labelsOf lengths labels) (numbers (known .dimension) floats)) rest))))
+    found (vector (value document) (pieces lengths labels) (numbers (known .dimension) floats)) rest))))
 
 unfoldable pub decodeFiltered : Known → List ℕ → Decoded Record
 unfolding andThen split value counted numbers

@@ -13,8 +13,9 @@ use borrow.Author.Tests.{leb-true, le-leb, eqb-true}
 use Rattle.lists.specs.Counting.{getD-Memᴰ}
 use Rattle.echo_file.specs.declared.Known.{Known}
 use Rattle.echo_file.specs.Format.{Record, settings, vector, filtered, unfiltered, mark, number, fours, labelBytes, encode, Each, Bytes, Floats, Fits, Begins}
-use Rattle.echo_file.specs.Decode.{Decoded, none, found, andThen, split, value, counted, numbers, labelsOf, total, settingsOf, decodeSettings, decodeVector, decodeFiltered, decodeUnfiltered, decodeAfter, decode}
-use Rattle.echo_file.specs.FieldLaws.{each-cons, each-nil, bytes-take, bytes-drop, length-number, value-number, number-of, value-below, length-fours, length-numbers, numbers-fours, fours-numbers, numbers-width, length-labelBytes, labelsOf-labelBytes, labelBytes-labelsOf, lengths-labelsOf, length-labelsOf, each-label}
+use Rattle.echo_file.specs.Decode.{Decoded, none, found, andThen, split, value, counted, numbers, settingsOf, decodeSettings, decodeVector, decodeFiltered, decodeUnfiltered, decodeAfter, decode}
+use Rattle.lists.specs.Lists.{pieces, total}
+use Rattle.echo_file.specs.FieldLaws.{each-cons, each-nil, bytes-take, bytes-drop, length-number, value-number, number-of, value-below, length-fours, length-numbers, numbers-fours, fours-numbers, numbers-width, length-labelBytes, pieces-labelBytes, labelBytes-pieces, lengths-pieces, length-pieces, each-label}
 
 -- ---- one part
 
@@ -108,7 +109,7 @@ complete-vector known document labels patterns rest h =
     ∙ step-counted (length labels) (map length labels) _ _ (length-map labels length) (h .1)
     ∙ step _ (labelBytes labels) _ _ (length-labelBytes labels)
     ∙ step _ (fours patterns) rest _ (four-numbers known patterns (h .3))
-    ∙ same-vector rest (value-number 4 document (h .0)) (labelsOf-labelBytes labels) (floats-back known patterns (h .3))
+    ∙ same-vector rest (value-number 4 document (h .0)) (pieces-labelBytes labels) (floats-back known patterns (h .3))
 
 complete-filtered : (known : Known) (k : ℕ) (label patterns rest : List ℕ) → Fits known (filtered k label patterns)
     → decodeFiltered known (number 2 k ++ (number 1 (length label) ++ (label ++ (fours patterns ++ rest)))) ≡ found (filtered k label patterns) rest
@@ -210,16 +211,16 @@ sound-vector known bytes h =
     sound-counted known all r1 _ h1 (λ lengths r2 short q2 b2 h2.
     sound-part known all (total lengths) r2 _ h2 (λ labels r3 e3 q3 b3 h3.
     sound-part known all (4 * known .dimension) r3 _ h3 (λ floats rest e4 q4 b4 h4.
-    let c : length (labelsOf lengths labels) ≡ length lengths = length-labelsOf lengths labels in
+    let c : length (pieces lengths labels) ≡ length lengths = length-pieces lengths labels in
     something (record {
       fits = (value-below 4 document b1 e1, omega arith, each-label lengths labels b2 b3 e3, floats-found known floats b4 e4);
       split =
           rw (
-            vector-parts (value document) (labelsOf lengths labels) (numbers (known .dimension) floats) rest,
+            vector-parts (value document) (pieces lengths labels) (numbers (known .dimension) floats) rest,
             number-of 4 document b1 e1,
             c,
-            lengths-labelsOf lengths labels e3,
-            labelBytes-labelsOf lengths labels e3,
+            lengths-pieces lengths labels e3,
+            labelBytes-pieces lengths labels e3,
             fours-numbers (known .dimension) floats b4 e4,
             q1,
             q2,

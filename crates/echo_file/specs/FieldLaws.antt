@@ -7,11 +7,10 @@ use native.Mathlib.Nat.{pow-suc, pow-zero, div-lt-iff-lt-mul, zero-lt-suc, not-s
 use native.Mathlib.Omega.{arith}
 use lib.ListN.{length, getD, take, drop, length-append, length-drop, take-append-drop}
 use lib.Seq.{take-at, drop-at, length-take-le, take-take, drop-drop}
-use Rattle.lists.specs.Lists.{joined}
-use Rattle.lists.specs.Counting.{sumOf}
+use Rattle.lists.specs.Lists.{joined, pieces, total}
 use Rattle.lists.specs.Parts.{drop-take}
 use Rattle.echo_file.specs.Format.{number, fours, labelBytes, Each, Bytes, Label}
-use Rattle.echo_file.specs.Decode.{value, numbers, labelsOf, total}
+use Rattle.echo_file.specs.Decode.{value, numbers}
 
 -- ---- bytes
 
@@ -154,22 +153,22 @@ getD-numbers (suc n) (suc i) bytes h =
 -- ---- labels
 
 pub total-cons : (n : ℕ) (lengths : List ℕ) → total (n ∷ lengths) ≡ n + total lengths
-unfolding total sumOf
+unfolding total
 total-cons n lengths = refl
 
 pub length-labelBytes : (labels : List (List ℕ)) → length (labelBytes labels) ≡ total (map length labels)
-unfolding labelBytes total joined sumOf
+unfolding labelBytes total joined
 length-labelBytes [] = refl
 length-labelBytes (label ∷ labels) = length-append label (labelBytes labels) ∙ ap (λ (n : ℕ). length label + n) (length-labelBytes labels)
 
 -- what is written is read
-pub labelsOf-labelBytes : (labels : List (List ℕ)) → labelsOf (map length labels) (labelBytes labels) ≡ labels
-unfolding labelsOf labelBytes joined
-labelsOf-labelBytes [] = refl
-labelsOf-labelBytes (label ∷ labels) =
+pub pieces-labelBytes : (labels : List (List ℕ)) → pieces (map length labels) (labelBytes labels) ≡ labels
+unfolding pieces labelBytes joined
+pieces-labelBytes [] = refl
+pieces-labelBytes (label ∷ labels) =
     ap₂ (λ (a : List ℕ) (l : List (List ℕ)). a ∷ l)
     (take-at label (labelBytes labels) (length label) refl)
-    (ap (labelsOf (map length labels)) (drop-at label (labelBytes labels) (length label) refl) ∙ labelsOf-labelBytes labels)
+    (ap (pieces (map length labels)) (drop-at label (labelBytes labels) (length label) refl) ∙ pieces-labelBytes labels)
 
 module _ (n : ℕ) (lengths bytes : List ℕ) (e : length bytes ≡ total (n ∷ lengths)) where
   label-front : length (take n bytes) ≡ n
@@ -179,31 +178,31 @@ module _ (n : ℕ) (lengths bytes : List ℕ) (e : length bytes ≡ total (n ∷
   label-rest = let t = total-cons n lengths in length-drop n bytes ∙ omega arith
 
 -- what is read is what was written
-pub labelBytes-labelsOf : (lengths bytes : List ℕ) → length bytes ≡ total lengths → labelBytes (labelsOf lengths bytes) ≡ bytes
-unfolding labelsOf labelBytes joined total sumOf
-labelBytes-labelsOf [] [] e = refl
-labelBytes-labelsOf [] (b ∷ bytes) e = absurd (omega arith)
-labelBytes-labelsOf (n ∷ lengths) bytes e =
-    ap (λ (l : List ℕ). take n bytes ++ l) (labelBytes-labelsOf lengths (drop n bytes) (label-rest n lengths bytes e)) ∙ take-append-drop n bytes
+pub labelBytes-pieces : (lengths bytes : List ℕ) → length bytes ≡ total lengths → labelBytes (pieces lengths bytes) ≡ bytes
+unfolding pieces labelBytes joined total
+labelBytes-pieces [] [] e = refl
+labelBytes-pieces [] (b ∷ bytes) e = absurd (omega arith)
+labelBytes-pieces (n ∷ lengths) bytes e =
+    ap (λ (l : List ℕ). take n bytes ++ l) (labelBytes-pieces lengths (drop n bytes) (label-rest n lengths bytes e)) ∙ take-append-drop n bytes
 
-pub lengths-labelsOf : (lengths bytes : List ℕ) → length bytes ≡ total lengths → map length (labelsOf lengths bytes) ≡ lengths
-unfolding labelsOf
-lengths-labelsOf [] bytes e = refl
-lengths-labelsOf (n ∷ lengths) bytes e =
+pub lengths-pieces : (lengths bytes : List ℕ) → length bytes ≡ total lengths → map length (pieces lengths bytes) ≡ lengths
+unfolding pieces
+lengths-pieces [] bytes e = refl
+lengths-pieces (n ∷ lengths) bytes e =
     ap₂ (λ (x : ℕ) (l : List ℕ). x ∷ l) (label-front n lengths bytes e)
-    (lengths-labelsOf lengths (drop n bytes) (label-rest n lengths bytes e))
+    (lengths-pieces lengths (drop n bytes) (label-rest n lengths bytes e))
 
-pub length-labelsOf : (lengths bytes : List ℕ) → length (labelsOf lengths bytes) ≡ length lengths
-unfolding labelsOf
-length-labelsOf [] bytes = refl
-length-labelsOf (n ∷ lengths) bytes = ap suc (length-labelsOf lengths (drop n bytes))
+pub length-pieces : (lengths bytes : List ℕ) → length (pieces lengths bytes) ≡ length lengths
+unfolding pieces
+length-pieces [] bytes = refl
+length-pieces (n ∷ lengths) bytes = ap suc (length-pieces lengths (drop n bytes))
 
-pub each-label : (lengths bytes : List ℕ) → Bytes lengths → Bytes bytes → length bytes ≡ total lengths → Each Label (labelsOf lengths bytes)
-unfolding labelsOf
+pub each-label : (lengths bytes : List ℕ) → Bytes lengths → Bytes bytes → length bytes ≡ total lengths → Each Label (pieces lengths bytes)
+unfolding pieces
 each-label [] bytes hl hb e = each-nil Label
 each-label (n ∷ lengths) bytes hl hb e =
     let k : n < 256 = hl n (List·Memᴰ·head refl) in
     let l = label-front n lengths bytes e in
-    each-cons Label (take n bytes) (labelsOf lengths (drop n bytes))
+    each-cons Label (take n bytes) (pieces lengths (drop n bytes))
     (record { short = omega arith; bytes = bytes-take n bytes hb })
     (each-label lengths (drop n bytes) (bytes-tail hl) (bytes-drop n bytes hb) (label-rest n lengths bytes e))

@@ -5,7 +5,7 @@ use mathlib.Core.Bool.{cond}
 use mathlib.Core.List.{List}
 use lib.ListN.{length, drop}
 use lib.Dec.{leb}
-use Rattle.lists.specs.Lists.{part}
+use Rattle.lists.specs.Lists.{part, pieces, total}
 use Rattle.echo_file.specs.declared.Known.{Known}
 use Rattle.echo_file.specs.declared.Reading.{Reading}
 use Rattle.echo_file.specs.declared.Reading.the-variants.{Bad, Found}
@@ -15,7 +15,7 @@ use Rattle.echo_file.specs.declared.counted.Counted.the-variants.{Cut, P
 use Rattle.echo_file.specs.declared.skip.Skipped.{Skipped}
 use Rattle.echo_file.specs.declared.skip.Skipped.the-variants.{Past, To}
 use Rattle.echo_file.specs.Format.{Record, settings, vector, filtered, unfiltered}
-use Rattle.echo_file.specs.Decode.{Decoded, none, found, value, counted, labelsOf, total}
+use Rattle.echo_file.specs.Decode.{Decoded, none, found, value, counted}
 use Rattle.echo_file.specs.Reads.{between, patternsAt}
 
 -- the number in a count of bytes from a place on
@@ -46,7 +46,7 @@ shown known file Bad = none
 shown known file (Found (Settings dimension branching leaf-size ef beam next)) = found (settings dimension branching leaf-size ef beam) (drop next file)
 shown known file (Found (Vector document lengths-at labels-at floats-at next)) =
     found
-    (vector document (labelsOf (between lengths-at labels-at file) (between labels-at floats-at file)) (patternsAt known file floats-at))
+    (vector document (pieces (between lengths-at labels-at file) (between labels-at floats-at file)) (patternsAt known file floats-at))
     (drop next file)
 shown known file (Found (Filtered k label-at floats-at next)) =
     found (filtered k (between label-at floats-at file) (patternsAt known file floats-at)) (drop next file)

@@ -11,10 +11,11 @@ use Rattle.echo_file.specs.declared.Reading.{Reading}
 use Rattle.echo_file.specs.declared.Reading.the-variants.{Bad, Found}
 use Rattle.echo_file.specs.declared.Located.the-variants.{Settings, Vector, Filtered, Search}
 use Rattle.echo_file.specs.Format.{Record, Bytes}
-use Rattle.echo_file.specs.Decode.{none, found, labelsOf, total, decode}
+use Rattle.echo_file.specs.Decode.{none, found, decode}
+use Rattle.lists.specs.Lists.{pieces, total}
 use Rattle.echo_file.specs.Places.{Shows}
 use Rattle.echo_file.specs.Reads.{between, Stands, Reads}
-use Rattle.echo_file.specs.FieldLaws.{bytes-drop, lengths-labelsOf, labelBytes-labelsOf}
+use Rattle.echo_file.specs.FieldLaws.{bytes-drop, lengths-pieces, labelBytes-pieces}
 use Rattle.echo_file.specs.DecodeLaws.{sound, finds, none-exactly}
 
 -- a lent list of bytes holds bytes
@@ -36,16 +37,16 @@ reads known file at start (Found (Vector document lengths-at labels-at floats-at
     let size : length (between labels-at floats-at file) ≡ total (between lengths-at labels-at file) =
     length-part labels-at (floats-at - labels-at) file (omega (arith, p .2, p .3, p .4)) ∙ omega (arith, p .2) in
     record {
-      labels = labelsOf (between lengths-at labels-at file) (between labels-at floats-at file);
+      labels = pieces (between lengths-at labels-at file) (between labels-at floats-at file);
       stands = record {
         begins = sound known (drop at file) _ _ (bytes-drop at file h) (s .same);
         forward = omega (arith, p .0, p .1, p .2, p .3);
         inside = p .4;
       };
       lengths-order = p .1;
-      lengths = sym (lengths-labelsOf (between lengths-at labels-at file) (between labels-at floats-at file) size);
+      lengths = sym (lengths-pieces (between lengths-at labels-at file) (between labels-at floats-at file) size);
       labels-order = omega (arith, p .2);
-      bytes = sym (labelBytes-labelsOf (between lengths-at labels-at file) (between labels-at floats-at file) size);
+      bytes = sym (labelBytes-pieces (between lengths-at labels-at file) (between labels-at floats-at file) size);
       floats-end = p .3;
     }
 reads known file at start (Found (Filtered k label-at floats-at next)) h l s =

@@ -2,7 +2,7 @@
 ghost use mathlib.Core.Path.{_≡_};
 ghost use Prim.Native.Nat.{_+_, _≤_, _<_};
 ghost use lib.ListN.{length};
-ghost use Rattle.echo_file.specs.Decode.{total};
+ghost use Rattle.lists.specs.Lists.{total};
 ghost use Rattle.echo_file.specs.Places.{NumberAt};
 
 // A byte as a size.

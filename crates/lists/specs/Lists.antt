@@ -1,5 +1,5 @@
 -- Small functions on lists that the definitions of several crates are written with.
-use Prim.Native.Nat.{ℕ, zero, suc}
+use Prim.Native.Nat.{ℕ, zero, suc, _+_}
 use mathlib.Core.Bool.{Bool, true, false, cond}
 use mathlib.Core.List.{List, [], _∷_, _++_}
 use lib.ListN.{take, drop}
@@ -19,6 +19,16 @@ module _ {ℓ} {A : Type ℓ} where
   unfoldable pub joined : {B : Type ℓ} → (B → List A) → List B → List A
   joined f [] = []
   joined f (x ∷ xs) = f x ++ joined f xs
+
+  -- the pieces that lengths cut from a list, one after the other
+  unfoldable pub pieces : List ℕ → List A → List (List A)
+  pieces [] l = []
+  pieces (n ∷ lengths) l = take n l ∷ pieces lengths (drop n l)
+
+-- the sum of a list
+unfoldable pub total : List ℕ → ℕ
+total [] = 0
+total (x ∷ xs) = x + total xs
 
 -- count numbers from a first one on
 unfoldable pub countFrom : ℕ → ℕ → List ℕ

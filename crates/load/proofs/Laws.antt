@@ -19,8 +19,9 @@ use Rattle.curator.specs.declared.refusal.Refusal.{Refusal}
 use Rattle.curator.specs.declared.refusal.Refusal.the-variants.{Settings, Input}
 use Rattle.curator.specs.declared.refusal.SettingsRefusal.the-variants.{InvalidConfig}
 use Rattle.curator.specs.declared.refusal.InputRefusal.the-variants.{BadRecord, SettingsOrder, FileTooLong}
-use Rattle.curator.specs.Changes.{AddCall, Adds, Builds}
-use Rattle.curator.specs.Searches.{SearchCall, Asked, everything, labelled, Searches}
+use Rattle.curator.specs.Changes.{Adds, Builds}
+use Rattle.curator.specs.Arguments.{AddCall, SearchCall, Asked, everything, labelled}
+use Rattle.curator.specs.Searches.{Searches}
 use Rattle.echo_file.specs.Format as format
 use Rattle.echo_file.specs.Format.{Bytes, Begins}
 use Rattle.echo_file.specs.FieldLaws.{bytes-drop, length-numbers}

@@ -33,8 +33,9 @@ use Rattle.curator.specs.Outcome.{number, checkNumber, changedNumber}
 use Rattle.curator.specs.Limits.{indexShape}
 use Rattle.curator.specs.Rows.{firstOf, searchRows}
 use Rattle.curator.specs.RowLaws.{number-positive}
-use Rattle.curator.specs.Changes.{AddCall, Builds, BuildsBy, BuildsFine, buildCheck, heldNodes, created, freeOf, workPart}
-use Rattle.curator.specs.Searches.{SearchCall, Asked, everything, labelled, Searches}
+use Rattle.curator.specs.Changes.{Builds, BuildsBy, BuildsFine, buildCheck, heldNodes, created, freeOf, workPart}
+use Rattle.curator.specs.Arguments.{AddCall, SearchCall, Asked, everything, labelled}
+use Rattle.curator.specs.Searches.{Searches}
 use Rattle.runs.specs.Model as model
 use Rattle.runs.specs.Model.{Setting, Model, emptyModel, modelAddCheck, modelBuildCheck, modelSearchCheck, modelWalk, modelFacts, builtBy}
 use Rattle.runs.specs.Run.{build, search, changed, found, Lent, joinStores, nextIndex, AddStep, BuildStep, SearchStep}

@@ -8,7 +8,7 @@ use lib.ListN.{length, drop}
 use denote.Ref.{RefT, now}
 use Rattle.curator.specs.declared.CuratorIndex.{CuratorIndex}
 use Rattle.curator.specs.Lent as curator
-use Rattle.curator.specs.Searches.{Asked, everything, labelled}
+use Rattle.curator.specs.Arguments.{Asked, everything, labelled}
 use Rattle.echo_file.specs.declared.Located.{Located}
 use Rattle.echo_file.specs.declared.Located.the-variants.{Settings, Vector, Filtered, Search}
 use Rattle.echo_file.specs.declared.Reading.the-variants.{Found}

@@ -22,9 +22,9 @@ use Rattle.curator.specs.declared.refusal.SettingsRefusal.the-variants.{Invalid
 use Rattle.curator.specs.declared.refusal.InputRefusal.the-variants.{BadRecord, SettingsOrder, FileTooLong}
 use Rattle.curator.specs.declared.refusal.StoreRefusal.the-variants.{Damaged}
 use Rattle.curator.specs.Outcome.{number}
-use Rattle.curator.specs.Rows.{Lengths}
-use Rattle.curator.specs.Changes.{AddCall, created}
-use Rattle.curator.specs.Searches.{SearchCall, Asked, everything, labelled}
+use Rattle.store.specs.declared.Lengths.{Lengths}
+use Rattle.curator.specs.Changes.{created}
+use Rattle.curator.specs.Arguments.{AddCall, SearchCall, Asked, everything, labelled}
 use Rattle.runs.specs.Model.{Setting, Model, emptyModel, modelAddCheck, modelBuildCheck, modelSearchCheck, addedBy, builtBy, modelWalk}
 use Rattle.runs.specs.Run.{Fronts}
 use Rattle.echo_file.specs.declared.Known.{Known}

@@ -15,8 +15,9 @@ use Rattle.curator.specs.declared.Found.the-variants as Found′
 use Rattle.curator.specs.declared.refusal.Refusal.the-variants.{Settings, Input}
 use Rattle.curator.specs.declared.refusal.SettingsRefusal.the-variants.{InvalidConfig}
 use Rattle.curator.specs.declared.refusal.InputRefusal.the-variants.{BadRecord, SettingsOrder, FileTooLong}
-use Rattle.curator.specs.Changes.{AddCall, created, Adds, Builds}
-use Rattle.curator.specs.Searches.{SearchCall, SearchEnd, Asked, everything, labelled, Searches}
+use Rattle.curator.specs.Changes.{created, Adds, Builds}
+use Rattle.curator.specs.Arguments.{AddCall, SearchCall, Asked, everything, labelled}
+use Rattle.curator.specs.Searches.{SearchEnd, Searches}
 use Rattle.echo_file.specs.declared.Known.{Known}
 use Rattle.echo_file.specs.Format.{Record, settings, vector, filtered, unfiltered}
 use Rattle.echo_file.specs.Decode.{Decoded, none, found, decode}

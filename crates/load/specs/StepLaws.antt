@@ -25,10 +25,12 @@ use Rattle.curator.specs.declared.refusal.SettingsRefusal.the-variants.{Invalid
 use Rattle.curator.specs.declared.refusal.InputRefusal.the-variants.{BadRecord, SettingsOrder, FileTooLong}
 use Rattle.curator.specs.Rows.{stateRow, searchRows}
 use Rattle.curator.specs.RowLaws.{fine-none}
-use Rattle.curator.specs.Calls.{factsOf, lengthsOf}
+use Rattle.curator.specs.Calls.{factsOf}
+use Rattle.store.specs.Lent.{lengthsOf}
 use Rattle.curator.specs.Limits.{stateSound}
-use Rattle.curator.specs.Changes.{AddCall, Adds, AddsBy, addCheck, Builds, BuildsBy, BuildsFine, buildCheck, created}
-use Rattle.curator.specs.Searches.{everything, labelled, SearchCall, SearchEnd, Searches, SearchesBy, searchCheck, WalkedTo}
+use Rattle.curator.specs.Changes.{Adds, AddsBy, addCheck, Builds, BuildsBy, BuildsFine, buildCheck, created}
+use Rattle.curator.specs.Arguments.{AddCall, everything, labelled, SearchCall}
+use Rattle.curator.specs.Searches.{SearchEnd, Searches, SearchesBy, searchCheck, WalkedTo}
 use Rattle.runs.specs.State.{created-is}
 use Rattle.echo_file.specs.Format as format
 use Rattle.echo_file.specs.Decode.{Decoded, none, found, decode}
@@ -56,7 +58,7 @@ unfolding searchCheck searchRows
 room-of index store work call e =
     let none = fine-none
     (stateRow (stateSound index)
-    ∷ searchRows (factsOf index) (lengthsOf store work) (call .query) (call .k) (length (call .ids)) (length (call .distances))) e in
+    ∷ searchRows (factsOf index) (lengthsOf store) (length work) (askingOf call)) e in
     let both = or-none (ltb (length (call .ids)) (call .k)) (ltb (length (call .distances)) (call .k)) (none .1 .1 .1 .1 .1 .0) in
     (ltb-false (length (call .ids)) (call .k) (both .0), ltb-false (length (call .distances)) (call .k) (both .1))
 

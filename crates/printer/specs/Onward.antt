@@ -15,7 +15,7 @@ use Rattle.curator.specs.declared.refusal.Refusal.{Refusal}
 use Rattle.curator.specs.declared.refusal.Refusal.the-variants.{Settings}
 use Rattle.curator.specs.declared.refusal.SettingsRefusal.the-variants.{InvalidConfig}
 use Rattle.curator.specs.Changes.{created}
-use Rattle.curator.specs.Searches.{SearchCall}
+use Rattle.curator.specs.Arguments.{SearchCall}
 use Rattle.echo_file.specs.Format.{Record, settings, vector, filtered, unfiltered}
 use Rattle.echo_file.specs.Decode.{Decoded, none, found, decode}
 use Rattle.load.specs.declared.Loading.{Loading}

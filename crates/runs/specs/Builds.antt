@@ -19,7 +19,9 @@ use Rattle.curator.specs.declared.refusal.Refusal.the-variants as Refusal′
 use Rattle.curator.specs.declared.refusal.StoreRefusal.{StoreRefusal}
 use Rattle.curator.specs.declared.refusal.StoreRefusal.the-variants.{ListTooShort, VectorsFull, EntriesFull, NodesFull, Damaged}
 use Rattle.curator.specs.Outcome.{number, checkNumber, changedNumber}
-use Rattle.curator.specs.Rows.{Facts, Lengths, firstOf, buildRows, listsShort}
+use Rattle.curator.specs.Rows.{Facts, firstOf, buildRows}
+use Rattle.store.specs.declared.Lengths.{Lengths}
+use Rattle.store.specs.Lent.{listsShort}
 use Rattle.curator.specs.Calls.{builtWith}
 use Rattle.curator.specs.Changes.{Part, Freed, freeOf, freeStore, Left, Builds, BuildsBy, BuildsFine, LaidOut, heldNodes}
 use Rattle.runs.specs.Model.{Setting, Model, rowVectors, rowHashes, rowEntries, nodeCount, modelNodes, modelFacts, settingShape, modelBuildCheck, builtBy}

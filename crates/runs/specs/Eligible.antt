@@ -20,7 +20,7 @@ use Rattle.distance.specs.Normalized.{normalized}
 use Rattle.walk.specs.declared.Wanted.{Wanted}
 use Rattle.walk.specs.declared.Wanted.the-variants.{Everything, Label}
 use Rattle.walk.specs.WalkLaws.{Different, different-nil, different-cons}
-use Rattle.curator.specs.Searches.{SearchCall}
+use Rattle.curator.specs.Arguments.{SearchCall}
 use Rattle.runs.specs.Model.{Setting, Model, ModelRow, noRow, rowHashes, rowEntries, ownersFrom, rowHit}
 use Rattle.runs.specs.Theorem.{sameLabel, NoTwo, Distinct, hasLabel, carries, about, rowDistance}
 use Rattle.runs.specs.State.{Allowed, Within, limits}

@@ -11,7 +11,7 @@ use Rattle.distance.specs.Distance.{distance}
 use Rattle.label.specs.Fnv.{fnvFrom, fnvStep}
 use Rattle.store.specs.Store.{Store}
 use Rattle.curator.specs.Limits.{dimensionAllowed, paramsAllowed, capacitiesAllowed}
-use Rattle.curator.specs.Searches.{SearchCall, Asked, everything, labelled}
+use Rattle.curator.specs.Arguments.{SearchCall, Asked, everything, labelled}
 use Rattle.runs.specs.Model.{Setting, Model, emptyModel}
 use Rattle.runs.specs.Run.{Fronts, Call, add, build, search, Ended, Run}
 use Rattle.runs.specs.Theorem.{Expected, returns, answers, expected, after, modelFrom, Matches, InPairs, Premise, AllTyped, Better}

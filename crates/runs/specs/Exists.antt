@@ -25,8 +25,9 @@ use Rattle.curator.specs.declared.refusal.StoreRefusal.the-variants as StoreRef
 use Rattle.curator.specs.Limits.{indexShape}
 use Rattle.curator.specs.Rows.{firstOf, newRows}
 use Rattle.curator.specs.Calls.{hashesOfLabels, grown, builtWith, fresh}
-use Rattle.curator.specs.Changes.{AddCall, Part, Freed, workPart, freeOf, Adds, AddsBy, addCheck, Builds, BuildsBy, BuildsFine, buildCheck, heldNodes, created, newAnswer}
-use Rattle.curator.specs.Searches.{SearchCall, SearchEnd, wantedOf, Searches, SearchesBy, searchCheck, WalkedTo}
+use Rattle.curator.specs.Changes.{Part, Freed, workPart, freeOf, Adds, AddsBy, addCheck, Builds, BuildsBy, BuildsFine, buildCheck, heldNodes, created, newAnswer}
+use Rattle.curator.specs.Arguments.{AddCall, SearchCall}
+use Rattle.curator.specs.Searches.{SearchEnd, wantedOf, Searches, SearchesBy, searchCheck, WalkedTo}
 use Rattle.runs.specs.Model.{Setting}
 use Rattle.runs.specs.Run.{Fronts, Call, add, build, search, Ended, changed, found, joinStores, Lent, nextIndex, Step, RunFrom, done, next, Run}
 use Rattle.runs.specs.Agree.{SameLengths}

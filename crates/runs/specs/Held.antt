@@ -9,14 +9,15 @@ use lib.Ieee.{Float}
 use lib.ListN.{length, getD, drop, set, replicate, length-append, length-map, length-replicate, length-set}
 use lib.Seq.{sets, length-sets}
 use Rattle.lists.specs.Maps.{map-on}
-use Rattle.lists.specs.Lists.{part, countFrom, joined}
+use Rattle.lists.specs.Lists.{part, countFrom, joined, pieces}
 use Rattle.lists.specs.Counting.{countFrom-snoc, Memᴰ-countFrom, joined-snoc, getD-Memᴰ}
 use Rattle.lists.specs.Parts.{part-sets-same, part-sets-before, part-set-before, part-append-parts}
 use Rattle.distance.specs.Normalized.{normalized, normalized-is, length-normalized}
 use Rattle.lists.specs.Tests.{either}
 use Rattle.store.specs.Store.{Store, vectorAt, centroidsAt, orderAt, filtersAt}
-use Rattle.curator.specs.Calls.{labelsOf, hashesOfLabels, heldVectors, heldEntries}
-use Rattle.curator.specs.Changes.{AddCall, Wrote}
+use Rattle.curator.specs.Calls.{hashesOfLabels, heldVectors, heldEntries}
+use Rattle.curator.specs.Changes.{Wrote}
+use Rattle.curator.specs.Arguments.{AddCall}
 use Rattle.runs.specs.Model.{Setting, Model, ModelRow, emptyModel, rowVectors, rowHashes, ownersFrom, rowEntries, newRow, settingShape}
 use Rattle.runs.specs.Agree.{Agree, SameLengths, part-same}
 use Rattle.runs.specs.State.{stateOf, Within}

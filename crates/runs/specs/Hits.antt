@@ -21,7 +21,8 @@ use Rattle.walk.specs.Answer.{documentOf, distanceOf, ranked}
 use Rattle.walk.specs.WalkLaws.{Different}
 use Rattle.walk.specs.SoundWalk.{sound-part, sound-whole}
 use Rattle.walk.specs.AnswerLaws.{ranked-all}
-use Rattle.curator.specs.Searches.{SearchCall, wantedOf}
+use Rattle.curator.specs.Searches.{wantedOf}
+use Rattle.curator.specs.Arguments.{SearchCall}
 use Rattle.runs.specs.Model.{Setting, Model, ModelRow, noRow, rowHit, treeView}
 use Rattle.runs.specs.Theorem.{Distinct, about, carries, rowDistance}
 use Rattle.runs.specs.State.{Allowed, Within}

@@ -14,7 +14,8 @@ use Rattle.curator.specs.declared.Check.{Check}
 use Rattle.curator.specs.declared.Check.the-variants as Check′
 use Rattle.curator.specs.Outcome.{number, checkNumber, changedNumber}
 use Rattle.curator.specs.Calls.{fresh, grown}
-use Rattle.curator.specs.Changes.{AddCall, Adds, AddsBy}
+use Rattle.curator.specs.Changes.{Adds, AddsBy}
+use Rattle.curator.specs.Arguments.{AddCall}
 use Rattle.runs.specs.Model.{Setting, Model, emptyModel, rowHashes, settingShape, modelAddCheck, addedBy, newRow}
 use Rattle.runs.specs.Run.{Fronts, add, Ended, joinStores, Lent, nextIndex, AddStep}
 use Rattle.runs.specs.Theorem.{lentBy, returns, Matches}

@@ -26,7 +26,8 @@ use Rattle.walk.specs.Answer.{answer, documentOf, distanceOf, ranked}
 use Rattle.walk.specs.AnswerLaws.{never-worse, never-later}
 use Rattle.curator.specs.declared.Found.the-variants.{Hits}
 use Rattle.curator.specs.Outcome.{checkNumber}
-use Rattle.curator.specs.Searches.{SearchCall, SearchEnd}
+use Rattle.curator.specs.Searches.{SearchEnd}
+use Rattle.curator.specs.Arguments.{SearchCall}
 use Rattle.runs.specs.Model.{Setting, Model, nodeCount, modelNodes, modelFacts, treeView}
 use Rattle.runs.specs.Run.{Fronts, Call, add, build, search, Ended, changed, found}
 use Rattle.runs.specs.Theorem.{lentBy, modelCheck, expected, after, endNumber, Holds, Matches, AtEach, InPairs, Distinct, NotWorse, Better, withBudget, rowDistance}

@@ -23,10 +23,11 @@ use Rattle.curator.specs.declared.Capacities.{Capacities}
 use Rattle.curator.specs.declared.Check.{Check}
 use Rattle.curator.specs.declared.Check.the-variants.{Fine, Refused}
 use Rattle.curator.specs.Limits.{shapeOf}
-use Rattle.curator.specs.Rows.{Facts, Lengths, firstOf, addRows, buildRows, searchRows}
+use Rattle.curator.specs.Rows.{Facts, firstOf, addRows, buildRows, searchRows}
+use Rattle.store.specs.declared.Lengths.{Lengths}
 use Rattle.curator.specs.Calls.{hashesOfLabels, splittingOf}
-use Rattle.curator.specs.Changes.{AddCall}
-use Rattle.curator.specs.Searches.{SearchCall, wantedOf}
+use Rattle.curator.specs.Arguments.{AddCall, SearchCall}
+use Rattle.curator.specs.Searches.{wantedOf}
 
 -- the settings and capacities of an accepted `new`
 pub record Setting : Type 0 where

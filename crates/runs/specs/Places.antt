@@ -10,7 +10,7 @@ use lib.ListN.{length, getD, take}
 use Rattle.lists.specs.Tests.{either}
 use Rattle.curator.specs.declared.Check.{Check}
 use Rattle.curator.specs.declared.Check.the-variants as Check′
-use Rattle.curator.specs.Changes.{AddCall}
+use Rattle.curator.specs.Arguments.{AddCall}
 use Rattle.runs.specs.Model.{Setting, Model, ModelRow, emptyModel, modelAddCheck, modelBuildCheck, addedBy, builtBy}
 use Rattle.runs.specs.Run.{Call, add, build, search, Ended}
 use Rattle.runs.specs.Theorem.{lentBy, after, modelFrom, AtEach, sameLabel, NoTwo, Distinct, Premise}

@@ -20,10 +20,11 @@ use Rattle.curator.specs.declared.Found.the-variants.{Hits}
 use Rattle.curator.specs.declared.refusal.Refusal.{Refusal}
 use Rattle.curator.specs.declared.refusal.Refusal.the-variants as Refusal′
 use Rattle.curator.specs.Outcome.{number, checkNumber, foundNumber}
-use Rattle.curator.specs.Rows.{Row, Lengths, firstOf, addRows, buildRows, searchRows}
+use Rattle.curator.specs.Rows.{Row, firstOf, addRows, buildRows, searchRows}
+use Rattle.store.specs.declared.Lengths.{Lengths}
 use Rattle.curator.specs.RowLaws.{number-positive}
-use Rattle.curator.specs.Changes.{AddCall}
-use Rattle.curator.specs.Searches.{SearchCall, SearchEnd}
+use Rattle.curator.specs.Arguments.{AddCall, SearchCall}
+use Rattle.curator.specs.Searches.{SearchEnd}
 use Rattle.runs.specs.Model.{Setting, Model, ModelRow, emptyModel, modelFacts, modelAddCheck, modelBuildCheck, modelSearchCheck, modelWalk, addedBy, builtBy, nodeCount}
 use Rattle.runs.specs.Run.{Fronts, Call, add, build, search, Ended, changed, found, Step, RunFrom, done, next, Run}
 use Rattle.runs.specs.Theorem.{lentBy, answered, modelCheck, searchedBy, expected, after, modelFrom, endNumber, Holds, Matches, AtEach, Typed, AllTyped, NeverDamaged}

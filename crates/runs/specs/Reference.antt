@@ -14,7 +14,8 @@ use Rattle.distance.specs.DistanceLaws.{distance-fits}
 use Rattle.distance.specs.TotalOrder.{totalOrder}
 use Rattle.distance.specs.OrderLaws.{totalOrder-refl, totalOrder-antisym, totalOrder-trans, totalOrder-total}
 use Rattle.distance.specs.Normalized.{normalized}
-use Rattle.curator.specs.Searches.{SearchCall, wantedOf}
+use Rattle.curator.specs.Searches.{wantedOf}
+use Rattle.curator.specs.Arguments.{SearchCall}
 use Rattle.runs.specs.Model.{Model, ModelRow}
 use Rattle.runs.specs.Theorem.{about, rowDistance, NoLaterRow, InOrder, Reference}
 

@@ -16,10 +16,13 @@ use Rattle.tree.specs.Tree.{treeOf, size}
 use Rattle.lists.specs.Tests.{allPass}
 use Rattle.curator.specs.declared.Check.the-variants as Check′
 use Rattle.curator.specs.Limits.{stateSound}
-use Rattle.curator.specs.Rows.{Facts, Lengths, Row, firstOf, stateRow, addRows, buildRows, searchRows, storeShort, listsShort}
-use Rattle.curator.specs.Calls.{factsOf, lengthsOf, heldEntries, splittingOf}
-use Rattle.curator.specs.Changes.{AddCall, addCheck, buildCheck, ownersDamaged, tooManyNodes}
-use Rattle.curator.specs.Searches.{SearchCall, searchCheck}
+use Rattle.curator.specs.Rows.{Facts, Row, firstOf, stateRow, addRows, buildRows, searchRows}
+use Rattle.store.specs.declared.Lengths.{Lengths}
+use Rattle.store.specs.Lent.{storeShort, listsShort, lengthsOf}
+use Rattle.curator.specs.Calls.{factsOf, heldEntries, splittingOf}
+use Rattle.curator.specs.Changes.{addCheck, buildCheck, ownersDamaged, tooManyNodes}
+use Rattle.curator.specs.Arguments.{AddCall, SearchCall}
+use Rattle.curator.specs.Searches.{searchCheck}
 use Rattle.runs.specs.Model.{Setting, Model, rowHashes, rowEntries, modelFacts, settingShape, nodeCount, modelAddCheck, modelBuildCheck, modelSearchCheck}
 use Rattle.runs.specs.Run.{Fronts, Lent}
 use Rattle.runs.specs.Theorem.{lentBy}

@@ -7,8 +7,9 @@ use Rattle.store.specs.Store.{Store}
 use Rattle.curator.specs.declared.CuratorIndex.{CuratorIndex}
 use Rattle.curator.specs.declared.Changed.{Changed}
 use Rattle.curator.specs.declared.Changed.the-variants.{Index, Refused}
-use Rattle.curator.specs.Changes.{AddCall, created, Adds, Builds}
-use Rattle.curator.specs.Searches.{SearchCall, SearchEnd, Searches}
+use Rattle.curator.specs.Changes.{created, Adds, Builds}
+use Rattle.curator.specs.Arguments.{AddCall, SearchCall}
+use Rattle.curator.specs.Searches.{SearchEnd, Searches}
 use Rattle.runs.specs.Model.{Setting}
 
 -- 'A call may be lent only the front of a list': how much of each of the three lists is lent

@@ -18,7 +18,8 @@ use Rattle.curator.specs.declared.CuratorIndex.{CuratorIndex}
 use Rattle.curator.specs.declared.Check.{Check}
 use Rattle.curator.specs.declared.Check.the-variants as Check′
 use Rattle.curator.specs.Outcome.{foundNumber}
-use Rattle.curator.specs.Searches.{SearchCall, wantedOf, Searches, SearchesBy, WalkedTo}
+use Rattle.curator.specs.Searches.{wantedOf, Searches, SearchesBy, WalkedTo}
+use Rattle.curator.specs.Arguments.{SearchCall}
 use Rattle.runs.specs.Model.{Setting, Model, rowHashes, nodeCount, settingShape, modelSearchCheck, modelWalk, treeView}
 use Rattle.runs.specs.Run.{Fronts, search, Ended, found, joinStores, SearchStep}
 use Rattle.runs.specs.Theorem.{lentBy, answered, searchedBy, Matches}

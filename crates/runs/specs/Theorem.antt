@@ -20,8 +20,9 @@ use Rattle.curator.specs.declared.Check.{Check}
 use Rattle.curator.specs.declared.Check.the-variants as Check′
 use Rattle.curator.specs.declared.Found.the-variants.{Hits}
 use Rattle.curator.specs.Outcome.{number, checkNumber, changedNumber, foundNumber}
-use Rattle.curator.specs.Rows.{Lengths}
-use Rattle.curator.specs.Searches.{SearchCall, SearchEnd, wantedOf}
+use Rattle.store.specs.declared.Lengths.{Lengths}
+use Rattle.curator.specs.Searches.{SearchEnd, wantedOf}
+use Rattle.curator.specs.Arguments.{SearchCall}
 use Rattle.runs.specs.Model.{Setting, Model, ModelRow, emptyModel, modelAddCheck, modelBuildCheck, modelSearchCheck, addedBy, builtBy, modelWalk, nodeCount}
 use Rattle.runs.specs.Run.{Fronts, Call, add, build, search, Ended, changed, found, Run}
 

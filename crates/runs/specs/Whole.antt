@@ -20,7 +20,8 @@ use Rattle.distance.specs.Normalized.{normalized}
 use Rattle.walk.specs.Walk.{Progress, going, walk, whole}
 use Rattle.walk.specs.Answer.{documentOf, distanceOf, ranked}
 use Rattle.walk.specs.SoundWalk.{sound-enough}
-use Rattle.curator.specs.Searches.{SearchCall, SearchEnd, wantedOf}
+use Rattle.curator.specs.Searches.{SearchEnd, wantedOf}
+use Rattle.curator.specs.Arguments.{SearchCall}
 use Rattle.runs.specs.Model.{Setting, Model, ModelRow}
 use Rattle.runs.specs.Run.{Call, add, build, search, Ended, changed, found}
 use Rattle.runs.specs.Theorem.{lentBy, expected, Matches, Distinct, rowDistance, NoLaterRow, InOrder, Reference, FirstOf, WholeIsFirst, Marked}

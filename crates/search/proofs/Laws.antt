@@ -25,12 +25,15 @@ use Rattle.curator.specs.declared.Check.{Check}
 use Rattle.curator.specs.declared.Check.the-variants.{Fine}
 use Rattle.curator.specs.declared.CuratorIndex.{CuratorIndex}
 use Rattle.curator.specs.declared.Found.the-variants as found
-use Rattle.curator.specs.Calls.{factsOf, lengthsOf}
+use Rattle.curator.specs.Calls.{factsOf}
+use Rattle.store.specs.Lent.{lengthsOf, storeShort, listsShort}
 use Rattle.curator.specs.Changes.{Freed, workPart}
 use Rattle.curator.specs.Limits.{stateSound, indexShape, builtAllowed}
 use Rattle.curator.specs.RowLaws.{NoneHolds, fine-none}
-use Rattle.curator.specs.Rows.{Row, Lengths, stateRow, storeShort, listsShort, searchRows}
-use Rattle.curator.specs.Searches.{wantedOf, SearchCall, SearchEnd, searchCheck, WalkedTo, Walked, SearchesBy, Searches}
+use Rattle.curator.specs.Rows.{Row, stateRow, searchRows}
+use Rattle.store.specs.declared.Lengths.{Lengths}
+use Rattle.curator.specs.Searches.{wantedOf, SearchEnd, searchCheck, WalkedTo, Walked, SearchesBy, Searches}
+use Rattle.curator.specs.Arguments.{SearchCall}
 use Rattle.curator.specs.StateLaws.{Sound, sound-facts}
 use Rattle.lists.specs.Tests.{and-both}
 use Rattle.curator.specs.Lent.{lengths}
@@ -75,15 +78,15 @@ has-node false c e h = let z : _≡_ {A = ℕ} 0 1 = cc in absurd (omega arith)
 abbrev rowsOfSearch : CuratorIndex → Store → List ℕ → SearchCall → List Row
 rowsOfSearch index store work call =
     stateRow (stateSound index)
-    ∷ searchRows (factsOf index) (lengthsOf store work) (call .query) (call .k) (length (call .ids)) (length (call .distances))
+    ∷ searchRows (factsOf index) (lengthsOf store) (length work) (askingOf call)
 
 ready-of : (index : CuratorIndex) (store : Store) (work : List ℕ) (call : SearchCall) → NoneHolds (rowsOfSearch index store work call)
-    → Ready index store work (call .query) (call .k) (call .ids) (call .distances)
+    → Ready index store work (call .question .query) (call .k) (call .ids) (call .distances)
 unfolding searchRows
 ready-of index store work call (sound, (short, (built, (dimension, (finite, (answers, _)))))) =
     let s = sound-facts index (not-false _ sound) in
-    let (st, w) = lists-long (indexShape index) (lengthsOf store work) short in
-    let (f, n, h) = store-long (indexShape index) (lengthsOf store work) st in
+    let (st, w) = lists-long (indexShape index) (lengthsOf store) (length work) short in
+    let (f, n, h) = store-long (indexShape index) (lengthsOf store) (length work) st in
     let (i, d) = neither (ltb (length (call .ids)) (call .k)) (ltb (length (call .distances)) (call .k)) answers in
     record {
       limits = s .limits;
@@ -101,7 +104,7 @@ ready-of index store work call (sound, (short, (built, (dimension, (finite, (ans
     }
 
 pub ready : (index : CuratorIndex) (store : Store) (work : List ℕ) (call : SearchCall) → searchCheck index store work call ≡ Fine
-    → Ready index store work (call .query) (call .k) (call .ids) (call .distances)
+    → Ready index store work (call .question .query) (call .k) (call .ids) (call .distances)
 unfolding searchCheck
 ready index store work call fine = ready-of index store work call (fine-none (rowsOfSearch index store work call) fine)
 
@@ -162,8 +165,8 @@ lent-all index store work query k ids distances r s e =
 
 -- the walk from the normalised query, whatever names its arguments have
 pub walked-of : (index : CuratorIndex) (store : Store) (work : List ℕ) (call : SearchCall) (end : SearchEnd) (s : Shape) (squares : Float)
-    (query stored : List Float) (wanted : Wanted) (searched : Searched) → s ≡ indexShape index → query ≡ stored → wantedOf (call .asked) ≡ wanted
-    → squares ≡ dot (call .query) (call .query) → Normalized squares (call .query) stored → workSize (indexShape index) ≤ length work
+    (query stored : List Float) (wanted : Wanted) (searched : Searched) → s ≡ indexShape index → query ≡ stored → wantedOf (call .question .asked) ≡ wanted
+    → squares ≡ dot (call .question .query) (call .question .query) → Normalized squares (call .question .query) stored → workSize (indexShape index) ≤ length work
     → end .answer ≡ foundOf searched
     → WalkSearches s (index .counts) (index .params .«ef_search») (store .floats) (store .numbers) (store .hashes) query wanted (call .k) work
     (call .ids)
@@ -176,14 +179,14 @@ pub walked-of : (index : CuratorIndex) (store : Store) (work : List ℕ) (call :
 walked-of index store work call end s squares query stored wanted searched es eq ew ed normal room answers h =
     let viewed : Shape → List Float → Wanted → State =
     λ s q w. walk (storeView s (index .counts) store q w) (index .params .«ef_search») in
-    let same : viewed s query wanted ≡ viewed (indexShape index) stored (wantedOf (call .asked)) =
+    let same : viewed s query wanted ≡ viewed (indexShape index) stored (wantedOf (call .question .asked)) =
     ap (λ (s : Shape). viewed s query wanted) es ∙ ap (λ (q : List Float). viewed (indexShape index) q wanted) eq
     ∙ ap (λ (w : Wanted). viewed (indexShape index) stored w) (sym ew) in
     record {
       query = stored;
-      normalized = subst (λ (f : Float). Normalized f (call .query) stored) ed normal;
+      normalized = subst (λ (f : Float). Normalized f (call .question .query) stored) ed normal;
       walked =
-          walked-to (viewed (indexShape index) stored (wantedOf (call .asked))) index work call searched end answers
+          walked-to (viewed (indexShape index) stored (wantedOf (call .question .asked))) index work call searched end answers
           (freed (indexShape index) work (end .work) room (subst (λ (s : Shape). Works s work (end .work)) es (h .works)))
           (subst (λ (t : State). SearchEnds t (call .k) searched (call .ids) (end .ids) (call .distances) (end .distances)) same (h .ends));
     }

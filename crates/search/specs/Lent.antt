@@ -16,9 +16,11 @@ use Rattle.curator.specs.declared.Found.the-variants as answers
 use Rattle.curator.specs.declared.refusal.Refusal.the-variants as refusal
 use Rattle.curator.specs.declared.refusal.StoreRefusal.the-variants as store-refusal
 use Rattle.curator.specs.Limits.{stateSound, indexShape}
-use Rattle.curator.specs.Rows.{Lengths, firstOf, stateRow, searchRows}
+use Rattle.curator.specs.Rows.{firstOf, stateRow, searchRows}
+use Rattle.store.specs.declared.Lengths.{Lengths}
 use Rattle.curator.specs.Calls.{factsOf}
-use Rattle.curator.specs.Searches.{Asked, everything, labelled, wantedOf, SearchCall, SearchEnd, Walked, Searches}
+use Rattle.curator.specs.Searches.{wantedOf, SearchEnd, Walked, Searches}
+use Rattle.curator.specs.Arguments.{Asked, everything, labelled, SearchCall}
 
 -- what the rows of a search come to, by the lengths of the lists
 abbrev pub searchChecked : CuratorIndex → Lengths → RefT (List Float) → ℕ → ℕ → ℕ → Check

@@ -1,6 +1,7 @@
 // Both searches of an index: the refusals, the query normalised, and the walk (document 01, 'Search').
 ghost use mathlib.Core.Path.{_≡_};
-ghost use Rattle.curator.specs.Lent.{lent, lengths};
+ghost use Rattle.curator.specs.Lent.{lengths};
+ghost use Rattle.store.specs.Lent.{lent};
 ghost use Rattle.curator.specs.Searches.{Searches};
 ghost use Rattle.search.specs.Lent.{searchChecked, Ready, foundOf, looking, leaving, filtered, unfiltered, SearchesFor, WalkedFor};
 use curator::Check;

@@ -2,8 +2,7 @@
 use mathlib.Core.Path.{_≡_, sym, _∙_}
 use Rattle.store.specs.Store.{Store}
 use Rattle.curator.specs.declared.Check.the-variants.{Fine}
-use Rattle.curator.specs.Calls.{lengthsOf}
-use Rattle.curator.specs.Lent.{lent}
+use Rattle.store.specs.Lent.{lengthsOf, lent}
 use Rattle.build.specs.Asked.{buildChecked}
 use Rattle.build.specs.CheckLaws.{check-built, ready}
 use Rattle.build.specs.MakeLaws.{builds-built, builds-refused}
@@ -20,7 +19,7 @@ abbrev storeOf : tie.Start → Store
 storeOf s = lent (s .args .floats) (s .args .numbers) (s .args .hashes)
 
 fine : (c : tie.After-enum-told)
-    → buildChecked (entry c .args .index) (lengthsOf (storeOf (entry c)) (now (entry c .args .work))) (now (entry c .args .numbers)) ≡ Fine
+    → buildChecked (entry c .args .index) (lengthsOf (storeOf (entry c))) (length (now (entry c .args .work))) (now (entry c .args .numbers)) ≡ Fine
 fine c = sym (c .before .before .build-check .ensures) ∙ c .enum-told .given .1
 
 build-check-requires : tie.Need-build-check-requires

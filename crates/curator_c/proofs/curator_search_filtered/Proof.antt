@@ -2,7 +2,7 @@
 use mathlib.Core.Path.{refl, sym, _∙_}
 use native.Mathlib.Omega.{arith}
 use denote.Ref.{now}
-use Rattle.curator.specs.Searches.{SearchCall}
+use Rattle.curator.specs.Arguments.{SearchCall}
 use Rattle.search.specs.Lent.{filtered}
 use Rattle.curator_c.specs.ResultLaws.{values-fit}
 use Rattle.curator_c.proofs.Laws.{search-nothing, search-held, asked}

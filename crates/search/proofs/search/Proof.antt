@@ -1,6 +1,7 @@
 -- Everything is what `search` asks for.
 use mathlib.Core.Path.{refl}
-use Rattle.curator.specs.Searches.{everything, wantedOf}
+use Rattle.curator.specs.Searches.{wantedOf}
+use Rattle.curator.specs.Arguments.{everything}
 use borrow.Author.Needs.{needs}
 use Rattle.search.proofs.search.Statement.{statement}
 use Rattle.search.proofs.search.Tie as tie

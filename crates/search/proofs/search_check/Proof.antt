@@ -10,7 +10,9 @@ use Rattle.store.specs.Store.{Limits}
 use Rattle.curator.specs.Calls.{factsOf}
 use Rattle.curator.specs.Limits.{stateSound, indexShape}
 use Rattle.curator.specs.RowLaws.{no-rows, row-stops, row-passes}
-use Rattle.curator.specs.Rows.{Row, Lengths, firstOf, stateRow, listsShort, searchRows}
+use Rattle.curator.specs.Rows.{Row, firstOf, stateRow, searchRows}
+use Rattle.store.specs.declared.Lengths.{Lengths}
+use Rattle.store.specs.Lent.{listsShort}
 use Rattle.curator.specs.StateLaws.{Sound, sound-facts}
 use Rattle.curator.specs.Lent.{lengths}
 use borrow.Author.Needs.{needs}

@@ -2,7 +2,8 @@
 use mathlib.Core.Path.{sym, ap}
 use denote.Ref.{now}
 use Rattle.walk.specs.declared.Wanted.the-variants.{Label}
-use Rattle.curator.specs.Searches.{labelled, wantedOf}
+use Rattle.curator.specs.Searches.{wantedOf}
+use Rattle.curator.specs.Arguments.{labelled}
 use borrow.Author.Needs.{needs}
 use Rattle.search.proofs.search_filtered.Statement.{statement}
 use Rattle.search.proofs.search_filtered.Tie as tie

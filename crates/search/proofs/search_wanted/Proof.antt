@@ -1,8 +1,9 @@
 -- By the case of the check: its first refusal, or the walk; that no row's case holds gives what the walk relies on.
 use mathlib.Core.Path.{_≡_, refl, sym, _∙_}
 use Rattle.curator.specs.declared.Check.the-variants.{Fine}
-use Rattle.curator.specs.Lent.{lent}
-use Rattle.curator.specs.Searches.{Asked, everything, SearchCall, SearchesBy, searchCheck}
+use Rattle.store.specs.Lent.{lent}
+use Rattle.curator.specs.Searches.{SearchesBy, searchCheck}
+use Rattle.curator.specs.Arguments.{Asked, everything, SearchCall}
 use Rattle.search.specs.Lent.{looking}
 use Rattle.search.proofs.Laws.{ready, searches-by}
 use denote.Ref.{now}

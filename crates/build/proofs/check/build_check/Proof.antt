@@ -15,7 +15,9 @@ use Rattle.store.specs.Store.{Limits, ownersAt}
 use Rattle.lists.specs.Tests.{allPass}
 use Rattle.curator.specs.Limits.{indexShape}
 use Rattle.curator.specs.RowLaws.{no-rows, row-stops, row-passes}
-use Rattle.curator.specs.Rows.{Row, Lengths, firstOf, listsShort}
+use Rattle.curator.specs.Rows.{Row, firstOf}
+use Rattle.store.specs.declared.Lengths.{Lengths}
+use Rattle.store.specs.Lent.{listsShort}
 use Rattle.curator.specs.StateLaws.{Sound, sound-facts}
 use Rattle.curator.specs.Lent.{lengths}
 use Rattle.build.specs.Asked.{ownersBad}

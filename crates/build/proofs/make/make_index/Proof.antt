@@ -1,6 +1,6 @@
 -- By what the making of the tree answered: too many nodes is row 13; otherwise the finishing passes lay the tree out in full.
 use Rattle.store.specs.Store.{Store}
-use Rattle.curator.specs.Lent.{lent}
+use Rattle.store.specs.Lent.{lent}
 use Rattle.build.specs.MakeLaws.{tree-asked, tree-whole, tree-full, finish-room, finish-made, finish-builds}
 use borrow.Author.Needs.{needs}
 use denote.Ref.{now}

@@ -5,8 +5,10 @@ use Rattle.store.specs.Store.{Store}
 use Rattle.curator.specs.declared.Changed.the-variants.{Index}
 use Rattle.curator.specs.declared.Check.the-variants.{Fine}
 use Rattle.curator.specs.AddLaws.{Accepted, add-facts, adds-by}
-use Rattle.curator.specs.Changes.{AddCall, AddsBy, addCheck}
-use Rattle.curator.specs.Lent.{lent, adding}
+use Rattle.curator.specs.Changes.{AddsBy, addCheck}
+use Rattle.curator.specs.Arguments.{AddCall}
+use Rattle.curator.specs.Lent.{adding}
+use Rattle.store.specs.Lent.{lent}
 use borrow.Author.Needs.{needs}
 use Rattle.curator.proofs.CuratorIndex.add.Statement.{statement}
 use Rattle.curator.proofs.CuratorIndex.add.Tie as tie

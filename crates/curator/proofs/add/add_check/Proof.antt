@@ -10,10 +10,12 @@ use lib.ListN.{drop}
 use Rattle.store.specs.declared.Shape.{Shape}
 use Rattle.store.specs.Store.{Limits}
 use Rattle.curator.specs.Calls.{factsOf}
-use Rattle.curator.specs.Lent.{storeLengths}
+use Rattle.curator.specs.Lent.{adding}
 use Rattle.curator.specs.Limits.{stateSound, indexShape}
 use Rattle.curator.specs.RowLaws.{no-rows, row-stops, row-passes}
-use Rattle.curator.specs.Rows.{Row, Lengths, firstOf, stateRow, storeShort, addRows}
+use Rattle.curator.specs.Rows.{Row, firstOf, stateRow, addRows}
+use Rattle.store.specs.declared.Lengths.{Lengths}
+use Rattle.store.specs.Lent.{storeShort}
 use Rattle.curator.specs.StateLaws.{Sound, sound-facts}
 use Rattle.curator.proofs.add.add_check.Statement.{statement}
 use Rattle.curator.proofs.add.add_check.Tie as tie
@@ -44,12 +46,12 @@ abbrev start-8 : tie.Else8 → tie.Start
 start-8 c = start-7 (c .before .before .before)
 
 abbrev lens : tie.Start → Lengths
-lens s = storeLengths (s .args .floats) (s .args .numbers) (s .args .hashes)
+lens s = s .args .lent
 
 abbrev rows : tie.Start → List Row
 rows s =
     stateRow (stateSound (s .args .index))
-    ∷ addRows (factsOf (s .args .index)) (lens s) (now (s .args .vector)) (now (s .args .lengths)) (now (s .args .bytes))
+    ∷ addRows (factsOf (s .args .index)) (lens s) (adding 0 (s .args .vector) (s .args .lengths) (s .args .bytes))
 
 sound : (c : tie.Else1) → Sound (start-1 c .args .index)
 sound c = sound-facts _ (sym (c .before .state-sound .ensures) ∙ not-false _ (c .if1 .left))

@@ -5,7 +5,7 @@ use native.Mathlib.Numerals.{add-one}
 use native.Mathlib.Omega.{arith}
 use borrow.Author.Tests.{ne-eqb}
 use lib.ListN.{length, getD, drop, drop-of-length-le}
-use Rattle.curator.specs.Rows.{total}
+use Rattle.lists.specs.Lists.{total}
 use Rattle.curator.specs.LabelLaws.{total-drop}
 use Rattle.curator.proofs.Steps.{same-eqb}
 use borrow.Author.Needs.{needs}

@@ -1,4 +1,4 @@
--- Each list is written by one call; the facts of `Room` say that it fits. The owners stand after the document ids.
+-- Each list is written by one call; the facts of `AddRoom` say that it fits. The owners stand after the document ids.
 use Prim.Native.Nat.{ℕ, _+_}
 use mathlib.Core.Path.{_≡_, sym, ap, _∙_, subst}
 use mathlib.Core.List.{List}

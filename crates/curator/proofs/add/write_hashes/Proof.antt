@@ -6,7 +6,7 @@ use native.Mathlib.Omega.{arith}
 use lib.ListN.{length, getD, drop, length-set}
 use lib.Seq.{sets}
 use Rattle.curator.specs.Calls.{hashesOfLabels}
-use Rattle.curator.specs.Rows.{total}
+use Rattle.lists.specs.Lists.{total}
 use Rattle.curator.specs.LabelLaws.{total-drop}
 use Rattle.curator.proofs.Steps.{hash-step, hash-end}
 use borrow.Author.Needs.{needs}

@@ -7,7 +7,7 @@ use native.Mathlib.Numerals.{add-one}
 use native.Mathlib.Omega.{arith}
 use borrow.Author.Needs.{needs}
 use lib.ListN.{length, getD, drop, drop-of-length-le}
-use Rattle.echo_file.specs.Decode.{total}
+use Rattle.lists.specs.Lists.{total}
 use Rattle.echo_file.proofs.Steps.{total-drop}
 use Rattle.echo_file.proofs.number.total.Statement.{statement}
 use Rattle.echo_file.proofs.number.total.Tie as tie

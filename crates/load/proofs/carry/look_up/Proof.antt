@@ -1,7 +1,7 @@
 -- A refused build ends the record; after another, the search is the one that was asked for.
 use mathlib.Core.Bool.{Bool}
 use mathlib.Core.Path.{refl, ap}
-use Rattle.curator.specs.Searches.{everything, labelled}
+use Rattle.curator.specs.Arguments.{everything, labelled}
 use Rattle.load.specs.Code.{asking}
 use Rattle.load.proofs.Laws.{build-refused, build-searched}
 use borrow.Author.Needs.{needs}

@@ -1,0 +1,39 @@
+-- What the calls bring beside the store and the work list.
+use Prim.Native.Nat.{ℕ}
+use mathlib.Core.List.{List}
+use lib.Ieee.{Float}
+use lib.ListN.{length}
+
+-- what an add brings: document id, vector, label lengths and label bytes
+pub record AddCall : Type 0 where
+  pub document : ℕ
+  pub vector : List Float
+  pub lengths : List ℕ
+  pub bytes : List ℕ
+
+-- what a search asks for: every vector, or those with a label, which is any bytes
+pub data Asked : Type 0 where
+  everything : Asked
+  labelled : List ℕ → Asked
+
+-- a question: the query, and what is asked for
+pub record Question : Type 0 where
+  pub query : List Float
+  pub asked : Asked
+
+-- what a search brings: a question, k, and the two answer lists
+pub record SearchCall : Type 0 where
+  pub question : Question
+  pub k : ℕ
+  pub ids : List ℕ
+  pub distances : List Float
+
+-- what the rows of a search look at: the query, k, and the lengths of the answer lists
+pub record Asking : Type 0 where
+  pub query : List Float
+  pub k : ℕ
+  pub ids : ℕ
+  pub distances : ℕ
+
+abbrev pub askingOf : SearchCall → Asking
+askingOf call = record { query = call .question .query; k = call .k; ids = length (call .ids); distances = length (call .distances) }
