@@ -5,22 +5,23 @@ use native.Mathlib.Omega.{arith}
 use mathlib.Core.Path.{_≡_, refl, sym, ap, ap₂, _∙_, subst}
 use mathlib.Core.Logic.{_⊎_, inl, inr}
 use mathlib.Core.Bool.{Bool, true, false, _&&_, cond}
-use mathlib.Core.List.{List, [], _∷_, _++_, map, map-append, append-assoc, append-nil}
+use mathlib.Core.List.{List, [], _∷_, _++_, map, map-append, map-id, append-assoc, append-nil}
 use lib.ListN.{length, getD, take, drop, set, length-append, length-set, take-append-drop}
 use lib.Dec.{ltb}
 use borrow.Author.Tests.{lt-ltb, le-ltb}
 use lib.Seq.{take-all, take-suc, drop-cons, take-set-le, take-suc-set}
 use Rattle.lists.specs.Lists.{part, keep}
 use Rattle.lists.specs.Parts.{length-part, getD-part}
-use Rattle.lists.specs.Counting.{keep-nil, keep-pass, keep-fail, keep-append}
-use Rattle.lists.specs.Tests.{which, allPass, allPass-nil, allPass-cons, allPass-append}
+use Rattle.lists.specs.Counting.{keep-nil, keep-pass, keep-fail, keep-append, keep-all}
+use Rattle.walk.specs.Wanted.{passes, given}
+use Rattle.lists.specs.Tests.{which, and-false, allPass, allPass-nil, allPass-cons, allPass-append}
 use Rattle.store.specs.declared.Shape.{Shape}
 use Rattle.store.specs.Store.{ownersAt}
 use Rattle.walk.specs.declared.Wanted.the-variants.{Everything, Label}
 use Rattle.store.specs.declared.Counts.{Counts}
 use Rattle.hit_queue.specs.declared.gather.Added.{Added}
 use Rattle.hit_queue.specs.declared.gather.Added.the-variants as added
-use Rattle.hit_queue.specs.Hits.{passes, has, newVectors, Gathered, GatherDamage, Gathers, AddedVectors, AddedEntries, AddedHits}
+use Rattle.hit_queue.specs.Hits.{newVectors, Gathers, GatheredBy, GatherDamageBy, GathersBy, AddedVectors, AddedEntries, AddedHits}
 
 pub allPass-one : (t : ℕ → Bool) (x : ℕ) (b : Bool) → t x ≡ b → allPass t (x ∷ []) ≡ b
 allPass-one t x b e = allPass-cons t x [] ∙ ap₂ _&&_ e (allPass-nil t) ∙ go b
@@ -28,10 +29,6 @@ allPass-one t x b e = allPass-cons t x [] ∙ ap₂ _&&_ e (allPass-nil t) ∙ g
     go : (b : Bool) → (b && true) ≡ b
     go true = refl
     go false = refl
-
-pub and-false : (a : Bool) → (a && false) ≡ false
-and-false true = refl
-and-false false = refl
 
 -- one more number
 module _ (wants : ℕ → Bool) (vector : ℕ → ℕ) where
@@ -70,7 +67,7 @@ module _ (wants : ℕ → Bool) (vector : ℕ → ℕ) where
 
 module _ (test wants : ℕ → Bool) (vector : ℕ → ℕ) (most : ℕ) where
   -- no number, and one that passes
-  pub gathered-none : (before : ℕ) (found : List ℕ) → before ≤ most → Gathered test wants vector most [] before found before found
+  pub gathered-none : (before : ℕ) (found : List ℕ) → before ≤ most → GatheredBy test wants vector most [] before found before found
   gathered-none before found few =
       let nothing : newVectors wants vector [] ≡ [] = ap (map vector) (keep-nil wants) in
       record {
@@ -81,7 +78,7 @@ module _ (test wants : ℕ → Bool) (vector : ℕ → ℕ) (most : ℕ) where
       }
 
   pub gathered-one : (x v total total′ : ℕ) (found found′ : List ℕ) → total < length found → test x ≡ true → v ≡ vector x → total′ ≡ total + cond (wants x) 1 0 → total′ ≤ most
-      → found′ ≡ set found total v → Gathered test wants vector most (x ∷ []) total found total′ found′
+      → found′ ≡ set found total v → GatheredBy test wants vector most (x ∷ []) total found total′ found′
   gathered-one x v total total′ found found′ room t e n few is = record {
     pass = allPass-one test x true t;
     count = omega (arith, n, new-count wants vector x);
@@ -90,8 +87,8 @@ module _ (test wants : ℕ → Bool) (vector : ℕ → ℕ) (most : ℕ) where
   }
 
   module _ (xs ys : List ℕ) (before : ℕ) where
-    pub gathered-append : (one two : ℕ) (found found₁ found₂ : List ℕ) → Gathered test wants vector most xs before found one found₁
-        → Gathered test wants vector most ys one found₁ two found₂ → Gathered test wants vector most (xs ++ ys) before found two found₂
+    pub gathered-append : (one two : ℕ) (found found₁ found₂ : List ℕ) → GatheredBy test wants vector most xs before found one found₁
+        → GatheredBy test wants vector most ys one found₁ two found₂ → GatheredBy test wants vector most (xs ++ ys) before found two found₂
     gathered-append one two found found₁ found₂ a b =
         let old : List ℕ = newVectors wants vector xs in
         let new : List ℕ = newVectors wants vector ys in
@@ -105,27 +102,27 @@ module _ (test wants : ℕ → Bool) (vector : ℕ → ℕ) (most : ℕ) where
         }
 
     -- damage in the first, and behind it
-    pub damage-append : GatherDamage test wants vector most xs before → GatherDamage test wants vector most (xs ++ ys) before
+    pub damage-append : GatherDamageBy test wants vector most xs before → GatherDamageBy test wants vector most (xs ++ ys) before
     damage-append (inl f) = inl (allPass-append test xs ys ∙ ap (λ (b : Bool). b && allPass test ys) f)
     damage-append (inr over) =
         inr (omega (arith, over, ap length (new-append wants vector xs ys), length-append (newVectors wants vector xs) (newVectors wants vector ys)))
 
-    pub damage-behind : (one : ℕ) (found found₁ : List ℕ) → Gathered test wants vector most xs before found one found₁
-        → GatherDamage test wants vector most ys one → GatherDamage test wants vector most (xs ++ ys) before
+    pub damage-behind : (one : ℕ) (found found₁ : List ℕ) → GatheredBy test wants vector most xs before found one found₁
+        → GatherDamageBy test wants vector most ys one → GatherDamageBy test wants vector most (xs ++ ys) before
     damage-behind one found found₁ a (inl f) = inl (allPass-append test xs ys ∙ ap (λ (b : Bool). allPass test xs && b) f ∙ and-false (allPass test xs))
     damage-behind one found found₁ a (inr over) =
         inr (omega (arith, over, a .count, ap length (new-append wants vector xs ys), length-append (newVectors wants vector xs) (newVectors wants vector ys)))
 
     -- whatever came of the second
-    pub gathers-append : (one : ℕ) (found found₁ found₂ : List ℕ) (r : Added) → Gathered test wants vector most xs before found one found₁
-        → Gathers test wants vector most ys one found₁ r found₂ → Gathers test wants vector most (xs ++ ys) before found r found₂
+    pub gathers-append : (one : ℕ) (found found₁ found₂ : List ℕ) (r : Added) → GatheredBy test wants vector most xs before found one found₁
+        → GathersBy test wants vector most ys one found₁ r found₂ → GathersBy test wants vector most (xs ++ ys) before found r found₂
     gathers-append one found found₁ found₂ added.Damaged a b = damage-behind one found found₁ a b
     gathers-append one found found₁ found₂ (added.Hits two) a b = gathered-append one two found found₁ found₂ a b
 
 -- ---- after the first j
 
 pub record Gathering (test wants : ℕ → Bool) (vector : ℕ → ℕ) (most : ℕ) (l : List ℕ) (before : ℕ) (found₀ : List ℕ) (j total : ℕ) (found : List ℕ) : Type 0 where
-  pub so-far : Gathered test wants vector most (take j l) before found₀ total found
+  pub so-far : GatheredBy test wants vector most (take j l) before found₀ total found
   pub size : length found ≡ length found₀
 
 module _ (test wants : ℕ → Bool) (vector : ℕ → ℕ) (most : ℕ) (l : List ℕ) (before : ℕ) (found₀ : List ℕ) where
@@ -144,7 +141,7 @@ module _ (test wants : ℕ → Bool) (vector : ℕ → ℕ) (most : ℕ) (l : Li
       → most < length found₀ → getD l j 0 ≡ x → test x ≡ true → v ≡ vector x → total′ ≡ total + cond (wants x) 1 0 → total′ ≤ most
       → Gathering test wants vector most l before found₀ (j + 1) total′ (set found total v)
   gather-next j total total′ x v found g h room at t e n few = record {
-    so-far = subst (λ (k : List ℕ). Gathered test wants vector most k before found₀ total′ (set found total v))
+    so-far = subst (λ (k : List ℕ). GatheredBy test wants vector most k before found₀ total′ (set found total v))
         (sym (next j h ∙ ap (λ (y : ℕ). take j l ++ (y ∷ [])) at))
         (gathered-append test wants vector most (take j l) (x ∷ []) before total total′ found₀ found (set found total v) (g .so-far)
         (gathered-one test wants vector most x v total total′ found (set found total v) (omega (arith, g .so-far .few, room, g .size)) t e n few refl));
@@ -153,24 +150,24 @@ module _ (test wants : ℕ → Bool) (vector : ℕ → ℕ) (most : ℕ) (l : Li
 
   -- damage: the next number does not pass, or it is one hit too many
   next-damaged : (j total x : ℕ) (found : List ℕ) → Gathering test wants vector most l before found₀ j total found → j < length l → getD l j 0 ≡ x
-      → GatherDamage test wants vector most (x ∷ []) total → GatherDamage test wants vector most l before
+      → GatherDamageBy test wants vector most (x ∷ []) total → GatherDamageBy test wants vector most l before
   next-damaged j total x found g h at d =
-      subst (λ (k : List ℕ). GatherDamage test wants vector most k before) (sym (split j h ∙ ap (λ (y : ℕ). take j l ++ (y ∷ drop (suc j) l)) at))
+      subst (λ (k : List ℕ). GatherDamageBy test wants vector most k before) (sym (split j h ∙ ap (λ (y : ℕ). take j l ++ (y ∷ drop (suc j) l)) at))
       (damage-behind test wants vector most (take j l) (x ∷ drop (suc j) l) before total found₀ found (g .so-far)
       (damage-append test wants vector most (x ∷ []) (drop (suc j) l) total d))
 
   pub gather-fails : (j total x : ℕ) (found : List ℕ) → Gathering test wants vector most l before found₀ j total found → j < length l → getD l j 0 ≡ x
-      → test x ≡ false → GatherDamage test wants vector most l before
+      → test x ≡ false → GatherDamageBy test wants vector most l before
   gather-fails j total x found g h at f = next-damaged j total x found g h at (inl (allPass-one test x false f))
 
   pub gather-over : (j total x : ℕ) (found : List ℕ) → Gathering test wants vector most l before found₀ j total found → j < length l → getD l j 0 ≡ x
-      → most < total + cond (wants x) 1 0 → GatherDamage test wants vector most l before
+      → most < total + cond (wants x) 1 0 → GatherDamageBy test wants vector most l before
   gather-over j total x found g h at over = next-damaged j total x found g h at (inr (omega (arith, over, new-count wants vector x)))
 
   -- the end of the list
   pub gather-end : (j total : ℕ) (found : List ℕ) → Gathering test wants vector most l before found₀ j total found → length l ≤ j
-      → Gathered test wants vector most l before found₀ total found
-  gather-end j total found g h = subst (λ (t : List ℕ). Gathered test wants vector most t before found₀ total found) (take-all j l h) (g .so-far)
+      → GatheredBy test wants vector most l before found₀ total found
+  gather-end j total found g h = subst (λ (t : List ℕ). GatheredBy test wants vector most t before found₀ total found) (take-all j l h) (g .so-far)
 
 -- ---- in the words of the code
 
@@ -195,11 +192,13 @@ block-room numbers start count j room h = rw (length-part start count numbers ro
 -- either list, in the words of `add_hits`
 pub as-everything : (s : Shape) (c : Counts) (numbers hashes l : List ℕ) (before : ℕ) (found : List ℕ) (r : Added) (found′ : List ℕ)
     → AddedVectors c l before found r found′ → AddedHits s c numbers hashes Everything l before found r found′
-unfolding passes has
-as-everything s c numbers hashes l before found r found′ a = a
+unfolding passes given
+as-everything s c numbers hashes l before found r found′ a =
+    subst (λ (new : List ℕ). Gathers (allPass (λ x. ltb x (c .vectors)) l) new (c .vectors) before found r found′)
+    (ap (map (λ x. x)) (keep-all (λ x. true) l (λ x m. refl)) ∙ map-id l) a
 
 pub as-label : (s : Shape) (c : Counts) (numbers hashes : List ℕ) (hash owners : ℕ) (l : List ℕ) (before : ℕ) (found : List ℕ) (r : Added) (found′ : List ℕ)
     → owners ≡ ownersAt s → AddedEntries c numbers hashes hash owners l before found r found′ → AddedHits s c numbers hashes (Label hash) l before found r found′
-unfolding passes has
+unfolding passes given
 as-label s c numbers hashes hash owners l before found r found′ e a =
     subst (λ (n : ℕ). AddedEntries c numbers hashes hash n l before found r found′) e a

@@ -22,7 +22,8 @@ use Rattle.distance.specs.Distance.{distance}
 use Rattle.store.specs.declared.Counts.{Counts}
 use Rattle.lists.specs.Tests.{allPass, and-right, allPass-Memᴰ, allPass-append}
 use Rattle.walk.specs.Answer.{hitOf}
-use Rattle.hit_queue.specs.Hits.{hitFor, within, Measured, Measure}
+use Rattle.hit_queue.specs.Hits.{within, Measured, Measure}
+use Rattle.walk.specs.StoreView.{hitAt}
 use Rattle.hit_queue.specs.HitsLaws.{key-is}
 
 -- ---- hits are added
@@ -140,5 +141,5 @@ measured-next c h bound before total total′ at count j m heap₀ heap heap′ 
         (omega (arith, a .few, length-map (part at j heap₀) h, length-part at j heap₀ (let t : at + j ≤ length heap₀ = omega (arith, w .inside, le) in t), w .apart, le, e)) (a .behind)
 
 pub hit-is : (s : Shape) (floats : List Float) (numbers : List ℕ) (query : List Float) (distance′ : Float) (v x r : ℕ) → r ≡ hitOf distance′ (getD numbers v 0) v
-    → distance′ ≡ distance query (vectorAt (s .dimension) floats v) → v ≡ x → r ≡ hitFor s floats numbers query x
-hit-is s floats numbers query distance′ v x r e d is = e ∙ ap (λ (f : Float). hitOf f (getD numbers v 0) v) d ∙ ap (hitFor s floats numbers query) is
+    → distance′ ≡ distance query (vectorAt (s .dimension) floats v) → v ≡ x → r ≡ hitAt s floats numbers query x
+hit-is s floats numbers query distance′ v x r e d is = e ∙ ap (λ (f : Float). hitOf f (getD numbers v 0) v) d ∙ ap (hitAt s floats numbers query) is

@@ -12,37 +12,19 @@ use Rattle.lists.specs.Lists.{part, keep}
 use Rattle.order.specs.Sorted.{sort}
 use Rattle.order.specs.Records.{records, Heap}
 use Rattle.store.specs.declared.Shape.{Shape}
-use Rattle.store.specs.Store.{ownersAt, vectorAt}
-use Rattle.distance.specs.Distance.{distance}
+use Rattle.store.specs.Store.{CountsWithin, ownersAt, numbersSize, hashesSize}
 use Rattle.walk.specs.declared.Wanted.{Wanted}
-use Rattle.walk.specs.declared.Wanted.the-variants.{Everything, Label}
 use Rattle.store.specs.declared.Counts.{Counts}
 use Rattle.hit_queue.specs.declared.gather.Added.{Added}
 use Rattle.hit_queue.specs.declared.answer.Taken.{Taken}
-use Rattle.walk.specs.Answer.{hitOf, documentOf, distanceOf, dropAfter, dropRepeats}
+use Rattle.walk.specs.Wanted.{EntryRead, passes, given, most}
+use Rattle.walk.specs.StoreView.{hitAt}
+use Rattle.walk.specs.Contracts.{VectorsLent}
+use Rattle.walk.specs.Answer.{documentOf, distanceOf, dropAfter, dropRepeats}
 use Rattle.lists.specs.Tests.{allPass}
 use Rattle.hit_queue.specs.declared.gather.Added.the-variants as added
 
 -- ---- the hits of a leaf
-
--- 'over the entries held, unfiltered over n'
-abbrev pub mostOf : Counts → Wanted → ℕ
-mostOf c Everything = c .vectors
-mostOf c (Label hash) = c .entries
-
--- what one number of a leaf's list has to pass: it is below the count held, and so is an entry's owner
-unfoldable pub passes : Shape → Counts → List ℕ → Wanted → ℕ → Bool
-passes s c numbers Everything x = ltb x (c .vectors)
-passes s c numbers (Label hash) x = ltb x (c .entries) && ltb (getD numbers (ownersAt s + x) 0) (c .vectors)
-
--- whether it is about what is wanted, and the vector that it is about
-unfoldable pub has : List ℕ → Wanted → ℕ → Bool
-has hashes Everything x = true
-has hashes (Label hash) x = eqb (getD hashes x 0) hash
-
-abbrev pub vectorOf : Shape → List ℕ → Wanted → ℕ → ℕ
-vectorOf s numbers Everything x = x
-vectorOf s numbers (Label hash) x = getD numbers (ownersAt s + x) 0
 
 -- the vectors that those of a list are about that have what is wanted
 abbrev pub newVectors : (ℕ → Bool) → (ℕ → ℕ) → List ℕ → List ℕ
@@ -54,42 +36,71 @@ pub record AddHits (numbers found : List ℕ) (before most start count : ℕ) : 
   pub few : before ≤ most
   pub room : most < length found
 
--- The vectors of a list `l` were added behind those before
-pub record Gathered (test wants : ℕ → Bool) (vector : ℕ → ℕ) (most : ℕ) (l : List ℕ) (before : ℕ) (found : List ℕ) (total : ℕ) (found′ : List ℕ) : Type 0 where
-  pub pass : allPass test l ≡ true
-  pub count : total ≡ length (newVectors wants vector l) + before
+-- `add_entries` and `add_rest` want the owners from a place on, and the hashes, beside
+pub record AddEntries (c : Counts) (numbers hashes found : List ℕ) (owners before start count : ℕ) : Type 0 where
+  pub owners-held : owners + c .entries ≤ length numbers
+  pub hashes-held : c .entries ≤ length hashes
+  pub hits : AddHits numbers found before (c .entries) start count
+
+-- `add_four` wants room for four more hits
+pub record AddFour (c : Counts) (numbers hashes found : List ℕ) (owners before at : ℕ) : Type 0 where
+  pub entries : AddEntries c numbers hashes found owners before at 4
+  pub four : before + 4 ≤ c .entries
+
+-- `add_hits` wants a store's numbers and hashes
+pub record AddLent (s : Shape) (c : Counts) (numbers hashes found : List ℕ) (wanted : Wanted) (before start count : ℕ) : Type 0 where
+  pub within : CountsWithin s c
+  pub numbers-size : numbersSize s ≤ length numbers
+  pub hashes-size : hashesSize s ≤ length hashes
+  pub hits : AddHits numbers found before (most wanted c) start count
+
+-- Numbers of vectors were added behind those before, where a list was sound
+pub record Gathered (sound : Bool) (new : List ℕ) (most before : ℕ) (found : List ℕ) (total : ℕ) (found′ : List ℕ) : Type 0 where
+  pub pass : sound ≡ true
+  pub count : total ≡ length new + before
   pub few : total ≤ most
-  pub vectors : take total found′ ≡ take before found ++ newVectors wants vector l
+  pub vectors : take total found′ ≡ take before found ++ new
 
--- damage: one of the list does not pass, or there is one hit too many
-abbrev pub GatherDamage : (ℕ → Bool) → (ℕ → Bool) → (ℕ → ℕ) → ℕ → List ℕ → ℕ → Type 0
-GatherDamage test wants vector most l before = (allPass test l ≡ false) ⊎ (most < length (newVectors wants vector l) + before)
+-- damage: the list is not sound, or there is one hit too many
+abbrev pub GatherDamage : Bool → List ℕ → ℕ → ℕ → Type 0
+GatherDamage sound new most before = (sound ≡ false) ⊎ (most < length new + before)
 
-abbrev pub Gathers : (ℕ → Bool) → (ℕ → Bool) → (ℕ → ℕ) → ℕ → List ℕ → ℕ → List ℕ → Added → List ℕ → Type 0
-Gathers test wants vector most l before found added.Damaged found′ = GatherDamage test wants vector most l before
-Gathers test wants vector most l before found (added.Hits total) found′ = Gathered test wants vector most l before found total found′
+abbrev pub Gathers : Bool → List ℕ → ℕ → ℕ → List ℕ → Added → List ℕ → Type 0
+Gathers sound new most before found added.Damaged found′ = GatherDamage sound new most before
+Gathers sound new most before found (added.Hits total) found′ = Gathered sound new most before found total found′
 
--- every vector of a leaf's list, the owners of its entries of a hash, and either
+-- the same by a test of each number, whether it is wanted, and the vector that it is about
+abbrev pub GatheredBy : (ℕ → Bool) → (ℕ → Bool) → (ℕ → ℕ) → ℕ → List ℕ → ℕ → List ℕ → ℕ → List ℕ → Type 0
+GatheredBy test wants vector most l before found total found′ = Gathered (allPass test l) (newVectors wants vector l) most before found total found′
+
+abbrev pub GatherDamageBy : (ℕ → Bool) → (ℕ → Bool) → (ℕ → ℕ) → ℕ → List ℕ → ℕ → Type 0
+GatherDamageBy test wants vector most l before = GatherDamage (allPass test l) (newVectors wants vector l) most before
+
+abbrev pub GathersBy : (ℕ → Bool) → (ℕ → Bool) → (ℕ → ℕ) → ℕ → List ℕ → ℕ → List ℕ → Added → List ℕ → Type 0
+GathersBy test wants vector most l before found r found′ = Gathers (allPass test l) (newVectors wants vector l) most before found r found′
+
+-- every vector of a leaf's list; the owners of its entries of a hash; and what is wanted
 abbrev pub AddedVectors : Counts → List ℕ → ℕ → List ℕ → Added → List ℕ → Type 0
-AddedVectors c l before found r found′ = Gathers (λ x. ltb x (c .vectors)) (λ x. true) (λ x. x) (c .vectors) l before found r found′
+AddedVectors c l before found r found′ = GathersBy (λ x. ltb x (c .vectors)) (λ x. true) (λ x. x) (c .vectors) l before found r found′
 
 abbrev pub AddedEntries : Counts → List ℕ → List ℕ → ℕ → ℕ → List ℕ → ℕ → List ℕ → Added → List ℕ → Type 0
 AddedEntries c numbers hashes hash owners l before found r found′ =
-    Gathers (λ x. ltb x (c .entries) && ltb (getD numbers (owners + x) 0) (c .vectors)) (λ x. eqb (getD hashes x 0) hash)
+    GathersBy (λ x. ltb x (c .entries) && ltb (getD numbers (owners + x) 0) (c .vectors)) (λ x. eqb (getD hashes x 0) hash)
     (λ x. getD numbers (owners + x) 0) (c .entries) l before found r found′
+
+-- what is read of the entries of a store
+abbrev pub entriesOf : Shape → List ℕ → List ℕ → EntryRead
+entriesOf s numbers hashes = record { hash = λ x. getD hashes x 0; owner = λ x. getD numbers (ownersAt s + x) 0 }
 
 abbrev pub AddedHits : Shape → Counts → List ℕ → List ℕ → Wanted → List ℕ → ℕ → List ℕ → Added → List ℕ → Type 0
 AddedHits s c numbers hashes wanted l before found r found′ =
-    Gathers (passes s c numbers wanted) (has hashes wanted) (vectorOf s numbers wanted) (mostOf c wanted) l before found r found′
+    Gathers (allPass (passes wanted c (entriesOf s numbers hashes)) l) (given wanted (entriesOf s numbers hashes) l) (most wanted c) before found r found′
 
 -- ---- the queue of the hits of the vectors found
 
--- the hit of a vector, and those of several
-abbrev pub hitFor : Shape → List Float → List ℕ → List Float → ℕ → ℕ
-hitFor s floats numbers query v = hitOf (distance query (vectorAt (s .dimension) floats v)) (getD numbers v 0) v
-
+-- the hits of several vectors
 abbrev pub hitsOf : Shape → List Float → List ℕ → List Float → List ℕ → List ℕ
-hitsOf s floats numbers query l = map (hitFor s floats numbers query) l
+hitsOf s floats numbers query l = map (hitAt s floats numbers query) l
 
 -- whether the key of a hit is at most a bound
 abbrev pub within : ℕ → ℕ → Bool
@@ -117,6 +128,11 @@ pub record Measure (c : Counts) (heap : List ℕ) (before at count : ℕ) : Type
   pub inside : at + count ≤ length heap
   pub apart : before * 3 + 2 * count ≤ at + 2
   pub room : (before + count) * 3 ≤ length heap
+
+-- and the vectors beside
+pub record MeasureLent (s : Shape) (c : Counts) (floats : List Float) (numbers heap : List ℕ) (before at count : ℕ) : Type 0 where
+  pub lent : VectorsLent s c floats numbers
+  pub measure : Measure c heap before at count
 
 -- ---- the hits of an answer
 

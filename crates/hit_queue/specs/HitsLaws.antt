@@ -18,53 +18,21 @@ use Rattle.order.specs.RecordsLaws.{value-is}
 use Rattle.store.specs.declared.Shape.{Shape}
 use Rattle.store.specs.Store.{ownersAt}
 use Rattle.walk.specs.declared.Wanted.{Wanted}
-use Rattle.walk.specs.declared.Wanted.the-variants.{Everything, Label}
 use Rattle.store.specs.declared.Counts.{Counts}
 use Rattle.walk.specs.Walk.{hits, damage}
-use Rattle.walk.specs.StoreView.{vectorsShown, entriesShown, mostHits, hitAt, storeView}
+use Rattle.walk.specs.Wanted.{passes, given}
+use Rattle.walk.specs.StoreView.{listShown}
+use Rattle.store.specs.Lent.{storeOf}
 use Rattle.walk.specs.Answer.{documentOf, dropAfter, dropRepeats}
 use Rattle.walk.specs.AnswerLaws.{drop-nil, drop-other, repeats-nil, repeats-cons}
-use Rattle.walk.specs.Search.{lent, listShown}
-use Rattle.hit_queue.specs.Hits.{passes, has, vectorOf, newVectors, hitFor, hitsOf, mostOf, Measure}
+use Rattle.hit_queue.specs.Hits.{entriesOf, hitsOf, Measure}
 
+-- what a leaf's list shows: hits of the vectors that it gives, if all its numbers pass
 pub list-shown : (s : Shape) (c : Counts) (floats : List Float) (numbers hashes : List ℕ) (query : List Float) (wanted : Wanted) (l : List ℕ)
-    → listShown s c (lent floats numbers hashes) query wanted l
-    ≡ cond (allPass (passes s c numbers wanted) l) (hits (hitsOf s floats numbers query (newVectors (has hashes wanted) (vectorOf s numbers wanted) l))) damage
-unfolding vectorsShown entriesShown passes has hitAt
-list-shown s c floats numbers hashes query Everything l =
-    ap (λ (k : List ℕ). cond (allPass (λ vector. ltb vector (c .vectors)) l) (hits (hitsOf s floats numbers query k)) damage)
-    (sym (ap (map (λ x. x)) (keep-all (λ x. true) l (λ x m. refl)) ∙ map-id l))
-list-shown s c floats numbers hashes query (Label hash) l =
-    ap (λ (k : List ℕ). cond (allPass (λ entry. ltb entry (c .entries) && ltb (getD numbers (ownersAt s + entry) 0) (c .vectors)) l) (hits k) damage)
-    (sym (map-map (hitFor s floats numbers query) (vectorOf s numbers (Label hash)) (keep (λ entry. eqb (getD hashes entry 0) hash) l)))
-
-pub view-most : (s : Shape) (c : Counts) (floats : List Float) (numbers hashes : List ℕ) (query : List Float) (wanted : Wanted)
-    → storeView s c (lent floats numbers hashes) query wanted .most ≡ mostOf c wanted
-unfolding storeView mostHits
-view-most s c floats numbers hashes query Everything = refl
-view-most s c floats numbers hashes query (Label hash) = refl
-
--- the vector that a number is about is held, if the number passes
-pub vector-held : (s : Shape) (c : Counts) (numbers : List ℕ) (wanted : Wanted) (x : ℕ) → passes s c numbers wanted x ≡ true
-    → ltb (vectorOf s numbers wanted x) (c .vectors) ≡ true
-unfolding passes
-vector-held s c numbers Everything x t = t
-vector-held s c numbers (Label hash) x t = and-right (ltb x (c .entries)) (ltb (getD numbers (ownersAt s + x) 0) (c .vectors)) t
-
--- so are those of a list
-pub vectors-held : (test wants below : ℕ → Bool) (vector : ℕ → ℕ) (l : List ℕ) → ((x : ℕ) → test x ≡ true → below (vector x) ≡ true) → allPass test l ≡ true
-    → allPass below (newVectors wants vector l) ≡ true
-vectors-held test wants below vector [] held t = ap (λ (k : List ℕ). allPass below (map vector k)) (keep-nil wants) ∙ allPass-nil below
-vectors-held test wants below vector (x ∷ xs) held t =
-    let all : (test x && allPass test xs) ≡ true = sym (allPass-cons test x xs) ∙ t in
-    go (held x (and-left (test x) (allPass test xs) all)) (vectors-held test wants below vector xs held (and-right (test x) (allPass test xs) all)) (which (wants x))
-  where
-    go : below (vector x) ≡ true → allPass below (newVectors wants vector xs) ≡ true → (wants x ≡ true) ⊎ (wants x ≡ false)
-        → allPass below (newVectors wants vector (x ∷ xs)) ≡ true
-    go first rest (inl w) =
-        ap (λ (k : List ℕ). allPass below (map vector k)) (keep-pass wants x xs w) ∙ allPass-cons below (vector x) (newVectors wants vector xs)
-        ∙ ap₂ _&&_ first rest
-    go first rest (inr w) = ap (λ (k : List ℕ). allPass below (map vector k)) (keep-fail wants x xs w) ∙ rest
+    → listShown s c (storeOf floats numbers hashes) query wanted l
+    ≡ cond (allPass (passes wanted c (entriesOf s numbers hashes)) l) (hits (hitsOf s floats numbers query (given wanted (entriesOf s numbers hashes) l))) damage
+unfolding listShown
+list-shown s c floats numbers hashes query wanted l = refl
 
 -- no document id is 2 ^ 32
 pub repeats-after : (l : List ℕ) → dropRepeats l ≡ dropAfter (2 ^ 32) l

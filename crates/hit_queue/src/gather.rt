@@ -8,10 +8,9 @@ ghost use mathlib.Core.Path.{_≡_};
 ghost use Prim.Native.Nat.{_+_, _<_, _≤_};
 ghost use lib.ListN.{length, getD, set};
 ghost use Rattle.lists.specs.Lists.{part};
-ghost use Rattle.walk.specs.Search.{NumbersLent, HashesLent};
 ghost use lib.Dec.{eqb, ltb};
 ghost use mathlib.Core.Bool.{_&&_, cond};
-ghost use Rattle.hit_queue.specs.Hits.{mostOf, AddHits, AddedVectors, AddedEntries, AddedHits};
+ghost use Rattle.hit_queue.specs.Hits.{AddHits, AddEntries, AddFour, AddLent, AddedVectors, AddedEntries, AddedHits};
 
 // The vectors found after those of a leaf, or damage.
 pub enum Added {
@@ -103,10 +102,7 @@ fn add_four(
     owners_at: usize,
     at: usize,
 ) -> Added
-    requires { ⌜ «owners_at» + counts .entries ≤ length (now numbers) ⌝ }
-    requires { ⌜ counts .entries ≤ length (now hashes) ⌝ }
-    requires { ⌜ AddHits (now numbers) (now found) before (counts .entries) at 4 ⌝ }
-    requires { ⌜ before + 4 ≤ counts .entries ⌝ }
+    requires { ⌜ AddFour counts (now numbers) (now hashes) (now found) «owners_at» before at ⌝ }
     ensures { λ r. ⌜ AddedEntries counts (now (numbers .entry)) (now (hashes .entry)) hash «owners_at» (part at 4 (now (numbers .entry))) before (now (found .entry)) r (now (found .exit)) ⌝ }
 {
     let a = wide(numbers[at]);
@@ -147,9 +143,7 @@ fn add_rest(
     start: usize,
     count: usize,
 ) -> Added
-    requires { ⌜ «owners_at» + counts .entries ≤ length (now numbers) ⌝ }
-    requires { ⌜ counts .entries ≤ length (now hashes) ⌝ }
-    requires { ⌜ AddHits (now numbers) (now found) before (counts .entries) start count ⌝ }
+    requires { ⌜ AddEntries counts (now numbers) (now hashes) (now found) «owners_at» before start count ⌝ }
     ensures { λ r. ⌜ AddedEntries counts (now (numbers .entry)) (now (hashes .entry)) hash «owners_at» (part start count (now (numbers .entry))) before (now (found .entry)) r (now (found .exit)) ⌝ }
 {
     let mut total = before;
@@ -193,9 +187,7 @@ fn add_entries(
     start: usize,
     count: usize,
 ) -> Added
-    requires { ⌜ «owners_at» + counts .entries ≤ length (now numbers) ⌝ }
-    requires { ⌜ counts .entries ≤ length (now hashes) ⌝ }
-    requires { ⌜ AddHits (now numbers) (now found) before (counts .entries) start count ⌝ }
+    requires { ⌜ AddEntries counts (now numbers) (now hashes) (now found) «owners_at» before start count ⌝ }
     ensures { λ r. ⌜ AddedEntries counts (now (numbers .entry)) (now (hashes .entry)) hash «owners_at» (part start count (now (numbers .entry))) before (now (found .entry)) r (now (found .exit)) ⌝ }
 {
     let mut total = before;
@@ -244,9 +236,7 @@ pub fn add_hits(
     wanted: Wanted,
     block: Block,
 ) -> Added
-    requires { ⌜ NumbersLent shape counts (now numbers) ⌝ }
-    requires { ⌜ HashesLent shape (now hashes) ⌝ }
-    requires { ⌜ AddHits (now numbers) (now found) before (mostOf counts wanted) (block .start) (block .count) ⌝ }
+    requires { ⌜ AddLent shape counts (now numbers) (now hashes) (now found) wanted before (block .start) (block .count) ⌝ }
     ensures { λ r. ⌜ AddedHits shape counts (now (numbers .entry)) (now (hashes .entry)) wanted (part (block .start) (block .count) (now (numbers .entry))) before (now (found .entry)) r (now (found .exit)) ⌝ }
 {
     let start = block.start;

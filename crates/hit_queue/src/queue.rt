@@ -15,9 +15,8 @@ ghost use Rattle.order.specs.Records.{value};
 ghost use Rattle.distance.specs.Distance.{distance};
 ghost use Rattle.walk.specs.Answer.{hitOf};
 ghost use Rattle.lists.specs.Lists.{part};
-ghost use Rattle.walk.specs.Search.{FloatsLent, NumbersLent};
 ghost use mathlib.Core.Bool.{cond};
-ghost use Rattle.hit_queue.specs.Hits.{hitsOf, PushWithin, Measure, Measured};
+ghost use Rattle.hit_queue.specs.Hits.{hitsOf, PushWithin, MeasureLent, Measured};
 
 // The hit of a vector at a distance: the distance's key, document id and number.
 fn hit(numbers: &[u32], vector: usize, distance: f32) -> Record
@@ -76,9 +75,7 @@ fn measure_four(
     bound: u32,
     at: usize,
 ) -> usize
-    requires { ⌜ FloatsLent shape (now floats) ⌝ }
-    requires { ⌜ NumbersLent shape counts (now numbers) ⌝ }
-    requires { ⌜ Measure counts (now heap) count at 4 ⌝ }
+    requires { ⌜ MeasureLent shape counts (now floats) (now numbers) (now heap) count at 4 ⌝ }
     ensures { λ r. ⌜ Measured bound (hitsOf shape (now (floats .entry)) (now (numbers .entry)) (now (query .entry)) (part at 4 (now (heap .entry)))) count (now (heap .entry)) r (now (heap .exit)) ⌝ }
 {
     let a = wide(heap[at]);
@@ -105,9 +102,7 @@ fn measure_one(
     bound: u32,
     at: usize,
 ) -> usize
-    requires { ⌜ FloatsLent shape (now floats) ⌝ }
-    requires { ⌜ NumbersLent shape counts (now numbers) ⌝ }
-    requires { ⌜ Measure counts (now heap) count at 1 ⌝ }
+    requires { ⌜ MeasureLent shape counts (now floats) (now numbers) (now heap) count at 1 ⌝ }
     ensures { λ r. ⌜ Measured bound (hitsOf shape (now (floats .entry)) (now (numbers .entry)) (now (query .entry)) (part at 1 (now (heap .entry)))) count (now (heap .entry)) r (now (heap .exit)) ⌝ }
 {
     let vector = wide(heap[at]);
@@ -129,9 +124,7 @@ pub fn measure(
     from: usize,
     found: usize,
 ) -> usize
-    requires { ⌜ FloatsLent shape (now floats) ⌝ }
-    requires { ⌜ NumbersLent shape counts (now numbers) ⌝ }
-    requires { ⌜ Measure counts (now heap) 0 from found ⌝ }
+    requires { ⌜ MeasureLent shape counts (now floats) (now numbers) (now heap) 0 from found ⌝ }
     ensures { λ r. ⌜ Measured bound (hitsOf shape (now (floats .entry)) (now (numbers .entry)) (now (query .entry)) (part from found (now (heap .entry)))) 0 (now (heap .entry)) r (now (heap .exit)) ⌝ }
 {
     let mut queued = 0;

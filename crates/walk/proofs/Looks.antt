@@ -41,7 +41,7 @@ nothing : (s : Shape) (c : Counts) (floats : List Float) (numbers hashes : List 
 unfolding listShown
 nothing s c floats numbers hashes query wanted =
     let store = storeOf floats numbers hashes in
-    ap₂ (λ (b : Bool) (l : List ℕ). cond b (hits (map (hitAt s c store query) l)) damage) (allPass-nil (passes wanted c (entryRead s c store)))
+    ap₂ (λ (b : Bool) (l : List ℕ). cond b (hits (map (hitAt s (store .floats) (store .numbers) query) l)) damage) (allPass-nil (passes wanted c (entryRead s c store)))
     (given-nil wanted (entryRead s c store))
 
 -- what a block shows

@@ -111,8 +111,7 @@ module _ (s : Shape) (c : Counts) (a b : Store) where
       ∙ ap g (same .numbers e
       ∙ part-same (nodeField s c a i field) (nodeField s c b i field) (nodeField s c a i (field + 1)) (nodeField s c b i (field + 1)) base (b .numbers) (same .count) (same .start)))
 
-  hit-same : (query : List Float) (v : ℕ) → SameVector s c a b v → hitAt s c a query v ≡ hitAt s c b query v
-  unfolding hitAt
+  hit-same : (query : List Float) (v : ℕ) → SameVector s c a b v → hitAt s (a .floats) (a .numbers) query v ≡ hitAt s (b .floats) (b .numbers) query v
   hit-same query v same = ap₂ (λ (x : List Float) (d : ℕ). hitOf (distance query x) d v) (same .components) (same .document)
 
   shown-list : (query : List Float) (wanted : Wanted) (l : List ℕ)
@@ -123,11 +122,11 @@ module _ (s : Shape) (c : Counts) (a b : Store) where
       let ra = entryRead s c a in
       let rb = entryRead s c b in
       same-cond (allPass (passes wanted c ra) l) (allPass (passes wanted c rb) l)
-      (hits (map (hitAt s c a query) (given wanted ra l))) (hits (map (hitAt s c b query) (given wanted rb l)))
+      (hits (map (hitAt s (a .floats) (a .numbers) query) (given wanted ra l))) (hits (map (hitAt s (b .floats) (b .numbers) query) (given wanted rb l)))
       (passes-same c ra rb (SameVector s c a b) wanted l same)
       (λ e. ap hits
-      (map-on (hitAt s c a query) (hitAt s c b query) (given wanted ra l) (λ v m. hit-same query v (given-read c ra rb (SameVector s c a b) wanted l same e v m))
-      ∙ ap (map (hitAt s c b query)) (given-same c ra rb (SameVector s c a b) wanted l same e)))
+      (map-on (hitAt s (a .floats) (a .numbers) query) (hitAt s (b .floats) (b .numbers) query) (given wanted ra l) (λ v m. hit-same query v (given-read c ra rb (SameVector s c a b) wanted l same e v m))
+      ∙ ap (map (hitAt s (b .floats) (b .numbers) query)) (given-same c ra rb (SameVector s c a b) wanted l same e)))
 
   children-same : (parent : ℕ) (l : List ℕ) → childrenShown s c a parent l ≡ childrenShown s c b parent l
   unfolding childrenShown

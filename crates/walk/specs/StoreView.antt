@@ -22,6 +22,10 @@ unfoldable pub blockHeld : ℕ → ℕ → ℕ → Bool
 blockHeld start zero held = true
 blockHeld start (suc count) held = leb (start + suc count) held
 
+-- the hit of the vector with a number, whose document id stands at that number
+abbrev pub hitAt : Shape → List Float → List ℕ → List Float → ℕ → ℕ
+hitAt s floats numbers query i = hitOf (distance query (vectorAt (s .dimension) floats i)) (getD numbers i 0) i
+
 -- where a leaf's lists stand: start and count are the node's third and fourth number, or its last two; and the part that they count in
 abbrev pub fieldOf : LeafList → ℕ
 fieldOf vector-list = 2
@@ -36,20 +40,12 @@ module _ (s : Shape) (c : Counts) (store : Store) where
   abbrev pub nodeField : ℕ → ℕ → ℕ
   nodeField i field = getD (store .numbers) (nodesAt s + i * 6 + field) 0
 
-  -- the distance from a query to the vector, or the centroid, with a number
-  abbrev pub vectorDistance : List Float → ℕ → Float
-  vectorDistance query i = distance query (vectorAt (s .dimension) (store .floats) i)
-
+  -- the distance from a query to the centroid with a number
   abbrev pub centroidDistance : List Float → ℕ → Float
   centroidDistance query i = distance query (vectorAt (s .dimension) (store .floats) (s .vectors + i))
 
   abbrev pub ownerOf : ℕ → ℕ
   ownerOf entry = getD (store .numbers) (ownersAt s + entry) 0
-
-  -- the hit of a vector
-  unfoldable pub hitAt : List Float → ℕ → ℕ
-  unfolding distance keyOf
-  hitAt query vector = hitOf (vectorDistance query vector) (getD (store .numbers) vector 0) vector
 
   -- 'a child not above its parent, not below the node count'
   unfoldable pub childrenShown : ℕ → List ℕ → Shown
@@ -62,9 +58,9 @@ module _ (s : Shape) (c : Counts) (store : Store) where
 
   -- a leaf's list where every number passes gives hits; otherwise it is damaged
   unfoldable pub listShown : List Float → Wanted → List ℕ → Shown
-  unfolding allPass passes given hitAt
+  unfolding allPass passes given distance keyOf
   listShown query wanted numbers =
-      cond (allPass (passes wanted c entryRead) numbers) (hits (map (hitAt query) (given wanted entryRead numbers))) damage
+      cond (allPass (passes wanted c entryRead) numbers) (hits (map (hitAt s (store .floats) (store .numbers) query) (given wanted entryRead numbers))) damage
 
   unfoldable pub leafShown : List Float → Wanted → ℕ → Shown
   unfolding listShown blockHeld

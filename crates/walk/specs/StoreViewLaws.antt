@@ -56,7 +56,7 @@ module _ (s : Shape) (c : Counts) (store : Store) where
   childless-list : (query : List Float) (wanted : Wanted) (l : List ℕ) → Childless (listShown s c store query wanted l)
   unfolding listShown
   childless-list query wanted l =
-      let found : List ℕ = map (hitAt s c store query) (given wanted (entryRead s c store) l) in
+      let found : List ℕ = map (hitAt s (store .floats) (store .numbers) query) (given wanted (entryRead s c store) l) in
       childless-cond (allPass (passes wanted c (entryRead s c store)) l) (hits found) damage (childless-hits found) childless-damage
 
   childless-leaf : (query : List Float) (wanted : Wanted) (i : ℕ) → Childless (leafShown s c store query wanted i)

@@ -3,7 +3,7 @@
 use Rattle.hit_queue.proofs.LeafLists.{gathered-none, damage-append, gathers-append}
 use Rattle.hit_queue.specs.declared.gather.Added.{Added}
 use Rattle.hit_queue.specs.declared.gather.Added.the-variants as added
-use Rattle.hit_queue.specs.Hits.{Gathered, GatherDamage, Gathers}
+use Rattle.hit_queue.specs.Hits.{GatheredBy, GatherDamageBy, GathersBy}
 use Rattle.lists.specs.Lists.{part}
 use Rattle.lists.specs.Parts.{part-append-parts}
 use lib.Dec.{ltb, eqb}
@@ -21,7 +21,7 @@ use Rattle.hit_queue.proofs.gather.add_entries.Tie as tie
 abbrev Inv-loop : tie.InvT-loop
 Inv-loop counts numbers hashes found₀ before hash owners-at start count total₀ read₀ found total read =
     (read ≤ count)
-    × Gathered (λ x. ltb x (counts .entries) && ltb (getD numbers (owners-at + x) 0) (counts .vectors)) (λ x. eqb (getD hashes x 0) hash)
+    × GatheredBy (λ x. ltb x (counts .entries) && ltb (getD numbers (owners-at + x) 0) (counts .vectors)) (λ x. eqb (getD hashes x 0) hash)
     (λ x. getD numbers (owners-at + x) 0) (counts .entries) (part start read numbers) before found₀ total found
     × (length found ≡ length found₀)
 
@@ -60,16 +60,16 @@ neither false b f = (refl, f)
 -- what came of the first n numbers
 abbrev Due : Entry → ℕ → Added → List ℕ → Type 0
 Due e n r found =
-    Gathers (test e) (wants e) (owner e) (e .args .counts .entries) (part (e .args .start) n (e .args .numbers .now)) (e .args .before) (e .args .found .now) r found
+    GathersBy (test e) (wants e) (owner e) (e .args .counts .entries) (part (e .args .start) n (e .args .numbers .now)) (e .args .before) (e .args .found .now) r found
 
 -- of those read, and the m behind them
 further : (t : Turn) (m : ℕ) (r : Added) (found : List ℕ) → let e = entry t in
-    Gathers (test e) (wants e) (owner e) (e .args .counts .entries) (part (e .args .start + t .loop .read) m (e .args .numbers .now)) (t .loop .total) (t .loop .found) r found
+    GathersBy (test e) (wants e) (owner e) (e .args .counts .entries) (part (e .args .start + t .loop .read) m (e .args .numbers .now)) (t .loop .total) (t .loop .found) r found
     → Due e (t .loop .read + m) r found
 further t m r found came =
     let e = entry t in
     let numbers : List ℕ = e .args .numbers .now in
-    subst (λ (l : List ℕ). Gathers (test e) (wants e) (owner e) (e .args .counts .entries) l (e .args .before) (e .args .found .now) r found)
+    subst (λ (l : List ℕ). GathersBy (test e) (wants e) (owner e) (e .args .counts .entries) l (e .args .before) (e .args .found .now) r found)
     (part-append-parts (e .args .start) (t .loop .read) m numbers)
     (gathers-append (test e) (wants e) (owner e) (e .args .counts .entries) (part (e .args .start) (t .loop .read) numbers) (part (e .args .start + t .loop .read) m numbers) (e .args .before)
     (t .loop .total) (e .args .found .now) (t .loop .found) found r (t .loop .inv .1) came)
@@ -92,7 +92,7 @@ many f =
 loop-holds : tie.Need-loop-holds Inv-loop μ-loop
 loop-holds c =
     let e = c .before .before .before in
-    (omega arith, gathered-none (test e) (wants e) (owner e) (e .args .counts .entries) (e .args .before) (e .args .found .now) (e .pre .1 .1 .few), refl)
+    (omega arith, gathered-none (test e) (wants e) (owner e) (e .args .counts .entries) (e .args .before) (e .args .found .now) (e .pre .hits .few), refl)
 
 add-at : tie.Need-add-at Inv-loop μ-loop
 add-at c = search needs
@@ -107,21 +107,28 @@ add-rest-requires : tie.Need-add-rest-requires Inv-loop μ-loop
 add-rest-requires c κs =
     let t = c .before .before .before in
     let e = entry t in
-    let pre = e .pre .1 .1 in
-    (e .pre .0, (e .pre .1 .0, record { block = omega (arith, pre .block, t .loop .inv .0); few = t .loop .inv .1 .few; room = omega (arith, pre .room, t .loop .inv .2) }))
+    let pre = e .pre .hits in
+    record {
+      owners-held = e .pre .owners-held;
+      hashes-held = e .pre .hashes-held;
+      hits = record { block = omega (arith, pre .block, t .loop .inv .0); few = t .loop .inv .1 .few; room = omega (arith, pre .room, t .loop .inv .2) };
+    }
 
 add-four-requires : tie.Need-add-four-requires Inv-loop μ-loop
 add-four-requires c κs =
     let t = c .before .before .before in
     let e = entry t in
-    let pre = e .pre .1 .1 in
-    let more = many (c .before) in (
-      e .pre .0,
-      (
-        e .pre .1 .0,
-        (record { block = omega (arith, pre .block, more .0); few = t .loop .inv .1 .few; room = omega (arith, pre .room, t .loop .inv .2) }, more .1),
-      ),
-    )
+    let pre = e .pre .hits in
+    let more = many (c .before) in
+    record {
+      entries =
+          record {
+            owners-held = e .pre .owners-held;
+            hashes-held = e .pre .hashes-held;
+            hits = record { block = omega (arith, pre .block, more .0); few = t .loop .inv .1 .few; room = omega (arith, pre .room, t .loop .inv .2) };
+          };
+      four = more .1;
+    }
 
 enum-told : tie.Need-enum-told Inv-loop μ-loop
 enum-told c = search needs
@@ -165,7 +172,7 @@ returns-2 c =
     let left : ℕ = e .args .count - read in
     let numbers : List ℕ = e .args .numbers .now in
     let all : read + left ≡ e .args .count = omega (arith, many (a .before .before) .0) in
-    subst (λ (l : List ℕ). GatherDamage (test e) (wants e) (owner e) (e .args .counts .entries) l (e .args .before))
+    subst (λ (l : List ℕ). GatherDamageBy (test e) (wants e) (owner e) (e .args .counts .entries) l (e .args .before))
     (part-append-parts (e .args .start) read left numbers ∙ ap (λ (n : ℕ). part (e .args .start) n numbers) all)
     (damage-append (test e) (wants e) (owner e) (e .args .counts .entries) (part (e .args .start) read numbers) (part (e .args .start + read) left numbers) (e .args .before)
     (four a added.Damaged (c .enum-told .given .1)))

@@ -1,7 +1,7 @@
 -- `add_four` meets its contract: both tests together are the list's, and the owners come one after the other to those before. Assumes nothing.
 use Rattle.hit_queue.proofs.LeafLists.{gathered-none, gathered-one, gathered-append, entry-held}
 use Rattle.hit_queue.proofs.Entries.{four-read, first-fails, second-fails, all-below, four-owners}
-use Rattle.hit_queue.specs.Hits.{Gathered}
+use Rattle.hit_queue.specs.Hits.{GatheredBy}
 use Rattle.lists.specs.Lists.{part}
 use lib.Dec.{ltb, eqb}
 use lib.ListN.{length, getD, set}
@@ -77,7 +77,7 @@ test e x = low e x && held e x
 list : (n : Numbers) → first n ∷ second n ∷ third n ∷ fourth n ∷ [] ≡ part (entry n .args .at) 4 (entry n .args .numbers .now)
 list n =
     let e = entry n in
-    four-read (e .args .numbers .now) (e .args .at) (first n) (second n) (third n) (fourth n) (e .pre .1 .1 .0 .block)
+    four-read (e .args .numbers .now) (e .args .at) (first n) (second n) (third n) (fourth n) (e .pre .entries .hits .block)
     (n .before .before .before .before .before .before .before .wide .ensures .0) (n .before .before .before .before .before .wide2 .ensures .0) (n .before .before .before .wide3 .ensures .0) (n .before .wide4 .ensures .0)
 
 -- the entries that passed are held, and so are their owners
@@ -95,10 +95,10 @@ owned w =
 
 -- an entry held has an owner and a hash
 inside : (h : Passed) (x : ℕ) → let e = entry (read h) in x < e .args .counts .entries → e .args .owners-at + x < length (e .args .numbers .now)
-inside h x under = omega (arith, under, entry (read h) .pre .0)
+inside h x under = omega (arith, under, entry (read h) .pre .entries .owners-held)
 
 hashed : (o : Owners) (x : ℕ) → let e = entry (read (passed o)) in x < e .args .counts .entries → x < length (e .args .hashes .now)
-hashed o x under = omega (arith, under, entry (read (passed o)) .pre .1 .0)
+hashed o x under = omega (arith, under, entry (read (passed o)) .pre .entries .hashes-held)
 
 -- after each owner: how many were counted at most, and that the list is as long as before
 abbrev Room : tie.Start → ℕ → ℕ → List ℕ → Type 0
@@ -122,11 +122,11 @@ room-three w =
 
 -- so there is room for the next
 next : (e : tie.Start) (more total : ℕ) (found : List ℕ) → more < 4 → Room e more total found → total < length found
-next e more total found h r = omega (arith, h, r .0, r .1, e .pre .1 .1 .0 .room, e .pre .1 .1 .1)
+next e more total found h r = omega (arith, h, r .0, r .1, e .pre .entries .hits .room, e .pre .four)
 
 -- one more entry, whose owner is `got`
 abbrev After : tie.Start → List ℕ → ℕ → List ℕ → Type 0
-After e l total found = Gathered (test e) (wants e) (owner e) (e .args .counts .entries) l (e .args .before) (e .args .found .now) total found
+After e l total found = GatheredBy (test e) (wants e) (owner e) (e .args .counts .entries) l (e .args .before) (e .args .found .now) total found
 
 step : (e : tie.Start) (l : List ℕ) (x got more total total′ : ℕ) (found found′ : List ℕ) → more < 4 → Room e more total found → x < e .args .counts .entries
     → got ≡ owner e x → got < e .args .counts .vectors → total′ ≡ total + cond (wants e x) 1 0 → total′ ≤ total + 1 → found′ ≡ set found total (owner e x)
@@ -134,7 +134,7 @@ step : (e : tie.Start) (l : List ℕ) (x got more total total′ : ℕ) (found f
 step e l x got more total total′ found found′ few r under is kept n up written before =
     gathered-append (test e) (wants e) (owner e) (e .args .counts .entries) l (x ∷ []) (e .args .before) total total′ (e .args .found .now) found found′ before
     (gathered-one (test e) (wants e) (owner e) (e .args .counts .entries) x (owner e x) total total′ found found′ (next e more total found few r)
-    (entry-held x (owner e x) got (e .args .counts .entries) (e .args .counts .vectors) is under kept) refl n (omega (arith, few, r .0, up, e .pre .1 .1 .1)) written)
+    (entry-held x (owner e x) got (e .args .counts .entries) (e .args .counts .vectors) is under kept) refl n (omega (arith, few, r .0, up, e .pre .four)) written)
 
 after-one : (w : tie.After-write-owner) → After (start w) (first (read (passed (owners w))) ∷ []) (w .write-owner .result) (w .write-owner .last .1 .0)
 after-one w =
@@ -144,7 +144,7 @@ after-one w =
     let got = w .write-owner in
     step e [] (first (read h)) (o .before .before .before .before .wide5 .result) 0 (e .args .before) (got .result) (e .args .found .now) (got .last .1 .0) (omega arith) (omega arith, refl)
     (entries h .0) (o .before .before .before .before .wide5 .ensures .0) (owned w .0) (got .ensures .0) (got .ensures .1 .0) (got .ensures .1 .1)
-    (gathered-none (test e) (wants e) (owner e) (e .args .counts .entries) (e .args .before) (e .args .found .now) (e .pre .1 .1 .0 .few))
+    (gathered-none (test e) (wants e) (owner e) (e .args .counts .entries) (e .args .before) (e .args .found .now) (e .pre .entries .hits .few))
 
 after-two : (w : tie.After-write-owner2) → let n = read (passed (owners (one w))) in
     After (start (one w)) (first n ∷ second n ∷ []) (w .write-owner2 .result) (w .write-owner2 .last .1 .0)
@@ -290,7 +290,7 @@ write-owner-requires c κs =
     let o = c .before .before in
     let h = passed o in
     let e = entry (read h) in
-    (hashed o (first (read h)) (entries h .0), omega (arith, e .pre .1 .1 .0 .few, e .pre .1 .1 .0 .room))
+    (hashed o (first (read h)) (entries h .0), omega (arith, e .pre .entries .hits .few, e .pre .entries .hits .room))
 
 write-owner-requires-2 : tie.Need-write-owner-requires-2
 write-owner-requires-2 c κs =

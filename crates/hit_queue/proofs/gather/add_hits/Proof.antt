@@ -1,6 +1,7 @@
 -- `add_hits` meets its contract: it is one of two. Assumes nothing.
 use Rattle.hit_queue.proofs.LeafLists.{as-everything, as-label}
-use Rattle.hit_queue.specs.Hits.{mostOf, AddHits, AddedHits}
+use Rattle.hit_queue.specs.Hits.{AddHits, AddedHits}
+use Rattle.walk.specs.Wanted.{most}
 use Rattle.lists.specs.Lists.{part}
 use Rattle.walk.specs.declared.Wanted.{Wanted}
 use native.Mathlib.Omega.{arith}
@@ -16,7 +17,7 @@ add-vectors-requires : tie.Need-add-vectors-requires
 add-vectors-requires c κs =
     let e = c .before .before .before .before .before .before in
     let a = e .args in
-    subst (λ (w : Wanted). AddHits (a .numbers .now) (a .found .now) (a .before) (mostOf (a .counts) w) (a .block .start) (a .block .count)) (c .before .enum-told .given .1) (e .pre .1 .1)
+    subst (λ (w : Wanted). AddHits (a .numbers .now) (a .found .now) (a .before) (most w (a .counts)) (a .block .start) (a .block .count)) (c .before .enum-told .given .1) (e .pre .hits)
 
 enum-known-wanted : tie.Need-enum-known-wanted
 enum-known-wanted c = search needs
@@ -27,13 +28,13 @@ owners-at-requires c κs = search needs
 add-entries-requires : tie.Need-add-entries-requires
 add-entries-requires c κs =
     let e = c .before .before .before .before .before .before .before .before in
-    let a = e .args in (
-      omega (arith, c .before .owners-at .ensures, e .pre .0 .entries, e .pre .0 .size),
-      (
-        omega (arith, e .pre .0 .entries, e .pre .1 .0 .size),
-        subst (λ (w : Wanted). AddHits (a .numbers .now) (a .found .now) (a .before) (mostOf (a .counts) w) (a .block .start) (a .block .count)) (c .before .before .before .wanted .given .1) (e .pre .1 .1),
-      ),
-    )
+    let a = e .args in
+    record {
+      owners-held = omega (arith, c .before .owners-at .ensures, e .pre .within .entries, e .pre .numbers-size);
+      hashes-held = omega (arith, e .pre .within .entries, e .pre .hashes-size);
+      hits =
+        subst (λ (w : Wanted). AddHits (a .numbers .now) (a .found .now) (a .before) (most w (a .counts)) (a .block .start) (a .block .count)) (c .before .before .before .wanted .given .1) (e .pre .hits);
+    }
 
 same-length : tie.Need-same-length
 same-length c = search needs

@@ -81,7 +81,7 @@ held o = o .before .before .if2 .left
 loop-holds : tie.Need-loop-holds Inv-loop μ-loop
 loop-holds c =
     let e = c .before .before .before in
-    let pre = e .pre .1 .1 in
+    let pre = e .pre .hits in
     (omega arith, pre .block, gather-start (test e) (wants e) (owner e) (e .args .counts .entries) (list e) (e .args .before) (e .args .found .now) (pre .few))
 
 add-wide : tie.Need-add-wide Inv-loop μ-loop
@@ -114,7 +114,7 @@ mul-found c = search needs
 slice-write-found : tie.Need-slice-write-found Inv-loop μ-loop
 slice-write-found c =
     let t = turn (read (c .before .before)) in
-    omega (arith, t .loop .inv .2 .so-far .few, t .loop .inv .2 .size, entry t .pre .1 .1 .room)
+    omega (arith, t .loop .inv .2 .so-far .few, t .loop .inv .2 .size, entry t .pre .hits .room)
 
 mul-same : tie.Need-mul-same Inv-loop μ-loop
 mul-same c = search needs
@@ -128,7 +128,7 @@ same-requires c κs = search needs
 add-total : tie.Need-add-total Inv-loop μ-loop
 add-total c =
     let t = turn (read (owned c)) in
-    omega (arith, t .loop .inv .2 .so-far .few, entry t .pre .1 .1 .room, c .same .ensures .1, entry t .good)
+    omega (arith, t .loop .inv .2 .so-far .few, entry t .pre .hits .room, c .same .ensures .1, entry t .good)
 
 add-j : tie.Need-add-j Inv-loop μ-loop
 add-j c = search needs
@@ -146,7 +146,7 @@ loop-again c =
       omega (arith, more r),
       t .loop .inv .1,
       gather-next (test e) (wants e) (owner e) (e .args .counts .entries) (list e) (e .args .before) (e .args .found .now) (t .loop .j) (t .loop .total) _
-          (r .wide .result) _ (t .loop .found) (t .loop .inv .2) (left r) (e .pre .1 .1 .room) (number r)
+          (r .wide .result) _ (t .loop .found) (t .loop .inv .2) (left r) (e .pre .hits .room) (number r)
           (entry-held (r .wide .result) (owner e (r .wide .result)) (o .wide2 .result) (e .args .counts .entries) (e .args .counts .vectors) (o .wide2 .ensures .0) (held o) (s .before .before .if3 .left))
           refl (ap (λ (n : ℕ). t .loop .total + n) (s .same .ensures .0)) (c .if4 .left),
     )

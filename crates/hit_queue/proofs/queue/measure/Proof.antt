@@ -1,7 +1,8 @@
 -- `measure` meets its contract: the loop keeps the hits of the first j numbers, four more a turn or one. The measure is the numbers left. Assumes nothing.
 use Rattle.hit_queue.proofs.Measuring.{measured-none, measured-next, measure-rest}
 use Rattle.hit_queue.specs.HitsLaws.{measure-front}
-use Rattle.hit_queue.specs.Hits.{hitFor, hitsOf, Measure, Measured}
+use Rattle.hit_queue.specs.Hits.{hitsOf, Measure, Measured}
+use Rattle.walk.specs.StoreView.{hitAt}
 use Rattle.lists.specs.Lists.{part}
 use Rattle.lists.specs.Parts.{part-zero, length-part}
 use lib.ListN.{length, length-map}
@@ -30,14 +31,14 @@ abbrev entry : Turn → Entry
 entry t = t .before .before .before .before .before
 
 abbrev hit : Entry → ℕ → ℕ
-hit e = hitFor (e .args .shape) (e .args .floats .now) (e .args .numbers .now) (e .args .query .now)
+hit e = hitAt (e .args .shape) (e .args .floats .now) (e .args .numbers .now) (e .args .query .now)
 
 -- the hits so far are as many as the numbers read
 many : (t : Turn) → length (map (hit (entry t)) (part (entry t .args .from) (t .loop .j) (entry t .args .heap .now))) ≡ t .loop .j
 many t =
     let a = entry t .args in
     length-map (part (a .from) (t .loop .j) (a .heap .now)) (hit (entry t))
-    ∙ length-part (a .from) (t .loop .j) (a .heap .now) (let r : a .from + t .loop .j ≤ length (a .heap .now) = omega (arith, entry t .pre .1 .1 .inside, t .loop .inv .0) in r)
+    ∙ length-part (a .from) (t .loop .j) (a .heap .now) (let r : a .from + t .loop .j ≤ length (a .heap .now) = omega (arith, entry t .pre .measure .inside, t .loop .inv .0) in r)
 
 -- what the next numbers want
 next : (t : Turn) (m : ℕ) → t .loop .j + m ≤ entry t .args .found → Measure (entry t .args .counts) (t .loop .heap) (t .loop .queued) (entry t .args .from + t .loop .j) m
@@ -45,7 +46,7 @@ next t m h =
     let e = entry t in
     let a = e .args in
     measure-front (a .counts) (t .loop .heap) (t .loop .queued) (a .from + t .loop .j) (a .found - t .loop .j) m (omega (arith, h))
-    (measure-rest (a .counts) (a .bound) 0 (t .loop .queued) (a .from) (a .found) (t .loop .j) (a .heap .now) (t .loop .heap) _ (e .pre .1 .1) (many t) (t .loop .inv .0) (t .loop .inv .1))
+    (measure-rest (a .counts) (a .bound) 0 (t .loop .queued) (a .from) (a .found) (t .loop .j) (a .heap .now) (t .loop .heap) _ (e .pre .measure) (many t) (t .loop .inv .0) (t .loop .inv .1))
 
 -- and what their hits add
 grown : (t : Turn) (m total : ℕ) (heap : List ℕ) → t .loop .j + m ≤ entry t .args .found
@@ -54,7 +55,7 @@ grown : (t : Turn) (m total : ℕ) (heap : List ℕ) → t .loop .j + m ≤ entr
 grown t m total heap h d =
     let e = entry t in
     let a = e .args in
-    measured-next (a .counts) (hit e) (a .bound) 0 (t .loop .queued) total (a .from) (a .found) (t .loop .j) m (a .heap .now) (t .loop .heap) heap (e .pre .1 .1) h (t .loop .inv .1) d
+    measured-next (a .counts) (hit e) (a .bound) 0 (t .loop .queued) total (a .from) (a .found) (t .loop .j) m (a .heap .now) (t .loop .heap) heap (e .pre .measure) h (t .loop .inv .1) d
 
 loop-holds : tie.Need-loop-holds Inv-loop μ-loop
 loop-holds c =
@@ -62,13 +63,13 @@ loop-holds c =
     let a = e .args in (
       omega arith,
       subst (λ (l : List ℕ). Measured (a .bound) (map (hit e) l) 0 (a .heap .now) 0 (a .heap .now)) (sym (part-zero (a .from) (a .heap .now)))
-          (measured-none (a .bound) 0 (a .heap .now) (e .pre .1 .1 .queue)),
+          (measured-none (a .bound) 0 (a .heap .now) (e .pre .measure .queue)),
     )
 
 add-at : tie.Need-add-at Inv-loop μ-loop
 add-at c =
     let t = c .before in
-    omega (arith, c .loop-test .taken, entry t .pre .1 .1 .inside, entry t .good)
+    omega (arith, c .loop-test .taken, entry t .pre .measure .inside, entry t .good)
 
 sub-if1 : tie.Need-sub-if1 Inv-loop μ-loop
 sub-if1 c = search needs
@@ -76,7 +77,7 @@ sub-if1 c = search needs
 measure-four-requires : tie.Need-measure-four-requires Inv-loop μ-loop
 measure-four-requires c κs =
     let t = c .before .before .before in
-    (entry t .pre .0, (entry t .pre .1 .0, next t 4 (omega (arith, c .before .if1 .taken))))
+    record { lent = entry t .pre .lent; measure = next t 4 (omega (arith, c .before .if1 .taken)) }
 
 add-j : tie.Need-add-j Inv-loop μ-loop
 add-j c = search needs
@@ -93,7 +94,7 @@ loop-again c =
 measure-one-requires : tie.Need-measure-one-requires Inv-loop μ-loop
 measure-one-requires c κs =
     let t = c .before .before .before in
-    (entry t .pre .0, (entry t .pre .1 .0, next t 1 (omega (arith, c .before .before .loop-test .taken))))
+    record { lent = entry t .pre .lent; measure = next t 1 (omega (arith, c .before .before .loop-test .taken)) }
 
 add-j-2 : tie.Need-add-j-2 Inv-loop μ-loop
 add-j-2 c = search needs

@@ -1,7 +1,8 @@
 -- `measure_four` meets its contract: each of the four numbers is held, so its vector is within the floats. Assumes nothing.
 use Rattle.hit_queue.proofs.Measuring.{number-held, hit-is}
 use Rattle.lists.specs.Parts.{four-mapped}
-use Rattle.hit_queue.specs.Hits.{hitFor, Measured}
+use Rattle.hit_queue.specs.Hits.{Measured}
+use Rattle.walk.specs.StoreView.{hitAt}
 use Rattle.walk.specs.LentLaws.{vector-within}
 use lib.ListN.{length, getD}
 use mathlib.Core.List.{List}
@@ -35,12 +36,12 @@ fourth w = w .wide4 .result
 held : (w : Numbers) (i v : ℕ) → i < 4 → v ≡ getD (entry w .args .heap .now) (entry w .args .at + i) 0 → v < entry w .args .counts .vectors
 held w i v low is =
     let a = entry w .args in
-    number-held (a .counts) (a .heap .now) (a .count) (a .at) 4 (entry w .pre .1 .1) i (a .at + i) v low refl is
+    number-held (a .counts) (a .heap .now) (a .count) (a .at) 4 (entry w .pre .measure) i (a .at + i) v low refl is
 
 held-first : (w : Numbers) → first w < entry w .args .counts .vectors
 held-first w =
     let a = entry w .args in
-    number-held (a .counts) (a .heap .now) (a .count) (a .at) 4 (entry w .pre .1 .1) 0 (a .at) (first w) (omega arith) (omega arith) (w .before .before .before .before .before .before .wide .ensures .0)
+    number-held (a .counts) (a .heap .now) (a .count) (a .at) 4 (entry w .pre .measure) 0 (a .at) (first w) (omega arith) (omega arith) (w .before .before .before .before .before .before .wide .ensures .0)
 
 held-second : (w : Numbers) → second w < entry w .args .counts .vectors
 held-second w = held w 1 (second w) (omega arith) (w .before .before .before .before .wide2 .ensures .0)
@@ -55,12 +56,12 @@ held-fourth w = held w 3 (fourth w) (omega arith) (w .wide4 .ensures .0)
 inside : (w : Numbers) (v : ℕ) → v < entry w .args .counts .vectors → v * entry w .args .shape .dimension + entry w .args .shape .dimension ≤ length (entry w .args .floats .now)
 inside w v low =
     let e = entry w in
-    vector-within (e .args .shape) (e .args .floats .now) v (e .args .counts .vectors) (e .pre .0 .limits) (e .pre .0 .size) low (omega (arith, e .pre .1 .0 .vectors))
+    vector-within (e .args .shape) (e .args .floats .now) v (e .args .counts .vectors) (e .pre .lent .within .limits) (e .pre .lent .floats-size) low (omega (arith, e .pre .lent .within .vectors))
 
 listed : (w : Numbers) (v : ℕ) → v < entry w .args .counts .vectors → (v < length (entry w .args .numbers .now)) × (v < 4096)
 listed w v low =
     let e = entry w in
-    (omega (arith, low, e .pre .1 .0 .vectors, e .pre .1 .0 .size), omega (arith, low, e .pre .1 .0 .vectors, e .pre .0 .limits .vectors-high))
+    (omega (arith, low, e .pre .lent .within .vectors, e .pre .lent .numbers-size), omega (arith, low, e .pre .lent .within .vectors, e .pre .lent .within .limits .vectors-high))
 
 mul-wide : tie.Need-mul-wide
 mul-wide c = search needs
@@ -124,7 +125,7 @@ hit-requires-4 c κs = let w = c .before .before .before .before in listed w (fo
 
 push-four-requires : tie.Need-push-four-requires
 push-four-requires c κs =
-    let pre = entry (c .before .before .before .before .before .before) .pre .1 .1 in
+    let pre = entry (c .before .before .before .before .before .before) .pre .measure in
     record { room = pre .room; queue = pre .queue }
 
 same-length : tie.Need-same-length
@@ -143,7 +144,7 @@ returns c =
     let four = d .distances .ensures in
     let is = hit-is (a .shape) (a .floats .now) (a .numbers .now) (a .query .now) in
     subst (λ (hits : List ℕ). Measured (a .bound) hits (a .count) (a .heap .now) (pushed .result) (pushed .last .0))
-    (four-mapped (hitFor (a .shape) (a .floats .now) (a .numbers .now) (a .query .now)) (a .heap .now) (a .at) 0 _ _ _ _ (entry w .pre .1 .1 .inside)
+    (four-mapped (hitAt (a .shape) (a .floats .now) (a .numbers .now) (a .query .now)) (a .heap .now) (a .at) 0 _ _ _ _ (entry w .pre .measure .inside)
     (is _ (first w) _ _ (h1 .hit .ensures) (four .0) (w .before .before .before .before .before .before .wide .ensures .0))
     (is _ (second w) _ _ (h2 .hit2 .ensures) (four .1 .0) (w .before .before .before .before .wide2 .ensures .0))
     (is _ (third w) _ _ (h3 .hit3 .ensures) (four .1 .1 .0) (w .before .before .wide3 .ensures .0))

@@ -1,7 +1,8 @@
 -- `measure_one` meets its contract: the number is held, so its vector is within the floats. Assumes nothing.
 use Rattle.hit_queue.proofs.Measuring.{number-held, hit-is}
 use Rattle.lists.specs.Parts.{one-mapped}
-use Rattle.hit_queue.specs.Hits.{hitFor, Measured}
+use Rattle.hit_queue.specs.Hits.{Measured}
+use Rattle.walk.specs.StoreView.{hitAt}
 use Rattle.walk.specs.LentLaws.{vector-within}
 use mathlib.Core.List.{List}
 use mathlib.Core.Path.{subst}
@@ -20,7 +21,7 @@ number w = w .wide .result
 held : (w : tie.After-wide) → number w < entry w .args .counts .vectors
 held w =
     let a = entry w .args in
-    number-held (a .counts) (a .heap .now) (a .count) (a .at) 1 (entry w .pre .1 .1) 0 (a .at) (number w) (omega arith) (omega arith) (w .wide .ensures .0)
+    number-held (a .counts) (a .heap .now) (a .count) (a .at) 1 (entry w .pre .measure) 0 (a .at) (number w) (omega arith) (omega arith) (w .wide .ensures .0)
 
 mul-wide : tie.Need-mul-wide
 mul-wide c = search needs
@@ -34,13 +35,13 @@ wide-requires c κs = search needs
 distance-to-requires : tie.Need-distance-to-requires
 distance-to-requires c κs =
     let e = entry c in
-    vector-within (e .args .shape) (e .args .floats .now) (number c) (e .args .counts .vectors) (e .pre .0 .limits) (e .pre .0 .size) (held c) (omega (arith, e .pre .1 .0 .vectors))
+    vector-within (e .args .shape) (e .args .floats .now) (number c) (e .args .counts .vectors) (e .pre .lent .within .limits) (e .pre .lent .floats-size) (held c) (omega (arith, e .pre .lent .within .vectors))
 
 hit-requires : tie.Need-hit-requires
 hit-requires c κs =
     let w = c .before in
     let e = entry w in
-    (omega (arith, held w, e .pre .1 .0 .vectors, e .pre .1 .0 .size), omega (arith, held w, e .pre .1 .0 .vectors, e .pre .0 .limits .vectors-high))
+    (omega (arith, held w, e .pre .lent .within .vectors, e .pre .lent .numbers-size), omega (arith, held w, e .pre .lent .within .vectors, e .pre .lent .within .limits .vectors-high))
 
 push-within-requires : tie.Need-push-within-requires
 push-within-requires c κs = search needs
@@ -55,7 +56,7 @@ returns c =
     let w = h .before .before in
     let a = entry w .args in
     subst (λ (hits : List ℕ). Measured (a .bound) hits (a .count) (a .heap .now) (pushed .result) (pushed .last .0))
-    (one-mapped (hitFor (a .shape) (a .floats .now) (a .numbers .now) (a .query .now)) (a .heap .now) (a .at) 0 _ (entry w .pre .1 .1 .inside)
+    (one-mapped (hitAt (a .shape) (a .floats .now) (a .numbers .now) (a .query .now)) (a .heap .now) (a .at) 0 _ (entry w .pre .measure .inside)
     (hit-is (a .shape) (a .floats .now) (a .numbers .now) (a .query .now) _ (number w) _ _ (h .hit .ensures) (h .before .distance-to .ensures) (w .wide .ensures .0)))
     (pushed .ensures)
 
