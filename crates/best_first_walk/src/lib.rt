@@ -1,9 +1,9 @@
 // The best-first walk over a lent store, whatever numbers stand in it (document 01, 'Search').
+use distance::places::distances_at;
 use distance::total::key;
 use hit_queue::gather::Added;
 use hit_queue::gather::add_hits;
 use hit_queue::vectors::distance_key;
-use hit_queue::vectors::distances;
 use order::Record;
 use order::pop;
 use order::push;
@@ -120,7 +120,16 @@ fn push_four(
     let c = wide(numbers[at + 2]);
     let d = wide(numbers[at + 3]);
     let v = shape.vectors;
-    let four = distances(floats, query, shape.dimension, v + a, v + b, v + c, v + d);
+    let size = shape.dimension;
+    let four = distances_at(
+        floats,
+        query,
+        size,
+        (v + a) * size,
+        (v + b) * size,
+        (v + c) * size,
+        (v + d) * size,
+    );
     push_node(shape, work, waiting, a, key(four.a));
     push_node(shape, work, waiting + 1, b, key(four.b));
     push_node(shape, work, waiting + 2, c, key(four.c));

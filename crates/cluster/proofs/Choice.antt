@@ -45,10 +45,6 @@ nearest-end floats v at k dim x c best least e h =
 pub centre-within : (at k dim n c : ℕ) → at + k * dim ≤ n → c < k → at + c * dim + dim ≤ n
 centre-within at k dim n c h g = let e = row-end dim c k g in omega arith
 
--- parts by their ends
-pub distance-parts : (l : List Float) (a b d : ℕ) → distance (take (a + d - a) (drop a l)) (take (b + d - b) (drop b l)) ≡ distance (part a d l) (part b d l)
-distance-parts l a b d = let e : a + d - a ≡ d = omega arith in let f : b + d - b ≡ d = omega arith in rw (e, f)
-
 -- ---- four centres
 
 nearest-step : (v : List Float) (i j best : ℕ) (least : Float) (centre : List Float) (centres : List (List Float)) (d : Float) (b : ℕ) (l : Float) → j ≡ suc i

@@ -5,4 +5,3 @@ pub mod Choice
 pub mod Marking
 pub mod Gathering
 pub mod Centring
-pub mod Spreading

@@ -6,7 +6,7 @@ use mathlib.Core.List.{List, [], _∷_, map}
 use lib.Dec.{eqb}
 use lib.ListN.{length, getD, take, drop}
 use lib.Ieee.{Float}
-use Rattle.lists.specs.Lists.{part, joined, countFrom}
+use Rattle.lists.specs.Lists.{countFrom}
 use Rattle.store.specs.Store.{vectorAt}
 use Rattle.cluster.specs.Clusters.{vectorOf, nearest, lastCentres}
 
@@ -29,16 +29,6 @@ unfoldable pub withMark : ℕ → List ℕ → List ℕ → List ℕ
 withMark j [] ids = []
 withMark j (mark ∷ marks) [] = []
 withMark j (mark ∷ marks) (id ∷ ids) = let rest = withMark j marks ids in cond (eqb mark j) (id ∷ rest) rest
-
--- the ids by their marks: first those with mark 0, then those with mark 1, and so on below k
-unfoldable pub grouped : ℕ → List ℕ → List ℕ → List ℕ
-unfolding joined withMark countFrom
-grouped k marks ids = joined (λ j. withMark j marks ids) (countFrom 0 k)
-
--- how many ids have each mark below k
-unfoldable pub groupSizes : ℕ → List ℕ → List ℕ → List ℕ
-unfolding withMark countFrom
-groupSizes k marks ids = map (λ j. length (withMark j marks ids)) (countFrom 0 k)
 
 -- Ids are below the count of vectors held, and the part of the float list from `at` on, of a size, is behind those vectors.
 -- So few ids have a number that an f32 holds.
@@ -64,9 +54,3 @@ pub record Clustered (dimension count at k : ℕ) (ids : List ℕ) (floats float
   pub marks : take (length ids) work′ ≡ assignment (vectorsIn dimension count floats) (lastCentres dimension k (vectorsIn dimension count floats) ids) ids
   pub floats-alike : AlikeBut at (k * dimension) floats floats′
   pub work-alike : AlikeBut 0 (2 * length ids) work work′
-
--- The ids are grouped by the marks in front of the work list; the sizes of the k groups stand from place 2 * n on, for n ids.
-pub record Partitioned (k : ℕ) (ids ids′ work work′ : List ℕ) : Type 0 where
-  pub ids-are : ids′ ≡ grouped k (take (length ids) work) ids
-  pub sizes-are : part (2 * length ids) k work′ ≡ groupSizes k (take (length ids) work) ids
-  pub work-alike : AlikeBut (length ids) (length ids + k) work work′

@@ -4,4 +4,3 @@ pub mod marks;
 pub mod mean;
 pub mod nearest;
 pub mod part;
-pub mod partition;

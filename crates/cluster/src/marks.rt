@@ -24,10 +24,11 @@ pub fn assign(
 {
     let mut i = 0;
     while i < ids.len() {
-        let id = ids[i] as usize;
+        let start = ids[i] as usize * dimension;
+        let end = start + dimension;
         work[i] = crate::nearest::nearest_centre(
             floats,
-            id * dimension,
+            &floats[start..end],
             centres_at,
             k,
             dimension,

@@ -11,6 +11,7 @@ ghost use Rattle.distance.specs.Distance.{one32, distance};
 
 pub mod bits;
 pub mod nan;
+pub mod places;
 pub mod root;
 pub mod total;
 pub mod vector;

@@ -1,6 +1,6 @@
 // The hits of the vectors found are measured and put into a queue.
-use crate::vectors::distance_to;
-use crate::vectors::distances;
+use distance::places::distance_at;
+use distance::places::distances_at;
 use distance::total::key;
 use order::Record;
 use order::push;
@@ -82,7 +82,8 @@ fn measure_four(
     let b = wide(heap[at + 1]);
     let c = wide(heap[at + 2]);
     let d = wide(heap[at + 3]);
-    let four = distances(floats, query, shape.dimension, a, b, c, d);
+    let size = shape.dimension;
+    let four = distances_at(floats, query, size, a * size, b * size, c * size, d * size);
     let first = hit(numbers, a, four.a);
     let second = hit(numbers, b, four.b);
     let third = hit(numbers, c, four.c);
@@ -106,7 +107,8 @@ fn measure_one(
     ensures { λ r. ⌜ Measured bound (hitsOf shape (now (floats .entry)) (now (numbers .entry)) (now (query .entry)) (part at 1 (now (heap .entry)))) count (now (heap .entry)) r (now (heap .exit)) ⌝ }
 {
     let vector = wide(heap[at]);
-    let distance = distance_to(floats, query, shape.dimension, vector);
+    let size = shape.dimension;
+    let distance = distance_at(floats, query, size, vector * size);
     let record = hit(numbers, vector, distance);
     push_within(heap, count, bound, record)
 }

@@ -276,7 +276,13 @@ module _ {ℓ} {A : Type ℓ} where
   sets-of-sets-part l a n ys h g =
       sets-in-part l a n zero ys h (let k : zero + length ys ≤ n = omega arith in k) ∙ ap (λ (k : ℕ). sets l k ys) (add-zero a)
 
-  -- ---- a lent part that came back, as the borrow checker writes it
+  -- ---- a lent part, as the borrow checker writes it
+
+  -- `&l[a..e]` of n elements
+  pub lent-is : (l : List A) (a e n : ℕ) → e ≡ a + n → take (e - a) (drop a l) ≡ part a n l
+  lent-is l a e n h = let d : e - a ≡ n = omega arith in rw d
+
+  -- ---- a lent part that came back
 
   -- `&mut l[a..e]`
   pub lent-part : (l : List A) (a e : ℕ) (ys : List A) → a ≤ e → e ≤ length l → length ys ≡ e - a

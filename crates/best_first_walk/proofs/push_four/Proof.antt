@@ -153,20 +153,32 @@ shared-slice-read-wide-4 c = search needs
 wide-requires-4 : tie.Need-wide-requires-4
 wide-requires-4 c κs = search needs
 
-add-distances : tie.Need-add-distances
-add-distances c = search needs
+add-distances-at : tie.Need-add-distances-at
+add-distances-at c = search needs
 
-add-distances-2 : tie.Need-add-distances-2
-add-distances-2 c = search needs
+mul-distances-at : tie.Need-mul-distances-at
+mul-distances-at c = omega (arith, within c (a c) (low-a c), entry c .good)
 
-add-distances-3 : tie.Need-add-distances-3
-add-distances-3 c = search needs
+add-distances-at-2 : tie.Need-add-distances-at-2
+add-distances-at-2 c = search needs
 
-add-distances-4 : tie.Need-add-distances-4
-add-distances-4 c = search needs
+mul-distances-at-2 : tie.Need-mul-distances-at-2
+mul-distances-at-2 c = omega (arith, within c (b c) (low-b c), entry c .good)
 
-distances-requires : tie.Need-distances-requires
-distances-requires c κs = (within c (a c) (low-a c), (within c (b c) (low-b c), (within c (c′ c) (low-c c), within c (d c) (low-d c))))
+add-distances-at-3 : tie.Need-add-distances-at-3
+add-distances-at-3 c = search needs
+
+mul-distances-at-3 : tie.Need-mul-distances-at-3
+mul-distances-at-3 c = omega (arith, within c (c′ c) (low-c c), entry c .good)
+
+add-distances-at-4 : tie.Need-add-distances-at-4
+add-distances-at-4 c = search needs
+
+mul-distances-at-4 : tie.Need-mul-distances-at-4
+mul-distances-at-4 c = omega (arith, within c (d c) (low-d c), entry c .good)
+
+distances-at-requires : tie.Need-distances-at-requires
+distances-at-requires c κs = (within c (a c) (low-a c), (within c (b c) (low-b c), (within c (c′ c) (low-c c), within c (d c) (low-d c))))
 
 key-requires : tie.Need-key-requires
 key-requires c κs = search needs
@@ -221,7 +233,7 @@ returns c =
     let e = entry r in
     let s = e .args .shape in
     let f = nodeFor s (e .args .floats .now) (e .args .query .now) in
-    let at = one .before .before .before .distances .ensures in
+    let at = one .before .before .before .distances-at .ensures in
     let node = node-is s (e .args .floats .now) (e .args .query .now) in
     let first-two = pushed-append s (e .args .work .now) (one .push-node .last .1 .0) (two .push-node2 .last .1 .0) (e .args .waiting) (e .args .waiting + 1) (_ ∷ []) (_ ∷ []) refl (one .push-node .ensures) (two .push-node2 .ensures) in
     let first-three = pushed-append s (e .args .work .now) (two .push-node2 .last .1 .0) (three .push-node3 .last .1 .0) (e .args .waiting) (e .args .waiting + 2) (_ ∷ _ ∷ []) (_ ∷ []) refl first-two (three .push-node3 .ensures) in
@@ -253,11 +265,15 @@ push-four-spec =
     mul-wide-4
     shared-slice-read-wide-4
     wide-requires-4
-    add-distances
-    add-distances-2
-    add-distances-3
-    add-distances-4
-    distances-requires
+    add-distances-at
+    mul-distances-at
+    add-distances-at-2
+    mul-distances-at-2
+    add-distances-at-3
+    mul-distances-at-3
+    add-distances-at-4
+    mul-distances-at-4
+    distances-at-requires
     key-requires
     push-node-requires
     add-push-node

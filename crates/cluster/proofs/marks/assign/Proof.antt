@@ -1,9 +1,11 @@
 -- `marks::assign` meets its contract. Invariant: the first i marks are written, and the rest is as it was.
-use Prim.Native.Nat.{_≤_, _-_}
-use mathlib.Core.Path.{_≡_, refl}
+use Prim.Native.Nat.{_+_, _-_, _*_, _≤_}
+use mathlib.Core.Path.{_≡_, refl, ap, _∙_}
 use native.Mathlib.Omega.{arith}
-use lib.ListN.{length, take, length-set}
+use lib.ListN.{length, getD, take, length-set}
 use lib.Seq.{sets}
+use Rattle.lists.specs.Parts.{lent-is}
+use Rattle.cluster.specs.Clusters.{nearest}
 use Rattle.cluster.specs.Lent.{vectorsIn, vectorsFrom, assignment}
 use Rattle.cluster.proofs.Sums.{vector-before}
 use Rattle.cluster.proofs.Marking.{assign-turn, assign-end, mark-fits}
@@ -22,33 +24,54 @@ abbrev μ-loop : tie.MeasureT-loop
 loop-holds : tie.Need-loop-holds Inv-loop μ-loop
 loop-holds c = (omega arith, refl, refl)
 
-mul-id : tie.Need-mul-id Inv-loop μ-loop
-mul-id c = omega arith
+-- a turn's test, and the start
+abbrev start : tie.In-loop Inv-loop μ-loop → tie.Start Inv-loop μ-loop
+start t = t .before .before .before .before .before
 
-shared-slice-read-id : tie.Need-shared-slice-read-id Inv-loop μ-loop
-shared-slice-read-id c = omega arith
+abbrev test : tie.After-nearest-centre Inv-loop μ-loop → tie.In-loop Inv-loop μ-loop
+test t = t .before .before .before
 
-cast-id : tie.Need-cast-id Inv-loop μ-loop
-cast-id c = omega (arith, c .shared-slice-known3 .given (c .before .before .loop .i))
+-- the vector of a turn's id ends before the centres begin
+near : (t : tie.In-loop Inv-loop μ-loop)
+    → getD (start t .args .ids .now) (t .before .loop .i) 0 * start t .args .dimension + start t .args .dimension ≤ start t .args .centres-at
+near t =
+    let room = start t .pre .0 in
+    vector-before (start t .args .dimension) (start t .args .count) (start t .args .centres-at) _ (room .behind) (room .below (t .before .loop .i) (t .loop-test .taken))
+
+mul-start : tie.Need-mul-start Inv-loop μ-loop
+mul-start c = omega arith
+
+shared-slice-read-start : tie.Need-shared-slice-read-start Inv-loop μ-loop
+shared-slice-read-start c = omega arith
+
+cast-start : tie.Need-cast-start Inv-loop μ-loop
+cast-start c = omega (arith, c .shared-slice-known3 .given (c .before .before .loop .i))
+
+mul-start-2 : tie.Need-mul-start-2 Inv-loop μ-loop
+mul-start-2 c = omega (arith, near (c .before), start (c .before) .good)
+
+add-end : tie.Need-add-end Inv-loop μ-loop
+add-end c = omega (arith, near (c .before), start (c .before) .good)
 
 mul-nearest-centre : tie.Need-mul-nearest-centre Inv-loop μ-loop
-mul-nearest-centre c =
-    let a = c .before .before .before .before .before .before in
-    let room = a .pre .0 in
-    let near = vector-before (a .args .dimension) (a .args .count) (a .args .centres-at) _ (room .behind) (room .below (c .before .before .loop .i) (c .before .loop-test .taken)) in
-    omega (arith, near, a .good)
+mul-nearest-centre c = omega (arith, near (c .before), start (c .before) .good)
+
+sub-nearest-centre : tie.Need-sub-nearest-centre Inv-loop μ-loop
+sub-nearest-centre c = omega arith
+
+part-nearest-centre-start : tie.Need-part-nearest-centre-start Inv-loop μ-loop
+part-nearest-centre-start c = omega arith
+
+part-nearest-centre-end : tie.Need-part-nearest-centre-end Inv-loop μ-loop
+part-nearest-centre-end c = omega (arith, near (c .before), start (c .before) .pre .0 .within)
 
 nearest-centre-requires : tie.Need-nearest-centre-requires Inv-loop μ-loop
-nearest-centre-requires c κs =
-    let a = c .before .before .before .before .before .before in
-    let room = a .pre .0 in
-    let near = vector-before (a .args .dimension) (a .args .count) (a .args .centres-at) _ (room .behind) (room .below (c .before .before .loop .i) (c .before .loop-test .taken)) in
-    (omega (arith, near, room .within), room .within)
+nearest-centre-requires c κs = start (c .before .before) .pre .0 .within
 
 cast-work : tie.Need-cast-work Inv-loop μ-loop
 cast-work c =
-    let a = c .before .before .before .before .before .before .before in
-    record { fits = mark-fits (a .args .floats .now) _ (a .args .dimension) (a .args .centres-at) (a .args .k) _ (c .nearest-centre .ensures) (a .pre .1 .0) (a .pre .1 .1 .0) }
+    let s = start (test c) in
+    record { fits = mark-fits (s .args .floats .now) _ (s .args .dimension) (s .args .centres-at) (s .args .k) _ (c .nearest-centre .ensures) (s .pre .1 .0) (s .pre .1 .1 .0) }
 
 mul-work : tie.Need-mul-work Inv-loop μ-loop
 mul-work c = omega arith
@@ -64,11 +87,16 @@ loop-less c = omega arith
 
 loop-again : tie.Need-loop-again Inv-loop μ-loop
 loop-again c =
-    let a = c .before .before .before .before .before .before .before in
-    let inv = c .before .before .before .loop .inv in (
+    let t = test c in
+    let p = start t .args in
+    let l = t .before .loop in
+    let mark =
+    c .nearest-centre .ensures
+    ∙ ap (λ v. nearest v (vectorsFrom (p .dimension) (p .k) (p .centres-at) (p .floats .now)))
+    (lent-is (p .floats .now) (getD (p .ids .now) (l .i) 0 * p .dimension) _ (p .dimension) refl) in (
       omega arith,
-      simp length-set (inv .1),
-      assign-turn _ _ _ _ _ _ _ (a .pre .0) _ _ _ (inv .2) (c .before .before .loop-test .taken) (c .nearest-centre .ensures),
+      simp length-set (l .inv .1),
+      assign-turn _ _ _ _ _ _ _ (start t .pre .0) _ _ _ (l .inv .2) (t .loop-test .taken) mark,
     )
 
 same-length : tie.Need-same-length Inv-loop μ-loop
@@ -84,10 +112,15 @@ assign-spec =
     Inv-loop
     μ-loop
     loop-holds
-    mul-id
-    shared-slice-read-id
-    cast-id
+    mul-start
+    shared-slice-read-start
+    cast-start
+    mul-start-2
+    add-end
     mul-nearest-centre
+    sub-nearest-centre
+    part-nearest-centre-start
+    part-nearest-centre-end
     nearest-centre-requires
     cast-work
     mul-work

@@ -1,11 +1,10 @@
 -- `nearest::nearest_centre` meets its contract. Invariant: what is to be chosen is what the centres from c on leave of the choice so far,
 -- which begins with centre 0 and infinity.
-use Prim.Native.Nat.{_≤_, _-_}
+use Prim.Native.Nat.{_+_, _-_, _*_, _≤_}
 use mathlib.Core.Path.{_≡_, refl, sym, _∙_}
 use native.Mathlib.Omega.{arith}
 use lib.ListN.{length, drop}
 use lib.Ieee.{ofBits, nanBits}
-use Rattle.lists.specs.Lists.{part}
 use Rattle.cluster.specs.Clusters.{nearest, nearestFrom}
 use Rattle.cluster.specs.Lent.{vectorsFrom}
 use Rattle.cluster.proofs.Choice.{four-turn, four-within}
@@ -13,13 +12,13 @@ use Rattle.cluster.proofs.nearest.nearest_centre.Statement.{statement}
 use Rattle.cluster.proofs.nearest.nearest_centre.Tie as tie
 
 abbrev Inv-loop : tie.InvT-loop
-Inv-loop floats vector-at centres-at k dimension best₀ c₀ best c =
+Inv-loop floats vector centres-at k dimension best₀ c₀ best c =
     (c ≤ k)
-    × (nearest (part vector-at dimension floats) (vectorsFrom dimension k centres-at floats)
-    ≡ nearestFrom (part vector-at dimension floats) c (best .number) (best .least) (drop c (vectorsFrom dimension k centres-at floats)))
+    × (nearest vector (vectorsFrom dimension k centres-at floats)
+    ≡ nearestFrom vector c (best .number) (best .least) (drop c (vectorsFrom dimension k centres-at floats)))
 
 abbrev μ-loop : tie.MeasureT-loop
-μ-loop floats vector-at centres-at k dimension best₀ c₀ best c = k - c
+μ-loop floats vector centres-at k dimension best₀ c₀ best c = k - c
 
 float-from-bits-t8 : tie.Need-float-from-bits-t8 Inv-loop μ-loop
 unfolding nanBits
@@ -32,26 +31,24 @@ loop-holds c = (omega arith, refl)
 sub-loop : tie.Need-sub-loop Inv-loop μ-loop
 sub-loop c = omega arith
 
+abbrev start : tie.In-loop Inv-loop μ-loop → tie.Start Inv-loop μ-loop
+start t = t .before .before .before .before
+
+-- the four centres of a turn are within the floats
+near : (t : tie.In-loop Inv-loop μ-loop)
+    → start t .args .centres-at + t .before .loop .c * start t .args .dimension + 4 * start t .args .dimension ≤ length (start t .args .floats .now)
+near t =
+    let p = start t .args in
+    four-within (p .centres-at) (p .k) (p .dimension) (length (p .floats .now)) (t .before .loop .c) (start t .pre) (omega arith)
+
 mul-closer-of-four : tie.Need-mul-closer-of-four Inv-loop μ-loop
-mul-closer-of-four c =
-    let a = c .before .before .before in
-    let here = c .before .loop .c in
-    let near = four-within (a .args .centres-at) (a .args .k) (a .args .dimension) (length (a .args .floats .now)) here (a .pre .1) (omega arith) in
-    omega (arith, near, a .good)
+mul-closer-of-four c = omega (arith, near c, start c .good)
 
 add-closer-of-four : tie.Need-add-closer-of-four Inv-loop μ-loop
-add-closer-of-four c =
-    let a = c .before .before .before in
-    let here = c .before .loop .c in
-    let near = four-within (a .args .centres-at) (a .args .k) (a .args .dimension) (length (a .args .floats .now)) here (a .pre .1) (omega arith) in
-    omega (arith, near, a .good)
+add-closer-of-four c = omega (arith, near c, start c .good)
 
 closer-of-four-requires : tie.Need-closer-of-four-requires Inv-loop μ-loop
-closer-of-four-requires c κs =
-    let a = c .before .before .before in
-    let here = c .before .loop .c in
-    let near = four-within (a .args .centres-at) (a .args .k) (a .args .dimension) (length (a .args .floats .now)) here (a .pre .1) (omega arith) in
-    (a .pre .0, (near, omega (arith, a .fits .k)))
+closer-of-four-requires c κs = (near c, omega (arith, start c .fits .k))
 
 add-c : tie.Need-add-c Inv-loop μ-loop
 add-c c = omega arith
@@ -61,18 +58,15 @@ loop-less c = omega arith
 
 loop-again : tie.Need-loop-again Inv-loop μ-loop
 loop-again c =
-    let a = c .before .before .before .before in
-    let p = a .args in
+    let p = start (c .before) .args in
     let l = c .before .before .loop in (
       omega arith,
-      four-turn (p .floats .now) _ (p .centres-at) (p .k) (p .dimension) _ (l .c) (l .best .number) (c .closer-of-four .result .number) (l .best .least)
+      four-turn (p .floats .now) (p .vector .now) (p .centres-at) (p .k) (p .dimension) _ (l .c) (l .best .number) (c .closer-of-four .result .number) (l .best .least)
           (c .closer-of-four .result .least) (l .inv .1) (omega arith) (c .closer-of-four .ensures),
     )
 
 nearest-from-requires : tie.Need-nearest-from-requires Inv-loop μ-loop
-nearest-from-requires c κs =
-    let a = c .before .before .before in
-    (a .pre .0, (a .pre .1, omega arith))
+nearest-from-requires c κs = (c .before .before .before .before .pre, omega arith)
 
 returns : tie.Need-returns Inv-loop μ-loop
 returns c = c .nearest-from .ensures ∙ sym (c .before .before .loop .inv .1)

@@ -108,8 +108,20 @@ slice-read-wide-4 c = search needs
 wide-requires-4 : tie.Need-wide-requires-4
 wide-requires-4 c κs = search needs
 
-distances-requires : tie.Need-distances-requires
-distances-requires c κs = (inside c (first c) (held-first c), (inside c (second c) (held-second c), (inside c (third c) (held-third c), inside c (fourth c) (held-fourth c))))
+mul-distances-at : tie.Need-mul-distances-at
+mul-distances-at c = omega (arith, inside c (first c) (held-first c), entry c .good)
+
+mul-distances-at-2 : tie.Need-mul-distances-at-2
+mul-distances-at-2 c = omega (arith, inside c (second c) (held-second c), entry c .good)
+
+mul-distances-at-3 : tie.Need-mul-distances-at-3
+mul-distances-at-3 c = omega (arith, inside c (third c) (held-third c), entry c .good)
+
+mul-distances-at-4 : tie.Need-mul-distances-at-4
+mul-distances-at-4 c = omega (arith, inside c (fourth c) (held-fourth c), entry c .good)
+
+distances-at-requires : tie.Need-distances-at-requires
+distances-at-requires c κs = (inside c (first c) (held-first c), (inside c (second c) (held-second c), (inside c (third c) (held-third c), inside c (fourth c) (held-fourth c))))
 
 hit-requires : tie.Need-hit-requires
 hit-requires c κs = let w = c .before in listed w (first w) (held-first w)
@@ -141,7 +153,7 @@ returns c =
     let d = h1 .before in
     let w = d .before in
     let a = entry w .args in
-    let four = d .distances .ensures in
+    let four = d .distances-at .ensures in
     let is = hit-is (a .shape) (a .floats .now) (a .numbers .now) (a .query .now) in
     subst (λ (hits : List ℕ). Measured (a .bound) hits (a .count) (a .heap .now) (pushed .result) (pushed .last .0))
     (four-mapped (hitAt (a .shape) (a .floats .now) (a .numbers .now) (a .query .now)) (a .heap .now) (a .at) 0 _ _ _ _ (entry w .pre .measure .inside)
@@ -170,7 +182,11 @@ measure-four-spec =
     mul-wide-4
     slice-read-wide-4
     wide-requires-4
-    distances-requires
+    mul-distances-at
+    mul-distances-at-2
+    mul-distances-at-3
+    mul-distances-at-4
+    distances-at-requires
     hit-requires
     hit-requires-2
     hit-requires-3

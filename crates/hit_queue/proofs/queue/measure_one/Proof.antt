@@ -7,7 +7,8 @@ use Rattle.walk.specs.LentLaws.{vector-within}
 use mathlib.Core.List.{List}
 use mathlib.Core.Path.{subst}
 use native.Mathlib.Omega.{arith}
-use Prim.Native.Nat.{ℕ, _<_}
+use lib.ListN.{length}
+use Prim.Native.Nat.{ℕ, _+_, _*_, _<_, _≤_}
 use borrow.Author.Needs.{needs}
 use Rattle.hit_queue.proofs.queue.measure_one.Statement.{statement}
 use Rattle.hit_queue.proofs.queue.measure_one.Tie as tie
@@ -23,6 +24,11 @@ held w =
     let a = entry w .args in
     number-held (a .counts) (a .heap .now) (a .count) (a .at) 1 (entry w .pre .measure) 0 (a .at) (number w) (omega arith) (omega arith) (w .wide .ensures .0)
 
+inside : (w : tie.After-wide) → number w * entry w .args .shape .dimension + entry w .args .shape .dimension ≤ length (entry w .args .floats .now)
+inside w =
+    let e = entry w in
+    vector-within (e .args .shape) (e .args .floats .now) (number w) (e .args .counts .vectors) (e .pre .lent .within .limits) (e .pre .lent .floats-size) (held w) (omega (arith, e .pre .lent .within .vectors))
+
 mul-wide : tie.Need-mul-wide
 mul-wide c = search needs
 
@@ -32,10 +38,11 @@ slice-read-wide c = search needs
 wide-requires : tie.Need-wide-requires
 wide-requires c κs = search needs
 
-distance-to-requires : tie.Need-distance-to-requires
-distance-to-requires c κs =
-    let e = entry c in
-    vector-within (e .args .shape) (e .args .floats .now) (number c) (e .args .counts .vectors) (e .pre .lent .within .limits) (e .pre .lent .floats-size) (held c) (omega (arith, e .pre .lent .within .vectors))
+mul-distance-at : tie.Need-mul-distance-at
+mul-distance-at c = omega (arith, inside c, entry c .good)
+
+distance-at-requires : tie.Need-distance-at-requires
+distance-at-requires c κs = inside c
 
 hit-requires : tie.Need-hit-requires
 hit-requires c κs =
@@ -57,7 +64,7 @@ returns c =
     let a = entry w .args in
     subst (λ (hits : List ℕ). Measured (a .bound) hits (a .count) (a .heap .now) (pushed .result) (pushed .last .0))
     (one-mapped (hitAt (a .shape) (a .floats .now) (a .numbers .now) (a .query .now)) (a .heap .now) (a .at) 0 _ (entry w .pre .measure .inside)
-    (hit-is (a .shape) (a .floats .now) (a .numbers .now) (a .query .now) _ (number w) _ _ (h .hit .ensures) (h .before .distance-to .ensures) (w .wide .ensures .0)))
+    (hit-is (a .shape) (a .floats .now) (a .numbers .now) (a .query .now) _ (number w) _ _ (h .hit .ensures) (h .before .distance-at .ensures) (w .wide .ensures .0)))
     (pushed .ensures)
 
 pub measure-one-spec : {M : Type 1} → statement M
@@ -67,7 +74,8 @@ measure-one-spec =
     mul-wide
     slice-read-wide
     wide-requires
-    distance-to-requires
+    mul-distance-at
+    distance-at-requires
     hit-requires
     push-within-requires
     same-length

@@ -5,14 +5,17 @@ use borrow.Author.Needs.{needs}
 use Rattle.hit_queue.proofs.vectors.distance_key.Statement.{statement}
 use Rattle.hit_queue.proofs.vectors.distance_key.Tie as tie
 
-distance-to-requires : tie.Need-distance-to-requires
-distance-to-requires c κs = search needs
+mul-distance-at : tie.Need-mul-distance-at
+mul-distance-at c = search needs
+
+distance-at-requires : tie.Need-distance-at-requires
+distance-at-requires c κs = search needs
 
 key-requires : tie.Need-key-requires
 key-requires c κs = search needs
 
 returns : tie.Need-returns
-returns c = c .key .ensures ∙ ap keyOf (c .before .distance-to .ensures)
+returns c = c .key .ensures ∙ ap keyOf (c .before .distance-at .ensures)
 
 pub distance-key-spec : {M : Type 1} → statement M
-distance-key-spec = tie.close (tie.spec distance-to-requires key-requires returns)
+distance-key-spec = tie.close (tie.spec mul-distance-at distance-at-requires key-requires returns)

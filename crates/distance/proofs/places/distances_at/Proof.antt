@@ -1,23 +1,10 @@
--- `distances` meets its contract: each vector is the part of the floats that is lent. Assumes nothing.
+-- `places::distances_at` meets its contract: each vector is the part of the floats that is lent. Assumes nothing.
+use Rattle.lists.specs.Parts.{lent-is}
 use Rattle.distance.specs.Distance.{distance}
-use Rattle.walk.specs.LentLaws.{lent-is}
 use mathlib.Core.Path.{refl, ap, _∙_}
-use Prim.Native.Nat.{_*_}
 use borrow.Author.Needs.{needs}
-use Rattle.hit_queue.proofs.vectors.distances.Statement.{statement}
-use Rattle.hit_queue.proofs.vectors.distances.Tie as tie
-
-mul-a-at : tie.Need-mul-a-at
-mul-a-at c = search needs
-
-mul-b-at : tie.Need-mul-b-at
-mul-b-at c = search needs
-
-mul-c-at : tie.Need-mul-c-at
-mul-c-at c = search needs
-
-mul-d-at : tie.Need-mul-d-at
-mul-d-at c = search needs
+use Rattle.distance.proofs.places.distances_at.Statement.{statement}
+use Rattle.distance.proofs.places.distances_at.Tie as tie
 
 add-a-end : tie.Need-add-a-end
 add-a-end c = search needs
@@ -84,25 +71,22 @@ cosine-distance-four-requires c κs = search needs
 
 returns : tie.Need-returns
 returns c =
-    let a = c .before .before .before .before .before .before .before .args in
-    let q = distance (a .query .now) in
-    let e = c .cosine-distance-four .ensures in
-    let n = a .dimension in (
-      e .0 ∙ ap q (lent-is (a .floats .now) _ _ (a .a * n) n refl refl),
+    let p = c .before .before .before .before .before .before .before .args in
+    let far = distance (p .query .now) in
+    let l = p .floats .now in
+    let n = p .dimension in
+    let e = c .cosine-distance-four .ensures in (
+      e .0 ∙ ap far (lent-is l (p .a) _ n refl),
       (
-        e .1 .0 ∙ ap q (lent-is (a .floats .now) _ _ (a .b * n) n refl refl),
-        (e .1 .1 .0 ∙ ap q (lent-is (a .floats .now) _ _ (a .c * n) n refl refl), e .1 .1 .1 ∙ ap q (lent-is (a .floats .now) _ _ (a .d * n) n refl refl)),
+        e .1 .0 ∙ ap far (lent-is l (p .b) _ n refl),
+        (e .1 .1 .0 ∙ ap far (lent-is l (p .c) _ n refl), e .1 .1 .1 ∙ ap far (lent-is l (p .d) _ n refl)),
       ),
     )
 
-pub distances-spec : {M : Type 1} → statement M
-distances-spec =
+pub distances-at-spec : {M : Type 1} → statement M
+distances-at-spec =
     tie.close
     (tie.spec
-    mul-a-at
-    mul-b-at
-    mul-c-at
-    mul-d-at
     add-a-end
     add-b-end
     add-c-end

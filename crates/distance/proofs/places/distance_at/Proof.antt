@@ -1,14 +1,10 @@
--- `distance_to` meets its contract: the vector is the part of the floats that is lent. Assumes nothing.
-use Rattle.walk.specs.LentLaws.{lent-is}
+-- `places::distance_at` meets its contract: the vector is the part of the floats that is lent. Assumes nothing.
+use Rattle.lists.specs.Parts.{lent-is}
 use Rattle.distance.specs.Distance.{distance}
 use mathlib.Core.Path.{refl, ap, _∙_}
-use Prim.Native.Nat.{_*_}
 use borrow.Author.Needs.{needs}
-use Rattle.hit_queue.proofs.vectors.distance_to.Statement.{statement}
-use Rattle.hit_queue.proofs.vectors.distance_to.Tie as tie
-
-mul-start : tie.Need-mul-start
-mul-start c = search needs
+use Rattle.distance.proofs.places.distance_at.Statement.{statement}
+use Rattle.distance.proofs.places.distance_at.Tie as tie
 
 add-end : tie.Need-add-end
 add-end c = search needs
@@ -30,14 +26,13 @@ cosine-distance-normalized-requires c κs = search needs
 
 returns : tie.Need-returns
 returns c =
-    let a = c .before .before .before .before .args in
-    c .cosine-distance-normalized .ensures ∙ ap (distance (a .query .now)) (lent-is (a .floats .now) _ _ (a .i * a .dimension) (a .dimension) refl refl)
+    let p = c .before .before .before .before .args in
+    c .cosine-distance-normalized .ensures ∙ ap (distance (p .query .now)) (lent-is (p .floats .now) (p .at) _ (p .dimension) refl)
 
-pub distance-to-spec : {M : Type 1} → statement M
-distance-to-spec =
+pub distance-at-spec : {M : Type 1} → statement M
+distance-at-spec =
     tie.close
     (tie.spec
-    mul-start
     add-end
     mul-cosine-distance-normalized
     sub-cosine-distance-normalized
