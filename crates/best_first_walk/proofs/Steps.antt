@@ -30,7 +30,8 @@ use Rattle.walk.specs.declared.Wanted.{Wanted}
 use Rattle.store.specs.declared.Counts.{Counts}
 use Rattle.walk.specs.Walk.{View, waitingNode, nodeNumber, Progress, hits}
 use Rattle.walk.specs.WalkLaws.{openedOne, withHits, Once, numbersOf}
-use Rattle.walk.specs.Search.{lent, Works}
+use Rattle.store.specs.Lent.{storeOf}
+use Rattle.walk.specs.Contracts.{Works}
 use Rattle.best_first_walk.specs.Walks.{foundAt, foundPart, Finds, Represents, Begins, insertEach, PushedNodes}
 use Rattle.best_first_walk.specs.WalksLaws.{insertEach-one}
 use Rattle.walk.specs.LentLaws.{works-trans, works-sets}
@@ -246,6 +247,6 @@ cleared-is s c work ys a e nodes size p q is =
 
 -- the key of a node's centroid
 pub view-key : (s : Shape) (c : Counts) (floats : List Float) (numbers hashes : List ℕ) (query : List Float) (wanted : Wanted) (i at key : ℕ) → at ≡ s .vectors + i
-    → key ≡ keyOf (distance query (vectorAt (s .dimension) floats at)) → key ≡ storeView s c (lent floats numbers hashes) query wanted .key i
+    → key ≡ keyOf (distance query (vectorAt (s .dimension) floats at)) → key ≡ storeView s c (storeOf floats numbers hashes) query wanted .key i
 unfolding storeView
 view-key s c floats numbers hashes query wanted i at key p e = e ∙ ap (λ (n : ℕ). keyOf (distance query (vectorAt (s .dimension) floats n))) p

@@ -25,9 +25,9 @@ use Rattle.store.specs.declared.Counts.{Counts}
 use Rattle.walk.specs.Walk.{View, waitingNode, Progress, State, damaged, going, walk, walkFrom, Shown, shown, give, pushAll, children, hits, damage, none, whole}
 use Rattle.walk.specs.WalkLaws.{openedOne, pushedOne, withHits, startProgress, Once, ChildrenBelow, once-kept, once-push, once-start, different-below, walk-is, walk-suc, walk-zero, step-open, none-stays, damaged-stays, some-waiting, nil-waiting, give-damage, give-children, give-hits, give-over, pushAll-nil, pushAll-fresh, pushAll-again}
 use Rattle.walk.specs.StoreView.{childrenShown}
-use Rattle.walk.specs.Search.{lent, Works}
-use Rattle.hit_queue.specs.Hits.{newVectors, Gathered, GatherDamage}
-use Rattle.hit_queue.specs.HitsLaws.{vectors-held}
+use Rattle.walk.specs.Contracts.{Works}
+use Rattle.hit_queue.specs.Hits.{Gathered, GatherDamage}
+use Rattle.store.specs.Lent.{storeOf}
 use Rattle.best_first_walk.specs.Walks.{foundAt, foundPart, Represents, Begins, insertEach, PushedNodes, WalkEnds}
 use Rattle.best_first_walk.specs.WalksLaws.{insertEach-nil, insertEach-one, insertEach-append, length-insertEach}
 use Rattle.best_first_walk.proofs.Steps.{waiting-length, represents-length, popped-waits, represents-opened, represents-marked, represents-pushed, represents-hits, withWaiting, popped-number, least-below, works-popped, works-marked, works-pushed}
@@ -41,7 +41,7 @@ abbrev pub childTest : Counts → ℕ → ℕ → Bool
 childTest c parent child = ltb parent child && ltb child (c .nodes)
 
 pub children-shown : (s : Shape) (c : Counts) (floats : List Float) (numbers hashes : List ℕ) (parent : ℕ) (l : List ℕ)
-    → childrenShown s c (lent floats numbers hashes) parent l ≡ cond (allPass (childTest c parent) l) (children l) damage
+    → childrenShown s c (storeOf floats numbers hashes) parent l ≡ cond (allPass (childTest c parent) l) (children l) damage
 unfolding childrenShown
 children-shown s c floats numbers hashes parent l = refl
 
@@ -193,40 +193,37 @@ module _ (s : Shape) (c : Counts) (hit : ℕ → ℕ) (view : View) (ef : ℕ) (
   pub found-length : (p : Progress) (work : List ℕ) (waiting found : ℕ) → Represents s c hit p work waiting found → length (p .found) ≡ found
   found-length p work waiting found r = sym (r .finds .count)
 
-  -- A leaf whose list is damaged, or has one hit too many
-  pub leaf-damage : (node : ℕ) (work : List ℕ) (waiting found opened : ℕ) (test wants : ℕ → Bool) (vector : ℕ → ℕ) (l : List ℕ)
-      → Opens s c hit view ef work₀ node work waiting found opened → shown view node ≡ cond (allPass test l) (hits (map hit (newVectors wants vector l))) damage
-      → GatherDamage test wants vector (view .most) l found → walk view ef ≡ damaged
-  leaf-damage node work waiting found opened test wants vector l (p, w, e) sh g =
-      damage-ends (ef - opened) (give view (shown view node) p) (ap (λ (x : Shown). give view x p) sh ∙ go (which (allPass test l)) g) e
+  -- A leaf whose list is not sound, or has one hit too many
+  pub leaf-damage : (node : ℕ) (work : List ℕ) (waiting found opened : ℕ) (sound : Bool) (vectors : List ℕ)
+      → Opens s c hit view ef work₀ node work waiting found opened → shown view node ≡ cond sound (hits (map hit vectors)) damage
+      → GatherDamage sound vectors (view .most) found → walk view ef ≡ damaged
+  leaf-damage node work waiting found opened sound vectors (p, w, e) sh g =
+      damage-ends (ef - opened) (give view (shown view node) p) (ap (λ (x : Shown). give view x p) sh ∙ go (which sound) g) e
     where
       new : List ℕ
-      new = map hit (newVectors wants vector l)
+      new = map hit vectors
 
-      over : view .most < length (newVectors wants vector l) + found → view .most < length new + length (p .found)
-      over h = omega (arith, h, found-length p work waiting found (w .holds), length-map (newVectors wants vector l) hit)
+      over : view .most < length vectors + found → view .most < length new + length (p .found)
+      over h = omega (arith, h, found-length p work waiting found (w .holds), length-map vectors hit)
 
-      go : (allPass test l ≡ true) ⊎ (allPass test l ≡ false) → GatherDamage test wants vector (view .most) l found
-          → give view (cond (allPass test l) (hits new) damage) p ≡ damaged
+      go : (sound ≡ true) ⊎ (sound ≡ false) → GatherDamage sound vectors (view .most) found → give view (cond sound (hits new) damage) p ≡ damaged
       go (inl t) (inl f) = absurd (false≢true (sym f ∙ t))
       go (inl t) (inr h) = ap (λ (b : Bool). give view (cond b (hits new) damage) p) t ∙ give-over view new p (over h)
       go (inr f) g = ap (λ (b : Bool). give view (cond b (hits new) damage) p) f ∙ give-damage view p
 
   -- A leaf whose vectors were added
-  pub leaf-hits : (node : ℕ) (work ys : List ℕ) (waiting found opened total : ℕ) (test wants : ℕ → Bool) (vector : ℕ → ℕ) (l : List ℕ) → waiting ≤ s .nodes
-      → ((x : ℕ) → test x ≡ true → ltb (vector x) (c .vectors) ≡ true)
-      → Opens s c hit view ef work₀ node work waiting found opened → shown view node ≡ cond (allPass test l) (hits (map hit (newVectors wants vector l))) damage
-      → length ys ≡ max (s .vectors) (s .entries) + 1 → Gathered test wants vector (view .most) l found (foundPart s work) total ys
+  pub leaf-hits : (node : ℕ) (work ys : List ℕ) (waiting found opened total : ℕ) (sound : Bool) (vectors : List ℕ) → waiting ≤ s .nodes
+      → (sound ≡ true → allPass (λ x. ltb x (c .vectors)) vectors ≡ true)
+      → Opens s c hit view ef work₀ node work waiting found opened → shown view node ≡ cond sound (hits (map hit vectors)) damage
+      → length ys ≡ max (s .vectors) (s .entries) + 1 → Gathered sound vectors (view .most) found (foundPart s work) total ys
       → Waits s c hit view ef work₀ (sets work (foundAt s) ys) waiting total opened
-  leaf-hits node work ys waiting found opened total test wants vector l few held (p, w, e) sh long g =
-      let vectors : List ℕ = newVectors wants vector l in
+  leaf-hits node work ys waiting found opened total sound vectors few held (p, w, e) sh long g =
       let new : List ℕ = map hit vectors in
       let n : length (p .found) ≡ found = found-length p work waiting found (w .holds) in
       let room : length new + length (p .found) ≤ view .most = omega (arith, n, g .count, g .few, length-map vectors hit) in (
         withHits new p,
         record {
-          holds = represents-hits s c hit p work ys waiting found (w .holds) limits long vectors total within few
-              (vectors-held test wants (λ x. ltb x (c .vectors)) vector l held (g .pass)) (g .count) (g .vectors);
+          holds = represents-hits s c hit p work ys waiting found (w .holds) limits long vectors total within few (held (g .pass)) (g .count) (g .vectors);
           once = once-kept view (c .nodes) fits below .adds p new room (w .once);
           few = omega (arith, length-append new (p .found), room);
           nodes = w .nodes;

@@ -10,7 +10,8 @@ use Rattle.lists.specs.Lists.{part, isIn}
 use Rattle.order.specs.Sorted.{sort, insert}
 use Rattle.order.specs.Records.{records, Heap}
 use Rattle.store.specs.declared.Shape.{Shape}
-use Rattle.store.specs.Store.{Limits, vectorAt, workSize, marksAt, hitsAt}
+use Rattle.store.specs.Lent.{storeOf}
+use Rattle.store.specs.Store.{Store, Limits, CountsWithin, vectorAt, floatsSize, workSize, marksAt, hitsAt}
 use Rattle.distance.specs.Distance.{distance}
 use Rattle.distance.specs.TotalOrder.{keyOf}
 use Rattle.walk.specs.declared.Wanted.{Wanted}
@@ -18,11 +19,10 @@ use Rattle.store.specs.declared.Counts.{Counts}
 use Rattle.best_first_walk.specs.declared.Walked.{Walked}
 use Rattle.walk.specs.WalkLaws.{startProgress}
 use Rattle.walk.specs.Walk.{View, Progress, State, damaged, going, walk, whole}
-use Rattle.walk.specs.StoreView.{storeView}
+use Rattle.walk.specs.StoreView.{hitAt, storeView}
 use Rattle.lists.specs.Tests.{allPass}
-use Rattle.hit_queue.specs.Hits.{hitFor}
 use Rattle.best_first_walk.specs.declared.Walked.the-variants as walked
-use Rattle.walk.specs.Search.{lent, Works}
+use Rattle.walk.specs.Contracts.{Works}
 
 -- the hits' part of the work list, and in it the numbers of the vectors found: behind two thirds of it, less one place, so that there is room for one
 -- number more than there can be hits
@@ -51,6 +51,13 @@ pub record Represents (s : Shape) (c : Counts) (hit : ℕ → ℕ) (p : Progress
   pub waits : sort (records 2 waiting work) ≡ p .waiting
   pub marks : (i : ℕ) → i < c .nodes → getD work (marksAt s + i) 0 ≡ cond (isIn i (p .pushed)) 1 0
   pub finds : Finds s c hit (p .found) work found
+
+-- to begin a walk: a store with a node, its floats, and the work list
+pub record BeginLent (s : Shape) (c : Counts) (floats : List Float) (work : List ℕ) : Type 0 where
+  pub within : CountsWithin s c
+  pub floats-size : floatsSize s ≤ length floats
+  pub some : 1 ≤ c .nodes
+  pub work-size : workSize s ≤ length work
 
 -- a walk has begun
 pub record Begins (s : Shape) (c : Counts) (hit : ℕ → ℕ) (view : View) (work work′ : List ℕ) : Type 0 where
@@ -82,6 +89,17 @@ pub record Children (s : Shape) (numbers : List ℕ) (start count : ℕ) : Type 
   pub inside : start + count ≤ length numbers
   pub held : allPass (λ x. ltb x (s .nodes)) (part start count numbers) ≡ true
 
+-- to push one node
+pub record PushNode (s : Shape) (work : List ℕ) (waiting child : ℕ) : Type 0 where
+  pub nodes : PushNodes s work waiting 1
+  pub below : child < s .nodes
+
+-- to push the nodes whose numbers stand in a list, by the distances of their centroids
+pub record PushLent (s : Shape) (floats : List Float) (numbers work : List ℕ) (waiting start count : ℕ) : Type 0 where
+  pub floats-size : floatsSize s ≤ length floats
+  pub nodes : PushNodes s work waiting count
+  pub children : Children s numbers start count
+
 -- nodes were put into the queue; nothing behind it changed
 pub record PushedNodes (s : Shape) (work : List ℕ) (waiting : ℕ) (new work′ : List ℕ) : Type 0 where
   pub queue : Heap (records 2 (waiting + length new) work′)
@@ -102,12 +120,12 @@ WalkEnds s c hit (going p) walked.Damaged work = ⊥
 WalkEnds s c hit (going p) (walked.Ended found opened complete) work = EndsAs s c hit p found opened complete work
 
 -- The walk is the walk of the store's view: damaged exactly where that is, and otherwise with its hits, its opened nodes, whole or cut
-pub record Walks (s : Shape) (c : Counts) (ef : ℕ) (floats : List Float) (numbers hashes : List ℕ) (query : List Float) (wanted : Wanted)
+pub record Walks (s : Shape) (c : Counts) (ef : ℕ) (store : Store) (query : List Float) (wanted : Wanted)
     (work : List ℕ) (r : Walked) (work′ : List ℕ) : Type 0 where
-  pub ends : WalkEnds s c (hitFor s floats numbers query) (walk (storeView s c (lent floats numbers hashes) query wanted) ef) r work′
+  pub ends : WalkEnds s c (hitAt s (store .floats) (store .numbers) query) (walk (storeView s c store query wanted) ef) r work′
   pub works : Works s work work′
 
 -- a walk from a query has begun, whatever numbers and hashes the store has
 abbrev pub BeginsAny : Shape → Counts → List Float → List Float → List ℕ → List ℕ → Type 0
 BeginsAny s c floats query work work′ =
-    (hit : ℕ → ℕ) (numbers hashes : List ℕ) (wanted : Wanted) → Begins s c hit (storeView s c (lent floats numbers hashes) query wanted) work work′
+    (hit : ℕ → ℕ) (numbers hashes : List ℕ) (wanted : Wanted) → Begins s c hit (storeView s c (storeOf floats numbers hashes) query wanted) work work′

@@ -11,27 +11,29 @@ use Rattle.lists.specs.Parts.{length-part}
 use Rattle.store.specs.declared.Shape.{Shape}
 use Rattle.store.specs.Store.{Limits, hitsAt, workSize}
 use Rattle.walk.specs.declared.Wanted.{Wanted}
-use Rattle.walk.specs.declared.Wanted.the-variants.{Everything, Label}
 use Rattle.store.specs.declared.Counts.{Counts}
-use Rattle.hit_queue.specs.Hits.{mostOf}
+use Rattle.walk.specs.Wanted.{LeafList, vector-list, entry-list, listRead, heldIn, most}
 use Rattle.order.specs.Sorted.{sort, insert}
 use Rattle.order.specs.SortedLaws.{length-insert}
 use Rattle.order.specs.Records.{records, Heap}
 use Rattle.walk.specs.StoreView.{storeView}
 use Rattle.lists.specs.Tests.{allPass, and-left, and-right, allPass-nil, allPass-cons}
 use Rattle.walk.specs.Walk.{waitingNode}
-use Rattle.walk.specs.Search.{lent}
+use Rattle.store.specs.Lent.{storeOf}
 use Rattle.best_first_walk.specs.Walks.{hitsPart, foundAt, foundPart, insertEach, nodesOf, PushedNodes}
 
-pub hits-room : (s : Shape) (c : Counts) (wanted : Wanted) (work : List ℕ) → c .vectors ≤ s .vectors → c .entries ≤ s .entries → workSize s ≤ length work
-    → mostOf c wanted * 3 ≤ length (hitsPart s work)
-hits-room s c Everything work v e size = rw (length-part (hitsAt s) (3 * max (s .vectors) (s .entries)) work size) (omega arith)
-hits-room s c (Label hash) work v e size = rw (length-part (hitsAt s) (3 * max (s .vectors) (s .entries)) work size) (omega arith)
-
 -- no more hits than the larger of the capacities
-pub few-hits : (s : Shape) (c : Counts) (wanted : Wanted) → c .vectors ≤ s .vectors → c .entries ≤ s .entries → mostOf c wanted ≤ max (s .vectors) (s .entries)
-few-hits s c Everything v e = omega arith
-few-hits s c (Label hash) v e = omega arith
+few-held : (s : Shape) (c : Counts) (l : LeafList) → c .vectors ≤ s .vectors → c .entries ≤ s .entries → heldIn l c ≤ max (s .vectors) (s .entries)
+few-held s c vector-list v e = omega arith
+few-held s c entry-list v e = omega arith
+
+pub few-hits : (s : Shape) (c : Counts) (wanted : Wanted) → c .vectors ≤ s .vectors → c .entries ≤ s .entries → most wanted c ≤ max (s .vectors) (s .entries)
+few-hits s c wanted v e = few-held s c (listRead wanted) v e
+
+pub hits-room : (s : Shape) (c : Counts) (wanted : Wanted) (work : List ℕ) → c .vectors ≤ s .vectors → c .entries ≤ s .entries → workSize s ≤ length work
+    → most wanted c * 3 ≤ length (hitsPart s work)
+hits-room s c wanted work v e size =
+    rw (length-part (hitsAt s) (3 * max (s .vectors) (s .entries)) work size) (let t : most wanted c ≤ max (s .vectors) (s .entries) = few-hits s c wanted v e in omega (arith, t))
 
 pub length-found : (s : Shape) (work : List ℕ) → Limits s → workSize s ≤ length work → length (foundPart s work) ≡ max (s .vectors) (s .entries) + 1
 length-found s work limits size = length-part (foundAt s) (max (s .vectors) (s .entries) + 1) work (omega (arith, limits .vectors-low))
@@ -80,6 +82,6 @@ pushed-append s work work₁ work₂ waiting one xs ys e a b =
 
 -- nodes wait as the store's view has them
 pub nodes-wait : (s : Shape) (c : Counts) (floats : List Float) (numbers hashes : List ℕ) (query : List Float) (wanted : Wanted) (l : List ℕ)
-    → nodesOf s floats query l ≡ map (waitingNode (storeView s c (lent floats numbers hashes) query wanted)) l
+    → nodesOf s floats query l ≡ map (waitingNode (storeView s c (storeOf floats numbers hashes) query wanted)) l
 unfolding storeView
 nodes-wait s c floats numbers hashes query wanted l = refl

@@ -21,8 +21,9 @@ ghost use lib.Dec.{ltb, eqb};
 ghost use lib.ListN.{length, getD, replicate};
 ghost use Rattle.lists.specs.Lists.{part};
 ghost use Rattle.store.specs.Store.{Limits};
-ghost use Rattle.walk.specs.Search.{FloatsLent, NumbersLent, HashesLent, WorkLent};
-ghost use Rattle.best_first_walk.specs.Walks.{foundAt, BeginsAny, PushNodes, PushedNodes, Children, nodesOf, Walks};
+ghost use Rattle.store.specs.Lent.{lent};
+ghost use Rattle.walk.specs.Contracts.{StoreLent};
+ghost use Rattle.best_first_walk.specs.Walks.{foundAt, BeginLent, BeginsAny, PushNode, PushLent, PushedNodes, nodesOf, Walks};
 
 // How a walk ended: with vectors found, each of them a hit, or at damage. It is whole if no node waited.
 pub enum Walked {
@@ -71,8 +72,7 @@ fn fresh_child(work: &[u32], marks_at: usize, nodes: usize, parent: usize, child
 
 // Puts a node with its distance's key into the queue of waiting nodes.
 fn push_node(shape: Shape, work: &mut [u32], waiting: usize, child: usize, key: u32)
-    requires { ⌜ PushNodes shape (now work) waiting 1 ⌝ }
-    requires { ⌜ child < shape .nodes ⌝ }
+    requires { ⌜ PushNode shape (now work) waiting child ⌝ }
     ensures { λ _. ⌜ PushedNodes shape (now (work .entry)) waiting ((key * 2 ^ 64 + child) ∷ []) (now (work .exit)) ⌝ }
 {
     push(
@@ -88,8 +88,7 @@ fn push_node(shape: Shape, work: &mut [u32], waiting: usize, child: usize, key: 
 
 // Begins a walk: the root alone is marked, and it waits.
 fn begin(shape: Shape, counts: Counts, floats: &[f32], work: &mut [u32], query: &[f32])
-    requires { ⌜ FloatsLent shape (now floats) ⌝ }
-    requires { ⌜ WorkLent shape counts (now work) ⌝ }
+    requires { ⌜ BeginLent shape counts (now floats) (now work) ⌝ }
     ensures { λ _. ⌜ BeginsAny shape counts (now (floats .entry)) (now (query .entry)) (now (work .entry)) (now (work .exit)) ⌝ }
 {
     let start = shape.marks_at();
@@ -110,9 +109,7 @@ fn push_four(
     waiting: usize,
     at: usize,
 )
-    requires { ⌜ FloatsLent shape (now floats) ⌝ }
-    requires { ⌜ PushNodes shape (now work) waiting 4 ⌝ }
-    requires { ⌜ Children shape (now numbers) at 4 ⌝ }
+    requires { ⌜ PushLent shape (now floats) (now numbers) (now work) waiting at 4 ⌝ }
     ensures { λ _. ⌜ PushedNodes shape (now (work .entry)) waiting (nodesOf shape (now (floats .entry)) (now (query .entry)) (part at 4 (now (numbers .entry)))) (now (work .exit)) ⌝ }
 {
     let a = wide(numbers[at]);
@@ -146,9 +143,7 @@ fn push_one(
     waiting: usize,
     at: usize,
 )
-    requires { ⌜ FloatsLent shape (now floats) ⌝ }
-    requires { ⌜ PushNodes shape (now work) waiting 1 ⌝ }
-    requires { ⌜ Children shape (now numbers) at 1 ⌝ }
+    requires { ⌜ PushLent shape (now floats) (now numbers) (now work) waiting at 1 ⌝ }
     ensures { λ _. ⌜ PushedNodes shape (now (work .entry)) waiting (nodesOf shape (now (floats .entry)) (now (query .entry)) (part at 1 (now (numbers .entry)))) (now (work .exit)) ⌝ }
 {
     let child = wide(numbers[at]);
@@ -167,9 +162,7 @@ fn push_children(
     start: usize,
     count: usize,
 )
-    requires { ⌜ FloatsLent shape (now floats) ⌝ }
-    requires { ⌜ PushNodes shape (now work) waiting count ⌝ }
-    requires { ⌜ Children shape (now numbers) start count ⌝ }
+    requires { ⌜ PushLent shape (now floats) (now numbers) (now work) waiting start count ⌝ }
     ensures { λ _. ⌜ PushedNodes shape (now (work .entry)) waiting (nodesOf shape (now (floats .entry)) (now (query .entry)) (part start count (now (numbers .entry)))) (now (work .exit)) ⌝ }
 {
     let mut j = 0;
@@ -196,11 +189,8 @@ pub fn best_first_walk(
     query: &[f32],
     wanted: Wanted,
 ) -> Walked
-    requires { ⌜ FloatsLent shape (now floats) ⌝ }
-    requires { ⌜ NumbersLent shape counts (now numbers) ⌝ }
-    requires { ⌜ HashesLent shape (now hashes) ⌝ }
-    requires { ⌜ WorkLent shape counts (now work) ⌝ }
-    ensures { λ r. ⌜ Walks shape counts «ef_search» (now (floats .entry)) (now (numbers .entry)) (now (hashes .entry)) (now (query .entry)) wanted (now (work .entry)) r (now (work .exit)) ⌝ }
+    requires { ⌜ StoreLent shape counts (lent floats numbers hashes) (now work) ⌝ }
+    ensures { λ r. ⌜ Walks shape counts «ef_search» (lent (floats .entry) (numbers .entry) (hashes .entry)) (now (query .entry)) wanted (now (work .entry)) r (now (work .exit)) ⌝ }
 {
     let nodes = counts.nodes;
     let marks_at = shape.marks_at();

@@ -9,7 +9,7 @@ use lib.Dec.{ltb, eqb}
 use lib.ListN.{getD, drop}
 use lib.Ieee.{Float}
 use Rattle.lists.specs.Counting.{keep-nil, keep-pass, keep-fail, keep-all}
-use Rattle.lists.specs.Tests.{which, allPass, and-left, and-right, allPass-nil, allPass-cons}
+use Rattle.lists.specs.Tests.{which, allPass, and-left, and-right, allPass-nil, allPass-cons, allPass-append}
 use Rattle.lists.specs.Lists.{part, keep}
 use Rattle.lists.specs.Parts.{part-append-parts}
 use Rattle.order.specs.declared.Record.{Record}

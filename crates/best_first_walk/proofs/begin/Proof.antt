@@ -1,7 +1,7 @@
 -- `begin` meets its contract: cleared marks, the root marked, and the root pushed. Assumes nothing.
 use Rattle.best_first_walk.proofs.Steps.{cleared-is, view-key, begins}
 use Rattle.walk.specs.LentLaws.{vector-within}
-use Rattle.walk.specs.Search.{lent}
+use Rattle.store.specs.Lent.{storeOf}
 use Rattle.best_first_walk.specs.Walks.{PushedNodes}
 use Rattle.walk.specs.StoreView.{storeView}
 use Rattle.store.specs.Store.{marksAt}
@@ -32,7 +32,7 @@ cleared : (d : tie.After-clear)
     ≡ sets (entry d .args .work .now) (marksAt (entry d .args .shape)) (replicate (entry d .args .counts .nodes) 0)
 cleared d =
     let e = entry d in
-    cleared-is (e .args .shape) (e .args .counts) (e .args .work .now) (d .clear .last .0) (start d) (end d) (e .pre .1 .nodes) (e .pre .1 .size) (d .before .before .before .marks-at .ensures) refl (d .clear .ensures)
+    cleared-is (e .args .shape) (e .args .counts) (e .args .work .now) (d .clear .last .0) (start d) (end d) (e .pre .within .nodes) (e .pre .work-size) (d .before .before .before .marks-at .ensures) refl (d .clear .ensures)
 
 -- and the root is marked
 abbrev marked : tie.After-clear → List ℕ
@@ -80,20 +80,21 @@ slice-write-work c = search needs
 distance-key-requires : tie.Need-distance-key-requires
 distance-key-requires c κs =
     let e = entry (c .before .before) in
-    vector-within (e .args .shape) (e .args .floats .now) (e .args .shape .vectors) (e .args .shape .vectors + e .args .shape .nodes) (e .pre .0 .limits) (e .pre .0 .size) (omega (arith, e .pre .1 .limits .nodes-low)) (omega arith)
+    vector-within (e .args .shape) (e .args .floats .now) (e .args .shape .vectors) (e .args .shape .vectors + e .args .shape .nodes) (e .pre .within .limits) (e .pre .floats-size) (omega (arith, e .pre .within .limits .nodes-low)) (omega arith)
 
 push-node-requires : tie.Need-push-node-requires
 push-node-requires c κs =
     let d = c .before .before .before .before in
-    let e = entry d in (
-      record {
-        size = rw (marked-is d) (omega (arith, marked-size d, e .pre .1 .size));
-        limits = e .pre .1 .limits;
-        room = e .pre .1 .limits .nodes-low;
+    let e = entry d in
+    record {
+      nodes = record {
+        size = rw (marked-is d) (omega (arith, marked-size d, e .pre .work-size));
+        limits = e .pre .within .limits;
+        room = e .pre .within .limits .nodes-low;
         queue = heap-none 2 _;
-      },
-      e .pre .1 .limits .nodes-low,
-    )
+      };
+      below = e .pre .within .limits .nodes-low;
+    }
 
 same-length : tie.Need-same-length
 same-length c =
@@ -106,9 +107,9 @@ returns c =
     let d = c .before .before .before .before .before .before .before in
     let e = entry d in
     λ hit numbers hashes wanted.
-    let view = storeView (e .args .shape) (e .args .counts) (lent (e .args .floats .now) numbers hashes) (e .args .query .now) wanted in
+    let view = storeView (e .args .shape) (e .args .counts) (storeOf (e .args .floats .now) numbers hashes) (e .args .query .now) wanted in
     let key = view-key (e .args .shape) (e .args .counts) (e .args .floats .now) numbers hashes (e .args .query .now) wanted 0 (e .args .shape .vectors) _ (sym (add-zero (e .args .shape .vectors))) (c .before .before .before .before .distance-key .ensures) in
-    begins (e .args .shape) (e .args .counts) hit view (e .args .work .now) _ (e .pre .1 .nodes) (e .pre .1 .some) (e .pre .1 .size)
+    begins (e .args .shape) (e .args .counts) hit view (e .args .work .now) _ (e .pre .within .nodes) (e .pre .some) (e .pre .work-size)
     (subst₂ (λ work key. PushedNodes (e .args .shape) work 0 ((key * 2 ^ 64 + 0) ∷ []) (p .last .1 .0)) (marked-is d) key (p .ensures))
 
 pub begin-spec : {M : Type 1} → statement M

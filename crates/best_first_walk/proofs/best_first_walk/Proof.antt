@@ -3,16 +3,19 @@
 use Rattle.best_first_walk.proofs.Walking.{Waits, Opens, Marks, childTest, children-shown, waits-from, next-child, fresh-is, waits-start, few-wait, opens, opens-below, found-length, opens-damage, leaf-damage, leaf-hits, marks-start, child-damage, child-low, child-marked, children-room, children-held, children-pushed, ends-damaged, ends-whole, ends-cut}
 use Rattle.best_first_walk.specs.Walks.{foundAt, foundPart, nodesOf}
 use Rattle.best_first_walk.specs.WalksLaws.{few-hits, length-found, nodes-wait}
-use Rattle.hit_queue.specs.Hits.{AddHits, Gathers, passes, has, vectorOf, newVectors, hitFor, mostOf}
-use Rattle.hit_queue.specs.HitsLaws.{view-most, list-shown, vector-held}
+use Rattle.hit_queue.specs.Hits.{AddHits, Gathers, entriesOf}
+use Rattle.walk.specs.Wanted.{EntryRead, passes, given, most}
+use Rattle.walk.specs.WantedLaws.{given-held}
+use Rattle.store.specs.Lent.{storeOf}
+use Rattle.hit_queue.specs.HitsLaws.{list-shown}
 use Rattle.hit_queue.specs.declared.gather.Added.{Added}
 use Rattle.hit_queue.specs.declared.gather.Added.the-variants as added
 use Rattle.walk.specs.declared.look.Look.{Look}
 use Rattle.walk.specs.declared.look.Look.the-variants as look
 use Rattle.walk.specs.LentLaws.{lent-is, works-trans, works-sets}
-use Rattle.walk.specs.Search.{lent, WorkLent, Works, Looks}
-use Rattle.walk.specs.StoreView.{storeView}
-use Rattle.lists.specs.Tests.{allPass}
+use Rattle.walk.specs.Contracts.{StoreLent, Works, Looks}
+use Rattle.walk.specs.StoreView.{hitAt, storeView}
+use Rattle.lists.specs.Tests.{allPass, all-pass}
 use Rattle.walk.specs.StoreViewLaws.{store-children-below}
 use Rattle.walk.specs.Walk.{View, hits, damage, shown}
 use Rattle.walk.specs.WalkLaws.{ChildrenBelow}
@@ -20,13 +23,13 @@ use Rattle.store.specs.Store.{marksAt, workSize}
 use Rattle.lists.specs.Lists.{part}
 use Rattle.lists.specs.Parts.{length-part, lent-part}
 use borrow.Author.Needs.{needs}
-use borrow.Author.Tests.{not-true, not-false}
-use lib.Dec.{eqb}
+use borrow.Author.Tests.{not-true, not-false, lt-ltb}
+use lib.Dec.{eqb, ltb}
 use lib.ListN.{length, getD, take, drop, set}
 use lib.Seq.{sets}
 use mathlib.Core.Bool.{Bool, true, false, _&&_, cond}
 use mathlib.Core.List.{List, _++_, map}
-use mathlib.Core.Path.{_≡_, sym, ap, subst, _∙_}
+use mathlib.Core.Path.{_≡_, refl, sym, ap, subst, _∙_}
 use native.Mathlib.Omega.{arith}
 use Prim.Native.Nat.{ℕ, _+_, _-_, _≤_, _<_, max}
 use Rattle.best_first_walk.proofs.best_first_walk.Statement.{statement}
@@ -36,14 +39,14 @@ abbrev Inv-loop : tie.InvT-loop
 Inv-loop shape counts ef-search floats numbers hashes work₀ query wanted nodes marks-at found-at found-end waiting opened found node start count j₀ work j =
     (j ≤ count)
     × (start + count ≤ length numbers)
-    × Marks shape counts (hitFor shape floats numbers query) (storeView shape counts (lent floats numbers hashes) query wanted) ef-search work₀ node (part start count numbers) j work waiting found opened
+    × Marks shape counts (hitAt shape floats numbers query) (storeView shape counts (storeOf floats numbers hashes) query wanted) ef-search work₀ node (part start count numbers) j work waiting found opened
 
 abbrev μ-loop : tie.MeasureT-loop
 μ-loop shape counts ef-search floats numbers hashes work₀ query wanted nodes marks-at found-at found-end waiting opened found node start count j₀ work j = count - j
 
 abbrev Inv-walk : tie.InvT-walk
 Inv-walk shape counts ef-search floats numbers hashes work₀ query wanted nodes marks-at found-at found-end waiting₀ opened₀ found₀ work waiting opened found =
-    Waits shape counts (hitFor shape floats numbers query) (storeView shape counts (lent floats numbers hashes) query wanted) ef-search work₀ work waiting found opened
+    Waits shape counts (hitAt shape floats numbers query) (storeView shape counts (storeOf floats numbers hashes) query wanted) ef-search work₀ work waiting found opened
 
 abbrev μ-walk : tie.MeasureT-walk
 μ-walk shape counts ef-search floats numbers hashes work₀ query wanted nodes marks-at found-at found-end waiting₀ opened₀ found₀ work waiting opened found = ef-search - opened
@@ -126,16 +129,16 @@ read a = a .before .before
 -- ---- what is known at each
 
 abbrev hit : Entry → ℕ → ℕ
-hit e = hitFor (e .args .shape) (e .args .floats .now) (e .args .numbers .now) (e .args .query .now)
+hit e = hitAt (e .args .shape) (e .args .floats .now) (e .args .numbers .now) (e .args .query .now)
 
 abbrev view : Entry → View
-view e = storeView (e .args .shape) (e .args .counts) (lent (e .args .floats .now) (e .args .numbers .now) (e .args .hashes .now)) (e .args .query .now) (e .args .wanted)
+view e = storeView (e .args .shape) (e .args .counts) (storeOf (e .args .floats .now) (e .args .numbers .now) (e .args .hashes .now)) (e .args .query .now) (e .args .wanted)
 
 below : (e : Entry) → ChildrenBelow (view e) (e .args .counts .nodes)
-below e = store-children-below (e .args .shape) (e .args .counts) (lent (e .args .floats .now) (e .args .numbers .now) (e .args .hashes .now)) (e .args .query .now) (e .args .wanted)
+below e = store-children-below (e .args .shape) (e .args .counts) (storeOf (e .args .floats .now) (e .args .numbers .now) (e .args .hashes .now)) (e .args .query .now) (e .args .wanted)
 
-lends : (e : Entry) → WorkLent (e .args .shape) (e .args .counts) (e .args .work .now)
-lends e = e .pre .1 .1 .1
+lends : (e : Entry) → StoreLent (e .args .shape) (e .args .counts) (storeOf (e .args .floats .now) (e .args .numbers .now) (e .args .hashes .now)) (e .args .work .now)
+lends e = e .pre
 
 -- the work list with the root in it
 abbrev first : Begun → List ℕ
@@ -158,7 +161,7 @@ few : (t : Turn) → t .walk .waiting ≤ entry (begun t) .args .shape .nodes
 few t =
     let e = entry (begun t) in
     let w = lends e in
-    few-wait (e .args .shape) (e .args .counts) (hit e) (view e) (e .args .ef-search) (first (begun t)) (w .limits) (w .nodes) (w .some) (below e) (t .walk .work) (t .walk .waiting) (t .walk .hits) (t .walk .opened) (t .walk .inv)
+    few-wait (e .args .shape) (e .args .counts) (hit e) (view e) (e .args .ef-search) (first (begun t)) (w .within .limits) (w .within .nodes) (w .some) (below e) (t .walk .work) (t .walk .waiting) (t .walk .hits) (t .walk .opened) (t .walk .inv)
 
 ended-works : (t : Turn) → Works (entry (begun t) .args .shape) (entry (begun t) .args .work .now) (t .walk .work)
 ended-works t = works-trans (entry (begun t) .args .shape) (entry (begun t) .args .work .now) (first (begun t)) (t .walk .work) (first-works (begun t)) (t .walk .inv .1 .works)
@@ -175,7 +178,7 @@ node-low p =
     let t = turn p in
     let e = entry (begun t) in
     let w = lends e in
-    opens-below (e .args .shape) (e .args .counts) (hit e) (view e) (e .args .ef-search) (first (begun t)) (w .limits) (w .nodes) (w .some) (below e) (t .walk .work) (work p) (t .walk .waiting) (t .walk .hits) (t .walk .opened) (p .pop .result) (t .walk .inv) (p .pop .ensures)
+    opens-below (e .args .shape) (e .args .counts) (hit e) (view e) (e .args .ef-search) (first (begun t)) (w .within .limits) (w .within .nodes) (w .some) (below e) (t .walk .work) (work p) (t .walk .waiting) (t .walk .hits) (t .walk .opened) (p .pop .result) (t .walk .inv) (p .pop .ensures)
 
 opened : (p : Least) → Opens (entry (begun (turn p)) .args .shape) (entry (begun (turn p)) .args .counts) (hit (entry (begun (turn p)))) (view (entry (begun (turn p)))) (entry (begun (turn p)) .args .ef-search)
     (first (begun (turn p))) (node p) (work p) (turn p .walk .waiting - 1) (turn p .walk .hits) (turn p .walk .opened + 1)
@@ -183,7 +186,7 @@ opened p =
     let t = turn p in
     let e = entry (begun t) in
     let w = lends e in
-    opens (e .args .shape) (e .args .counts) (hit e) (view e) (e .args .ef-search) (first (begun t)) (w .limits) (w .nodes) (w .some) (below e) (t .walk .work) (work p) (t .walk .waiting) (t .walk .hits) (t .walk .opened) (p .pop .result) (t .walk .inv) (p .before .before .if2 .left) (p .pop .ensures)
+    opens (e .args .shape) (e .args .counts) (hit e) (view e) (e .args .ef-search) (first (begun t)) (w .within .limits) (w .within .nodes) (w .some) (below e) (t .walk .work) (work p) (t .walk .waiting) (t .walk .hits) (t .walk .opened) (p .pop .result) (t .walk .inv) (p .before .before .if2 .left) (p .pop .ensures)
 
 opened-works : (p : Least) → Works (entry (begun (turn p)) .args .shape) (entry (begun (turn p)) .args .work .now) (work p)
 opened-works p = let e = entry (begun (turn p)) in works-trans (e .args .shape) (e .args .work .now) (first (begun (turn p))) (work p) (first-works (begun (turn p))) (opened p .1 .works)
@@ -200,17 +203,24 @@ shows o r is = subst (Shows o) is (o .look-at .ensures)
 abbrev at-leaf : Leaf → Entry
 at-leaf l = entry (begun (turn (least (leaf l))))
 
-abbrev test : Entry → ℕ → Bool
-test e = passes (e .args .shape) (e .args .counts) (e .args .numbers .now) (e .args .wanted)
+-- whether all numbers of a list pass, and the vectors that it gives
+abbrev read-entries : Entry → EntryRead
+read-entries e = entriesOf (e .args .shape) (e .args .numbers .now) (e .args .hashes .now)
 
-abbrev wants : Entry → ℕ → Bool
-wants e = has (e .args .hashes .now) (e .args .wanted)
+abbrev passed : Entry → List ℕ → Bool
+passed e l = allPass (passes (e .args .wanted) (e .args .counts) (read-entries e)) l
 
-abbrev vector : Entry → ℕ → ℕ
-vector e = vectorOf (e .args .shape) (e .args .numbers .now) (e .args .wanted)
+abbrev vectors : Entry → List ℕ → List ℕ
+vectors e l = given (e .args .wanted) (read-entries e) l
 
-most : (e : Entry) → view e .most ≡ mostOf (e .args .counts) (e .args .wanted)
-most e = view-most (e .args .shape) (e .args .counts) (e .args .floats .now) (e .args .numbers .now) (e .args .hashes .now) (e .args .query .now) (e .args .wanted)
+vectors-held : (e : Entry) (l : List ℕ) → passed e l ≡ true → allPass (λ x. ltb x (e .args .counts .vectors)) (vectors e l) ≡ true
+vectors-held e l t =
+    all-pass (λ x. ltb x (e .args .counts .vectors)) (vectors e l)
+    (λ v m. lt-ltb v (e .args .counts .vectors) (given-held (e .args .wanted) (e .args .counts) (read-entries e) l t v m))
+
+most-is : (e : Entry) → view e .most ≡ most (e .args .wanted) (e .args .counts)
+unfolding storeView
+most-is e = refl
 
 abbrev list : Leaf → List ℕ
 list l = part (l .shown .given .0 .0 .start) (l .shown .given .0 .0 .count) (at-leaf l .args .numbers .now)
@@ -219,7 +229,7 @@ list-room : (l : Leaf) → l .shown .given .0 .0 .start + l .shown .given .0 .0 
 list-room l = shows (leaf l) (look.Leaf (l .shown .given .0 .0)) (l .shown .given .1) .0
 
 list-is : (l : Leaf) → shown (view (at-leaf l)) (node (least (leaf l)))
-    ≡ cond (allPass (test (at-leaf l)) (list l)) (hits (map (hit (at-leaf l)) (newVectors (wants (at-leaf l)) (vector (at-leaf l)) (list l)))) damage
+    ≡ cond (passed (at-leaf l) (list l)) (hits (map (hit (at-leaf l)) (vectors (at-leaf l) (list l)))) damage
 list-is l =
     let e = at-leaf l in
     shows (leaf l) (look.Leaf (l .shown .given .0 .0)) (l .shown .given .1) .1 (e .args .floats .now) (e .args .query .now)
@@ -234,7 +244,7 @@ lent-found p =
     let b = begun (turn p) in
     let s = entry b .args .shape in
     lent-is (work p) (b .before .before .before .found-at .result) (b .before .before .work-size .result) (foundAt s) (max (s .vectors) (s .entries) + 1) (found-start b)
-    (omega (arith, found-end b, lends (entry b) .limits .vectors-low))
+    (omega (arith, found-end b, lends (entry b) .within .limits .vectors-low))
 
 work-room : (p : Least) → workSize (entry (begun (turn p)) .args .shape) ≤ length (work p)
 work-room p = opened p .1 .holds .size
@@ -256,15 +266,15 @@ back-length : (h : Hits) → length (back h) ≡ max (at-leaf (from h) .args .sh
 back-length h =
     let p = at-hits h in
     let s = at-leaf (from h) .args .shape in
-    h .add-hits .kept .1 .1 .1 .1 .0 ∙ ap length (lent-found p) ∙ length-found s (work p) (lends (at-leaf (from h)) .limits) (work-room p)
+    h .add-hits .kept .1 .1 .1 .1 .0 ∙ ap length (lent-found p) ∙ length-found s (work p) (lends (at-leaf (from h)) .within .limits) (work-room p)
 
 after-is : (h : Hits) → after h ≡ sets (work (at-hits h)) (foundAt (at-leaf (from h) .args .shape)) (back h)
 after-is h =
     let p = at-hits h in
     let b = begun (turn p) in
     lent-part (work p) (b .before .before .before .found-at .result) (b .before .before .work-size .result) (back h)
-    (omega (arith, found-start b, found-end b, lends (entry b) .limits .vectors-low)) (omega (arith, found-end b, work-room p))
-    (omega (arith, back-length h, found-start b, found-end b, lends (entry b) .limits .vectors-low))
+    (omega (arith, found-start b, found-end b, lends (entry b) .within .limits .vectors-low)) (omega (arith, found-end b, work-room p))
+    (omega (arith, back-length h, found-start b, found-end b, lends (entry b) .within .limits .vectors-low))
     ∙ ap (λ (at : ℕ). sets (work p) at (back h)) (found-start b)
 
 after-works : (h : Hits) → Works (at-leaf (from h) .args .shape) (at-leaf (from h) .args .work .now) (after h)
@@ -272,19 +282,19 @@ after-works h =
     let p = at-hits h in
     let e = at-leaf (from h) in
     works-trans (e .args .shape) (e .args .work .now) (work p) (after h) (opened-works p)
-    (subst (Works (e .args .shape) (work p)) (sym (after-is h)) (works-sets (e .args .shape) (work p) (back h) (foundAt (e .args .shape)) (omega (arith, back-length h, lends e .limits .vectors-low))))
+    (subst (Works (e .args .shape) (work p)) (sym (after-is h)) (works-sets (e .args .shape) (work p) (back h) (foundAt (e .args .shape)) (omega (arith, back-length h, lends e .within .limits .vectors-low))))
 
 -- what the leaf gave
 abbrev Gave : Hits → ℕ → List ℕ → Added → Type 0
-Gave h n heap r = let e = at-leaf (from h) in Gathers (test e) (wants e) (vector e) n (list (from h)) (turn (at-hits h) .walk .hits) heap r (back h)
+Gave h n heap r = let e = at-leaf (from h) in Gathers (passed e (list (from h))) (vectors e (list (from h))) n (turn (at-hits h) .walk .hits) heap r (back h)
 
 gave : (h : Hits) (r : Added) → h .add-hits .result ≡ r → Gave h (view (at-leaf (from h)) .most) (foundPart (at-leaf (from h) .args .shape) (work (at-hits h))) r
 gave h r is =
     let e = at-leaf (from h) in
     let p = at-hits h in
     subst (λ (heap : List ℕ). Gave h (view e .most) heap r) (lent-found p)
-    (subst (λ (n : ℕ). Gave h n (lentFound p) r) (sym (most e))
-    (subst (Gave h (mostOf (e .args .counts) (e .args .wanted)) (lentFound p)) is (h .add-hits .ensures)))
+    (subst (λ (n : ℕ). Gave h n (lentFound p) r) (sym (most-is e))
+    (subst (Gave h (most (e .args .wanted) (e .args .counts)) (lentFound p)) is (h .add-hits .ensures)))
 
 -- ---- an inner node
 
@@ -334,7 +344,7 @@ low a is =
     let p = least (inner (parent k)) in
     let e = at-inner (parent k) in
     let w = lends e in
-    child-low (e .args .shape) (e .args .counts) (hit e) (view e) (e .args .ef-search) (work p) (w .limits) (w .nodes) (w .some) (below e) (node p) (children (parent k)) (k .loop .j) (number (read a)) (k .loop .work) (turn p .walk .waiting - 1) (turn p .walk .hits) (turn p .walk .opened + 1) (k .loop .inv .2) (next (read a)) (fresh a true is)
+    child-low (e .args .shape) (e .args .counts) (hit e) (view e) (e .args .ef-search) (work p) (w .within .limits) (w .within .nodes) (w .some) (below e) (node p) (children (parent k)) (k .loop .j) (number (read a)) (k .loop .work) (turn p .walk .waiting - 1) (turn p .walk .hits) (turn p .walk .opened + 1) (k .loop .inv .2) (next (read a)) (fresh a true is)
 
 -- all of them are marked
 module _ (k : Child) (left : parent k .shown2 .given .0 .0 .count ≤ k .loop .j) where
@@ -352,7 +362,7 @@ module _ (k : Child) (left : parent k .shown2 .given .0 .0 .count ≤ k .loop .j
       omega (
         arith,
         many,
-        children-room (e .args .shape) (e .args .counts) (hit e) (view e) (e .args .ef-search) (work p) (w .limits) (w .nodes) (w .some) (below e) (node p) (children (parent k)) (k .loop .j) (k .loop .work) (turn p .walk .waiting - 1) (turn p .walk .hits) (turn p .walk .opened + 1) (k .loop .inv .2) all,
+        children-room (e .args .shape) (e .args .counts) (hit e) (view e) (e .args .ef-search) (work p) (w .within .limits) (w .within .nodes) (w .some) (below e) (node p) (children (parent k)) (k .loop .j) (k .loop .work) (turn p .walk .waiting - 1) (turn p .walk .hits) (turn p .walk .opened + 1) (k .loop .inv .2) all,
       )
 
 -- ---- the needs, in the order of the code
@@ -374,7 +384,7 @@ walk-holds c =
     let b = c .before .before in
     let e = entry b in
     let w = lends e in
-    waits-start (e .args .shape) (e .args .counts) (hit e) (view e) (e .args .ef-search) (first b) (w .limits) (w .nodes) (w .some) (below e) (e .args .work .now) (b .begin .ensures (hit e) (e .args .numbers .now) (e .args .hashes .now) (e .args .wanted))
+    waits-start (e .args .shape) (e .args .counts) (hit e) (view e) (e .args .ef-search) (first b) (w .within .limits) (w .within .nodes) (w .some) (below e) (e .args .work .now) (b .begin .ensures (hit e) (e .args .numbers .now) (e .args .hashes .now) (e .args .wanted))
 
 pop-requires : tie.Need-pop-requires Inv-loop μ-loop Inv-walk μ-walk
 pop-requires c κs =
@@ -399,7 +409,8 @@ look-at-requires : tie.Need-look-at-requires Inv-loop μ-loop Inv-walk μ-walk
 look-at-requires c κs =
     let p = c .before .before in
     let e = entry (begun (turn p)) in
-    (e .pre .1 .0, (e .pre .1 .1 .0, node-low p))
+    let w = lends e in
+    record { within = w .within; numbers-size = w .long .numbers; hashes-size = w .long .hashes; node = node-low p }
 
 enum-told : tie.Need-enum-told Inv-loop μ-loop Inv-walk μ-walk
 enum-told c = search needs
@@ -411,7 +422,7 @@ mul-add-hits : tie.Need-mul-add-hits Inv-loop μ-loop Inv-walk μ-walk
 mul-add-hits c =
     let l = c .before in
     let p = least (leaf l) in
-    let limits = lends (at-leaf l) .limits in
+    let limits = lends (at-leaf l) .within .limits in
     omega (arith, found-start (begun (turn p)), found-end (begun (turn p)), limits .nodes-high, limits .vectors-high, limits .entries-high, work-room p)
 
 sub-add-hits : tie.Need-sub-add-hits Inv-loop μ-loop Inv-walk μ-walk
@@ -436,18 +447,19 @@ add-hits-requires c κs =
     let e = at-leaf l in
     let w = lends e in
     let block = l .shown .given .0 .0 in
-    let found = found-length (e .args .shape) (e .args .counts) (hit e) (view e) (e .args .ef-search) (first (begun (turn p))) (w .limits) (w .nodes) (w .some) (below e) (opened p .0) (work p) (turn p .walk .waiting - 1) (turn p .walk .hits) (opened p .1 .holds) in (
-      e .pre .1 .0,
-      (
-        e .pre .1 .1 .0,
-        subst (λ (found : List ℕ). AddHits (e .args .numbers .now) found (turn p .walk .hits) (mostOf (e .args .counts) (e .args .wanted)) (block .start) (block .count)) (sym (lent-found p))
-            (record {
-              block = list-room l;
-              few = omega (arith, opened p .1 .few, found, most e);
-              room = omega (arith, few-hits (e .args .shape) (e .args .counts) (e .args .wanted) (e .pre .1 .0 .vectors) (e .pre .1 .0 .entries), length-found (e .args .shape) (work p) (w .limits) (work-room p));
-            }),
-      ),
-    )
+    let found = found-length (e .args .shape) (e .args .counts) (hit e) (view e) (e .args .ef-search) (first (begun (turn p))) (w .within .limits) (w .within .nodes) (w .some) (below e) (opened p .0) (work p) (turn p .walk .waiting - 1) (turn p .walk .hits) (opened p .1 .holds) in
+    record {
+      within = w .within;
+      numbers-size = w .long .numbers;
+      hashes-size = w .long .hashes;
+      hits =
+          subst (λ (found : List ℕ). AddHits (e .args .numbers .now) found (turn p .walk .hits) (most (e .args .wanted) (e .args .counts)) (block .start) (block .count)) (sym (lent-found p))
+          (record {
+            block = list-room l;
+            few = omega (arith, opened p .1 .few, found, most-is e);
+            room = omega (arith, few-hits (e .args .shape) (e .args .counts) (e .args .wanted) (w .within .vectors) (w .within .entries), length-found (e .args .shape) (work p) (w .within .limits) (work-room p));
+          });
+    }
 
 enum-told-2 : tie.Need-enum-told-2 Inv-loop μ-loop Inv-walk μ-walk
 enum-told-2 c = search needs
@@ -466,8 +478,8 @@ walk-again c =
     let w = lends e in
     let given = c .before .added .given in
     subst (λ (now : List ℕ). Waits (e .args .shape) (e .args .counts) (hit e) (view e) (e .args .ef-search) (first (begun (turn p))) now (turn p .walk .waiting - 1) (given .0 .0) (turn p .walk .opened + 1)) (sym (after-is h))
-    (leaf-hits (e .args .shape) (e .args .counts) (hit e) (view e) (e .args .ef-search) (first (begun (turn p))) (w .limits) (w .nodes) (w .some) (below e) (node p) (work p) (back h) (turn p .walk .waiting - 1) (turn p .walk .hits) (turn p .walk .opened + 1) (given .0 .0)
-    (test e) (wants e) (vector e) (list (from h)) (omega (arith, few (turn p))) (vector-held (e .args .shape) (e .args .counts) (e .args .numbers .now) (e .args .wanted)) (opened p) (list-is (from h)) (back-length h) (gave h (added.Hits (given .0 .0)) (given .1)))
+    (leaf-hits (e .args .shape) (e .args .counts) (hit e) (view e) (e .args .ef-search) (first (begun (turn p))) (w .within .limits) (w .within .nodes) (w .some) (below e) (node p) (work p) (back h) (turn p .walk .waiting - 1) (turn p .walk .hits) (turn p .walk .opened + 1) (given .0 .0)
+    (passed e (list (from h))) (vectors e (list (from h))) (omega (arith, few (turn p))) (vectors-held e (list (from h))) (opened p) (list-is (from h)) (back-length h) (gave h (added.Hits (given .0 .0)) (given .1)))
 
 enum-known-shown-2 : tie.Need-enum-known-shown-2 Inv-loop μ-loop Inv-walk μ-walk
 enum-known-shown-2 c = search needs
@@ -481,7 +493,7 @@ loop-holds c =
     let shown = shows (inner i) (look.Inner (i .shown2 .given .0 .0)) (i .shown2 .given .1) in (
       omega arith,
       shown .0,
-      marks-start (e .args .shape) (e .args .counts) (hit e) (view e) (e .args .ef-search) (first (begun (turn p))) (w .limits) (w .nodes) (w .some) (below e) (node p) (work p) (turn p .walk .waiting - 1) (turn p .walk .hits) (turn p .walk .opened + 1) (children i)
+      marks-start (e .args .shape) (e .args .counts) (hit e) (view e) (e .args .ef-search) (first (begun (turn p))) (w .within .limits) (w .within .nodes) (w .some) (below e) (node p) (work p) (turn p .walk .waiting - 1) (turn p .walk .hits) (turn p .walk .opened + 1) (children i)
           (opened p) (shown .1 (e .args .floats .now) (e .args .query .now) ∙ children-shown (e .args .shape) (e .args .counts) (e .args .floats .now) (e .args .numbers .now) (e .args .hashes .now) (node p) (children i)),
     )
 
@@ -503,26 +515,26 @@ fresh-child-requires : tie.Need-fresh-child-requires Inv-loop μ-loop Inv-walk �
 fresh-child-requires c κs =
     let k = child (c .before) in
     let e = at-inner (parent k) in
-    omega (arith, marks (begun (turn (least (inner (parent k))))), lends e .nodes, k .loop .inv .2 .2 .holds .size)
+    omega (arith, marks (begun (turn (least (inner (parent k))))), lends e .within .nodes, k .loop .inv .2 .2 .holds .size)
 
 add-at : tie.Need-add-at Inv-loop μ-loop Inv-walk μ-walk
 add-at c =
     let a = c .before in
     let e = at-inner (parent (child (read a))) in
-    omega (arith, low a (not-false _ (c .if3 .left)), marks (begun (turn (least (inner (parent (child (read a))))))), lends e .nodes, lends e .limits .nodes-high)
+    omega (arith, low a (not-false _ (c .if3 .left)), marks (begun (turn (least (inner (parent (child (read a))))))), lends e .within .nodes, lends e .within .limits .nodes-high)
 
 mul-work : tie.Need-mul-work Inv-loop μ-loop Inv-walk μ-walk
 mul-work c =
     let a = c .before in
     let e = at-inner (parent (child (read a))) in
-    omega (arith, low a (not-false _ (c .if3 .left)), marks (begun (turn (least (inner (parent (child (read a))))))), lends e .nodes, lends e .limits .nodes-high)
+    omega (arith, low a (not-false _ (c .if3 .left)), marks (begun (turn (least (inner (parent (child (read a))))))), lends e .within .nodes, lends e .within .limits .nodes-high)
 
 slice-write-work : tie.Need-slice-write-work Inv-loop μ-loop Inv-walk μ-walk
 slice-write-work c =
     let a = c .before in
     let k = child (read a) in
     let e = at-inner (parent k) in
-    omega (arith, low a (not-false _ (c .if3 .left)), marks (begun (turn (least (inner (parent k))))), lends e .nodes, k .loop .inv .2 .2 .holds .size)
+    omega (arith, low a (not-false _ (c .if3 .left)), marks (begun (turn (least (inner (parent k))))), lends e .within .nodes, k .loop .inv .2 .2 .holds .size)
 
 add-j : tie.Need-add-j Inv-loop μ-loop Inv-walk μ-walk
 add-j c = search needs
@@ -542,7 +554,7 @@ loop-again c =
       k .loop .inv .1,
       subst (λ (at : ℕ). Marks (e .args .shape) (e .args .counts) (hit e) (view e) (e .args .ef-search) (work p) (node p) (children (parent k)) (k .loop .j + 1) (set (k .loop .work) (at + number r) 1) (turn p .walk .waiting - 1) (turn p .walk .hits) (turn p .walk .opened + 1))
           (sym (marks (begun (turn p))))
-          (child-marked (e .args .shape) (e .args .counts) (hit e) (view e) (e .args .ef-search) (work p) (w .limits) (w .nodes) (w .some) (below e) (node p) (children (parent k)) (k .loop .j) (number r) (k .loop .work) (turn p .walk .waiting - 1) (turn p .walk .hits) (turn p .walk .opened + 1) (k .loop .inv .2) (next r) (fresh a true (not-false _ (c .if3 .left)))
+          (child-marked (e .args .shape) (e .args .counts) (hit e) (view e) (e .args .ef-search) (work p) (w .within .limits) (w .within .nodes) (w .some) (below e) (node p) (children (parent k)) (k .loop .j) (number r) (k .loop .work) (turn p .walk .waiting - 1) (turn p .walk .hits) (turn p .walk .opened + 1) (k .loop .inv .2) (next r) (fresh a true (not-false _ (c .if3 .left)))
           (omega (arith, few (turn p)))),
     )
 
@@ -553,21 +565,21 @@ push-children-requires c κs =
     let p = least (inner (parent k)) in
     let e = at-inner (parent k) in
     let w = lends e in
-    let m = k .loop .inv .2 .2 in (
-      e .pre .0,
-      (
-        record { size = m .holds .size; limits = w .limits; room = room k left; queue = m .holds .queue },
+    let m = k .loop .inv .2 .2 in
+    record {
+      floats-size = w .long .floats;
+      nodes = record { size = m .holds .size; limits = w .within .limits; room = room k left; queue = m .holds .queue };
+      children =
         record {
           inside = k .loop .inv .1;
-          held = children-held (e .args .shape) (e .args .counts) (hit e) (view e) (e .args .ef-search) (work p) (w .limits) (w .nodes) (w .some) (below e) (node p) (children (parent k)) (k .loop .j) (k .loop .work) (turn p .walk .waiting - 1) (turn p .walk .hits) (turn p .walk .opened + 1) (k .loop .inv .2) (all k left);
-        },
-      ),
-    )
+          held = children-held (e .args .shape) (e .args .counts) (hit e) (view e) (e .args .ef-search) (work p) (w .within .limits) (w .within .nodes) (w .some) (below e) (node p) (children (parent k)) (k .loop .j) (k .loop .work) (turn p .walk .waiting - 1) (turn p .walk .hits) (turn p .walk .opened + 1) (k .loop .inv .2) (all k left);
+        };
+    }
 
 add-waiting : tie.Need-add-waiting Inv-loop μ-loop Inv-walk μ-walk
 add-waiting c =
     let k = c .before .before .before .before .before in
-    omega (arith, room k (c .before .before .before .before .loop-test .left), lends (at-inner (parent k)) .limits .nodes-high)
+    omega (arith, room k (c .before .before .before .before .loop-test .left), lends (at-inner (parent k)) .within .limits .nodes-high)
 
 walk-less-2 : tie.Need-walk-less-2 Inv-loop μ-loop Inv-walk μ-walk
 walk-less-2 c = search needs
@@ -583,7 +595,7 @@ walk-again-2 c =
     let w = lends e in
     let total = turn p .walk .waiting - 1 + i .shown2 .given .0 .0 .count in
     waits-from (e .args .shape) (e .args .counts) (hit e) (view e) (e .args .ef-search) (first (begun (turn p))) (work p) (pushed .last .1 .1 .1 .0) total (turn p .walk .hits) (turn p .walk .opened + 1) (opened p .1 .works)
-    (children-pushed (e .args .shape) (e .args .counts) (hit e) (view e) (e .args .ef-search) (work p) (w .limits) (w .nodes) (w .some) (below e) (node p) (children i) (k .loop .j) (k .loop .work) (turn p .walk .waiting - 1) (turn p .walk .hits) (turn p .walk .opened + 1) (k .loop .inv .2) (all k left)
+    (children-pushed (e .args .shape) (e .args .counts) (hit e) (view e) (e .args .ef-search) (work p) (w .within .limits) (w .within .nodes) (w .some) (below e) (node p) (children i) (k .loop .j) (k .loop .work) (turn p .walk .waiting - 1) (turn p .walk .hits) (turn p .walk .opened + 1) (k .loop .inv .2) (all k left)
     (pushed .last .1 .1 .1 .0) (nodesOf (e .args .shape) (e .args .floats .now) (e .args .query .now) (children i)) total
     (nodes-wait (e .args .shape) (e .args .counts) (e .args .floats .now) (e .args .numbers .now) (e .args .hashes .now) (e .args .query .now) (e .args .wanted) (children i)) (omega (arith, many k left)) (pushed .ensures))
 
@@ -596,7 +608,7 @@ returns c =
     let e = entry (begun t) in
     let w = lends e in
     record {
-      ends = ends-whole (e .args .shape) (e .args .counts) (hit e) (view e) (e .args .ef-search) (first (begun t)) (w .limits) (w .nodes) (w .some) (below e) (t .walk .work) (t .walk .waiting) (t .walk .hits) (t .walk .opened) (c .if1 .taken) (t .walk .inv);
+      ends = ends-whole (e .args .shape) (e .args .counts) (hit e) (view e) (e .args .ef-search) (first (begun t)) (w .within .limits) (w .within .nodes) (w .some) (below e) (t .walk .work) (t .walk .waiting) (t .walk .hits) (t .walk .opened) (c .if1 .taken) (t .walk .inv);
       works = ended-works t;
     }
 
@@ -609,7 +621,7 @@ returns-2 c =
     let e = entry (begun t) in
     let w = lends e in
     record {
-      ends = ends-cut (e .args .shape) (e .args .counts) (hit e) (view e) (e .args .ef-search) (first (begun t)) (w .limits) (w .nodes) (w .some) (below e) (t .walk .work) (t .walk .waiting) (t .walk .hits) (t .walk .opened) (c .before .if1 .left) (c .if2 .taken) (t .walk .inv);
+      ends = ends-cut (e .args .shape) (e .args .counts) (hit e) (view e) (e .args .ef-search) (first (begun t)) (w .within .limits) (w .within .nodes) (w .some) (below e) (t .walk .work) (t .walk .waiting) (t .walk .hits) (t .walk .opened) (c .before .if1 .left) (c .if2 .taken) (t .walk .inv);
       works = ended-works t;
     }
 
@@ -623,8 +635,8 @@ returns-3 c =
     let e = entry (begun (turn p)) in
     let w = lends e in
     record {
-      ends = ends-damaged (e .args .shape) (e .args .counts) (hit e) (view e) (e .args .ef-search) (first (begun (turn p))) (w .limits) (w .nodes) (w .some) (below e) _
-          (opens-damage (e .args .shape) (e .args .counts) (hit e) (view e) (e .args .ef-search) (first (begun (turn p))) (w .limits) (w .nodes) (w .some) (below e) (node p) (work p) (turn p .walk .waiting - 1) (turn p .walk .hits) (turn p .walk .opened + 1) (opened p)
+      ends = ends-damaged (e .args .shape) (e .args .counts) (hit e) (view e) (e .args .ef-search) (first (begun (turn p))) (w .within .limits) (w .within .nodes) (w .some) (below e) _
+          (opens-damage (e .args .shape) (e .args .counts) (hit e) (view e) (e .args .ef-search) (first (begun (turn p))) (w .within .limits) (w .within .nodes) (w .some) (below e) (node p) (work p) (turn p .walk .waiting - 1) (turn p .walk .hits) (turn p .walk .opened + 1) (opened p)
           (shows o look.Damaged (c .enum-told .given .1) (e .args .floats .now) (e .args .query .now)));
       works = opened-works p;
     }
@@ -639,9 +651,9 @@ returns-4 c =
     let e = at-leaf (from h) in
     let w = lends e in
     record {
-      ends = ends-damaged (e .args .shape) (e .args .counts) (hit e) (view e) (e .args .ef-search) (first (begun (turn p))) (w .limits) (w .nodes) (w .some) (below e) _
-          (leaf-damage (e .args .shape) (e .args .counts) (hit e) (view e) (e .args .ef-search) (first (begun (turn p))) (w .limits) (w .nodes) (w .some) (below e) (node p) (work p) (turn p .walk .waiting - 1) (turn p .walk .hits) (turn p .walk .opened + 1)
-          (test e) (wants e) (vector e) (list (from h)) (opened p) (list-is (from h)) (gave h added.Damaged (c .enum-told2 .given .1)));
+      ends = ends-damaged (e .args .shape) (e .args .counts) (hit e) (view e) (e .args .ef-search) (first (begun (turn p))) (w .within .limits) (w .within .nodes) (w .some) (below e) _
+          (leaf-damage (e .args .shape) (e .args .counts) (hit e) (view e) (e .args .ef-search) (first (begun (turn p))) (w .within .limits) (w .within .nodes) (w .some) (below e) (node p) (work p) (turn p .walk .waiting - 1) (turn p .walk .hits) (turn p .walk .opened + 1)
+          (passed e (list (from h))) (vectors e (list (from h))) (opened p) (list-is (from h)) (gave h added.Damaged (c .enum-told2 .given .1)));
       works = after-works h;
     }
 
@@ -657,8 +669,8 @@ returns-5 c =
     let e = at-inner (parent k) in
     let w = lends e in
     record {
-      ends = ends-damaged (e .args .shape) (e .args .counts) (hit e) (view e) (e .args .ef-search) (first (begun (turn p))) (w .limits) (w .nodes) (w .some) (below e) _
-          (child-damage (e .args .shape) (e .args .counts) (hit e) (view e) (e .args .ef-search) (work p) (w .limits) (w .nodes) (w .some) (below e) (node p) (children (parent k)) (k .loop .j) (number r) (k .loop .work) (turn p .walk .waiting - 1) (turn p .walk .hits) (turn p .walk .opened + 1) (k .loop .inv .2) (next r) (fresh a false (not-true _ (c .if3 .taken))));
+      ends = ends-damaged (e .args .shape) (e .args .counts) (hit e) (view e) (e .args .ef-search) (first (begun (turn p))) (w .within .limits) (w .within .nodes) (w .some) (below e) _
+          (child-damage (e .args .shape) (e .args .counts) (hit e) (view e) (e .args .ef-search) (work p) (w .within .limits) (w .within .nodes) (w .some) (below e) (node p) (children (parent k)) (k .loop .j) (number r) (k .loop .work) (turn p .walk .waiting - 1) (turn p .walk .hits) (turn p .walk .opened + 1) (k .loop .inv .2) (next r) (fresh a false (not-true _ (c .if3 .taken))));
       works = child-works k;
     }
 

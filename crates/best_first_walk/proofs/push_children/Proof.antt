@@ -36,8 +36,8 @@ next : (t : Turn) (m : ℕ) → t .loop .j + m ≤ entry t .args .count
 next t m h =
     let e = entry t in
     let a = e .args in (
-      push-next (a .shape) (node e) (a .numbers .now) (a .work .now) (t .loop .work) (a .waiting) (a .start) (a .count) (t .loop .j) (e .pre .1 .1) (e .pre .1 .0) (t .loop .inv .0) (t .loop .inv .1) m h,
-      children-part (a .shape) (a .numbers .now) (a .start) (a .count) (t .loop .j) m h (e .pre .1 .1),
+      push-next (a .shape) (node e) (a .numbers .now) (a .work .now) (t .loop .work) (a .waiting) (a .start) (a .count) (t .loop .j) (e .pre .children) (e .pre .nodes) (t .loop .inv .0) (t .loop .inv .1) m h,
+      children-part (a .shape) (a .numbers .now) (a .start) (a .count) (t .loop .j) m h (e .pre .children),
     )
 
 -- and what they add
@@ -47,16 +47,16 @@ grown : (t : Turn) (m : ℕ) (work : List ℕ)
 grown t m work q =
     let e = entry t in
     let a = e .args in
-    pushed-next (a .shape) (node e) (a .numbers .now) (a .work .now) (t .loop .work) (a .waiting) (a .start) (a .count) (t .loop .j) (e .pre .1 .1) (e .pre .1 .0) (t .loop .inv .0) (t .loop .inv .1) m work q
+    pushed-next (a .shape) (node e) (a .numbers .now) (a .work .now) (t .loop .work) (a .waiting) (a .start) (a .count) (t .loop .j) (e .pre .children) (e .pre .nodes) (t .loop .inv .0) (t .loop .inv .1) m work q
 
 -- places in the queue and in the list fit
 queue-fits : (t : Turn) → t .loop .j < entry t .args .count → entry t .args .waiting + t .loop .j < 2 ^ 64
-queue-fits t h = omega (arith, h, entry t .pre .1 .0 .room, entry t .pre .1 .0 .limits .nodes-high)
+queue-fits t h = omega (arith, h, entry t .pre .nodes .room, entry t .pre .nodes .limits .nodes-high)
 
 loop-holds : tie.Need-loop-holds Inv-loop μ-loop
 loop-holds c =
     let e = c .before .before .before .before in
-    (omega arith, pushed-none (e .args .shape) (e .args .work .now) (e .args .waiting) (e .pre .1 .0 .queue))
+    (omega arith, pushed-none (e .args .shape) (e .args .work .now) (e .args .waiting) (e .pre .nodes .queue))
 
 sub-if1 : tie.Need-sub-if1 Inv-loop μ-loop
 sub-if1 c = search needs
@@ -67,12 +67,13 @@ add-push-four c = omega (arith, queue-fits (c .before .before .before) (c .befor
 add-push-four-2 : tie.Need-add-push-four-2 Inv-loop μ-loop
 add-push-four-2 c =
     let e = entry (c .before .before .before) in
-    omega (arith, c .before .before .loop-test .taken, e .pre .1 .1 .inside, e .good)
+    omega (arith, c .before .before .loop-test .taken, e .pre .children .inside, e .good)
 
 push-four-requires : tie.Need-push-four-requires Inv-loop μ-loop
 push-four-requires c κs =
     let t = c .before .before .before in
-    (entry t .pre .0, next t 4 (omega (arith, c .before .if1 .taken)))
+    let n = next t 4 (omega (arith, c .before .if1 .taken)) in
+    record { floats-size = entry t .pre .floats-size; nodes = n .0; children = n .1 }
 
 add-j : tie.Need-add-j Inv-loop μ-loop
 add-j c = search needs
@@ -90,12 +91,13 @@ add-push-one c = omega (arith, queue-fits (c .before .before .before) (c .before
 add-push-one-2 : tie.Need-add-push-one-2 Inv-loop μ-loop
 add-push-one-2 c =
     let e = entry (c .before .before .before) in
-    omega (arith, c .before .before .loop-test .taken, e .pre .1 .1 .inside, e .good)
+    omega (arith, c .before .before .loop-test .taken, e .pre .children .inside, e .good)
 
 push-one-requires : tie.Need-push-one-requires Inv-loop μ-loop
 push-one-requires c κs =
     let t = c .before .before .before in
-    (entry t .pre .0, next t 1 (omega (arith, c .before .before .loop-test .taken)))
+    let n = next t 1 (omega (arith, c .before .before .loop-test .taken)) in
+    record { floats-size = entry t .pre .floats-size; nodes = n .0; children = n .1 }
 
 add-j-2 : tie.Need-add-j-2 Inv-loop μ-loop
 add-j-2 c = search needs

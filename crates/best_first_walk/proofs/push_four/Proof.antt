@@ -37,29 +37,29 @@ d r = r .wide4 .result
 low-a : (r : Read) → a r < entry r .args .shape .nodes
 low-a r =
     let e = entry r in
-    child-held (e .args .shape) (e .args .numbers .now) (e .args .at) 4 0 (e .args .at) (a r) (e .pre .1 .1) (omega arith) (omega arith) (r .before .before .before .before .before .before .wide .ensures .0)
+    child-held (e .args .shape) (e .args .numbers .now) (e .args .at) 4 0 (e .args .at) (a r) (e .pre .children) (omega arith) (omega arith) (r .before .before .before .before .before .before .wide .ensures .0)
 
 low-b : (r : Read) → b r < entry r .args .shape .nodes
 low-b r =
     let e = entry r in
-    child-held (e .args .shape) (e .args .numbers .now) (e .args .at) 4 1 (e .args .at + 1) (b r) (e .pre .1 .1) (omega arith) refl (r .before .before .before .before .wide2 .ensures .0)
+    child-held (e .args .shape) (e .args .numbers .now) (e .args .at) 4 1 (e .args .at + 1) (b r) (e .pre .children) (omega arith) refl (r .before .before .before .before .wide2 .ensures .0)
 
 low-c : (r : Read) → c′ r < entry r .args .shape .nodes
 low-c r =
     let e = entry r in
-    child-held (e .args .shape) (e .args .numbers .now) (e .args .at) 4 2 (e .args .at + 2) (c′ r) (e .pre .1 .1) (omega arith) refl (r .before .before .wide3 .ensures .0)
+    child-held (e .args .shape) (e .args .numbers .now) (e .args .at) 4 2 (e .args .at + 2) (c′ r) (e .pre .children) (omega arith) refl (r .before .before .wide3 .ensures .0)
 
 low-d : (r : Read) → d r < entry r .args .shape .nodes
 low-d r =
     let e = entry r in
-    child-held (e .args .shape) (e .args .numbers .now) (e .args .at) 4 3 (e .args .at + 3) (d r) (e .pre .1 .1) (omega arith) refl (r .wide4 .ensures .0)
+    child-held (e .args .shape) (e .args .numbers .now) (e .args .at) 4 3 (e .args .at + 3) (d r) (e .pre .children) (omega arith) refl (r .wide4 .ensures .0)
 
 -- a centroid lies within the floats
 within : (r : Read) (i : ℕ) → i < entry r .args .shape .nodes
     → (entry r .args .shape .vectors + i) * entry r .args .shape .dimension + entry r .args .shape .dimension ≤ length (entry r .args .floats .now)
 within r i h =
     let e = entry r in
-    vector-within (e .args .shape) (e .args .floats .now) (e .args .shape .vectors + i) (e .args .shape .vectors + e .args .shape .nodes) (e .pre .0 .limits) (e .pre .0 .size) (omega (arith, h)) (omega arith)
+    vector-within (e .args .shape) (e .args .floats .now) (e .args .shape .vectors + i) (e .args .shape .vectors + e .args .shape .nodes) (e .pre .nodes .limits) (e .pre .floats-size) (omega (arith, h)) (omega arith)
 
 -- each is pushed
 abbrev Pushed1 : Type 0
@@ -84,7 +84,7 @@ after1 : (p : Pushed1) → PushNodes (entry (read1 p) .args .shape) (p .push-nod
 after1 p =
     let e = entry (read1 p) in
     let q = p .push-node .ensures in
-    record { size = omega (arith, e .pre .1 .0 .size, q .size); limits = e .pre .1 .0 .limits; room = omega (arith, e .pre .1 .0 .room); queue = q .queue }
+    record { size = omega (arith, e .pre .nodes .size, q .size); limits = e .pre .nodes .limits; room = omega (arith, e .pre .nodes .room); queue = q .queue }
 
 after2 : (p : Pushed2) → PushNodes (entry (read1 (first p)) .args .shape) (p .push-node2 .last .1 .0) (entry (read1 (first p)) .args .waiting + 2) 1
 after2 p =
@@ -92,8 +92,8 @@ after2 p =
     let q = p .push-node2 .ensures in
     record {
       size = omega (arith, after1 (first p) .size, q .size);
-      limits = e .pre .1 .0 .limits;
-      room = omega (arith, e .pre .1 .0 .room);
+      limits = e .pre .nodes .limits;
+      room = omega (arith, e .pre .nodes .room);
       queue = subst (λ (n : ℕ). Heap (records 2 n (p .push-node2 .last .1 .0))) (let t : e .args .waiting + 1 + 1 ≡ e .args .waiting + 2 = omega arith in t) (q .queue);
     }
 
@@ -103,8 +103,8 @@ after3 p =
     let q = p .push-node3 .ensures in
     record {
       size = omega (arith, after2 (second p) .size, q .size);
-      limits = e .pre .1 .0 .limits;
-      room = omega (arith, e .pre .1 .0 .room);
+      limits = e .pre .nodes .limits;
+      room = omega (arith, e .pre .nodes .room);
       queue = subst (λ (n : ℕ). Heap (records 2 n (p .push-node3 .last .1 .0))) (let t : e .args .waiting + 2 + 1 ≡ e .args .waiting + 3 = omega arith in t) (q .queue);
     }
 
@@ -186,8 +186,8 @@ key-requires c κs = search needs
 push-node-requires : tie.Need-push-node-requires
 push-node-requires c κs =
     let r = c .before .before .before in
-    let w = entry r .pre .1 .0 in
-    (record { size = w .size; limits = w .limits; room = omega (arith, w .room); queue = w .queue }, low-a r)
+    let w = entry r .pre .nodes in
+    record { nodes = record { size = w .size; limits = w .limits; room = omega (arith, w .room); queue = w .queue }; below = low-a r }
 
 add-push-node : tie.Need-add-push-node
 add-push-node c = search needs
@@ -196,29 +196,29 @@ key-requires-2 : tie.Need-key-requires-2
 key-requires-2 c κs = search needs
 
 push-node-requires-2 : tie.Need-push-node-requires-2
-push-node-requires-2 c κs = let p = c .before .before .before .before in (after1 p, low-b (read1 p))
+push-node-requires-2 c κs = let p = c .before .before .before .before in record { nodes = after1 p; below = low-b (read1 p) }
 
 add-push-node-2 : tie.Need-add-push-node-2
 add-push-node-2 c =
-    let w = entry (read1 (first (c .before .before .before))) .pre .1 .0 in
+    let w = entry (read1 (first (c .before .before .before))) .pre .nodes in
     omega (arith, w .room, w .limits .nodes-high)
 
 key-requires-3 : tie.Need-key-requires-3
 key-requires-3 c κs = search needs
 
 push-node-requires-3 : tie.Need-push-node-requires-3
-push-node-requires-3 c κs = let p = c .before .before .before .before in (after2 p, low-c (read1 (first p)))
+push-node-requires-3 c κs = let p = c .before .before .before .before in record { nodes = after2 p; below = low-c (read1 (first p)) }
 
 add-push-node-3 : tie.Need-add-push-node-3
 add-push-node-3 c =
-    let w = entry (read1 (first (second (c .before .before .before)))) .pre .1 .0 in
+    let w = entry (read1 (first (second (c .before .before .before)))) .pre .nodes in
     omega (arith, w .room, w .limits .nodes-high)
 
 key-requires-4 : tie.Need-key-requires-4
 key-requires-4 c κs = search needs
 
 push-node-requires-4 : tie.Need-push-node-requires-4
-push-node-requires-4 c κs = let p = c .before .before .before .before in (after3 p, low-d (read1 (first (second p))))
+push-node-requires-4 c κs = let p = c .before .before .before .before in record { nodes = after3 p; below = low-d (read1 (first (second p))) }
 
 same-length : tie.Need-same-length
 same-length c = search needs
@@ -239,7 +239,7 @@ returns c =
     let first-three = pushed-append s (e .args .work .now) (two .push-node2 .last .1 .0) (three .push-node3 .last .1 .0) (e .args .waiting) (e .args .waiting + 2) (_ ∷ _ ∷ []) (_ ∷ []) refl first-two (three .push-node3 .ensures) in
     let all = pushed-append s (e .args .work .now) (three .push-node3 .last .1 .0) (last .last .1 .0) (e .args .waiting) (e .args .waiting + 3) (_ ∷ _ ∷ _ ∷ []) (_ ∷ []) refl first-three (last .ensures) in
     subst (λ (l : List ℕ). PushedNodes s (e .args .work .now) (e .args .waiting) l (last .last .1 .0))
-    (four-mapped f (e .args .numbers .now) (e .args .at) 0 _ _ _ _ (e .pre .1 .1 .inside)
+    (four-mapped f (e .args .numbers .now) (e .args .at) 0 _ _ _ _ (e .pre .children .inside)
     (node _ (a r) _ _ (one .before .key .ensures ∙ ap keyOf (at .0)) refl (r .before .before .before .before .before .before .wide .ensures .0))
     (node _ (b r) _ _ (two .before .key2 .ensures ∙ ap keyOf (at .1 .0)) refl (r .before .before .before .before .wide2 .ensures .0))
     (node _ (c′ r) _ _ (three .before .key3 .ensures ∙ ap keyOf (at .1 .1 .0)) refl (r .before .before .wide3 .ensures .0))

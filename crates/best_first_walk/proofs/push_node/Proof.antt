@@ -14,7 +14,7 @@ same-length c = search needs
 returns : tie.Need-returns
 returns c =
     let e = c .before .before .before .before .before in
-    pushed-one (e .args .shape) (e .args .work .now) _ (e .args .waiting) (e .args .child) _ (e .pre .0 .room) refl (c .before .before .push .ensures)
+    pushed-one (e .args .shape) (e .args .work .now) _ (e .args .waiting) (e .args .child) _ (e .pre .nodes .room) refl (c .before .before .push .ensures)
 
 pub push-node-spec : {M : Type 1} → statement M
 push-node-spec = tie.close (tie.spec push-requires same-length returns)

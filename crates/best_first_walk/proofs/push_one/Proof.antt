@@ -18,7 +18,7 @@ entry r = r .before .before .before .before .before .before
 low : (r : tie.After-wide) → r .wide .result < entry r .args .shape .nodes
 low r =
     let e = entry r in
-    child-held (e .args .shape) (e .args .numbers .now) (e .args .at) 1 0 (e .args .at) (r .wide .result) (e .pre .1 .1) (omega arith) (omega arith) (r .wide .ensures .0)
+    child-held (e .args .shape) (e .args .numbers .now) (e .args .at) 1 0 (e .args .at) (r .wide .result) (e .pre .children) (omega arith) (omega arith) (r .wide .ensures .0)
 
 mul-wide : tie.Need-mul-wide
 mul-wide c = search needs
@@ -36,13 +36,13 @@ distance-key-requires : tie.Need-distance-key-requires
 distance-key-requires c κs =
     let r = c .before in
     let e = entry r in
-    vector-within (e .args .shape) (e .args .floats .now) (e .args .shape .vectors + r .wide .result) (e .args .shape .vectors + e .args .shape .nodes) (e .pre .0 .limits) (e .pre .0 .size)
+    vector-within (e .args .shape) (e .args .floats .now) (e .args .shape .vectors + r .wide .result) (e .args .shape .vectors + e .args .shape .nodes) (e .pre .nodes .limits) (e .pre .floats-size)
     (omega (arith, low r)) (omega arith)
 
 push-node-requires : tie.Need-push-node-requires
 push-node-requires c κs =
     let r = c .before .before .before in
-    (entry r .pre .1 .0, low r)
+    record { nodes = entry r .pre .nodes; below = low r }
 
 same-length : tie.Need-same-length
 same-length c = search needs
@@ -54,7 +54,7 @@ returns c =
     let r = c .before .before .before .before .before .before in
     let e = entry r in
     subst (λ (l : List ℕ). PushedNodes (e .args .shape) (e .args .work .now) (e .args .waiting) l (p .last .1 .0))
-    (one-mapped (nodeFor (e .args .shape) (e .args .floats .now) (e .args .query .now)) (e .args .numbers .now) (e .args .at) 0 _ (e .pre .1 .1 .inside)
+    (one-mapped (nodeFor (e .args .shape) (e .args .floats .now) (e .args .query .now)) (e .args .numbers .now) (e .args .at) 0 _ (e .pre .children .inside)
     (node-is (e .args .shape) (e .args .floats .now) (e .args .query .now) (k .result) (r .wide .result) _ _ (k .ensures) refl (r .wide .ensures .0)))
     (p .ensures)
 
