@@ -20,8 +20,9 @@ use Rattle.walk.specs.WalkLaws.{found-most}
 use Rattle.walk.specs.Answer.{documentOf, distanceOf, dropRepeats, ranked, answer}
 use Rattle.walk.specs.AnswerLaws.{ranked-is}
 use Rattle.lists.specs.Tests.{allPass}
-use Rattle.walk.specs.Search.{Answers, SearchEnds}
-use Rattle.hit_queue.specs.Hits.{mostOf}
+use Rattle.walk.specs.Contracts.{Answers, SearchEnds}
+use Rattle.walk.specs.Wanted as Wanted′
+use Rattle.walk.specs.Contracts.{VectorsLent}
 use Rattle.best_first_walk.specs.Walks.{hitsPart, foundIn, foundAt, foundPart, EndsAs, WalkEnds}
 use Rattle.best_first_walk.specs.WalksLaws.{few-hits}
 use Rattle.best_first_search.specs.Ranks.{firstOf, FirstHits, Firsts}
@@ -68,7 +69,7 @@ module _ (s : Shape) (c : Counts) (hit : ℕ → ℕ) where
       part-part (hitsAt s) (3 * max (s .vectors) (s .entries)) (foundIn s) found work (omega (arith, limits .vectors-low))
       ∙ sym (take-take found (max (s .vectors) (s .entries) + 1) (drop (foundAt s) work) (omega arith))
 
-  module _ (wanted : Wanted) (view : View) (ef k found opened : ℕ) (complete : Bool) (work heap : List ℕ) (from : ℕ) (limits : Limits s) (most : view .most ≡ mostOf c wanted)
+  module _ (wanted : Wanted) (view : View) (ef k found opened : ℕ) (complete : Bool) (work heap : List ℕ) (from : ℕ) (limits : Limits s) (most : view .most ≡ Wanted′.most wanted c)
       (v : c .vectors ≤ s .vectors) (e : c .entries ≤ s .entries) (size : workSize s ≤ length work) (is : heap ≡ hitsPart s work) (at : from ≡ foundIn s)
       (w : WalkEnds s c hit (walk view ef) (walked.Ended found opened complete) work) where
     few : found ≤ max (s .vectors) (s .entries)
@@ -77,17 +78,18 @@ module _ (s : Shape) (c : Counts) (hit : ℕ → ℕ) where
     pub ended-numbers : part from found heap ≡ take found (foundPart s work)
     ended-numbers = ap (λ (n : ℕ). part n found heap) at ∙ ap (part (foundIn s) found) is ∙ numbers-are work found limits few
 
-    pub ended-first : (ids : List ℕ) (distances : List Float) → k ≤ length ids → k ≤ length distances → FirstHits c heap from found k ids distances
-    ended-first ids distances a b =
+    pub ended-first : (floats : List Float) (numbers : List ℕ) → VectorsLent s c floats numbers → (ids : List ℕ) (distances : List Float) → k ≤ length ids
+        → k ≤ length distances → FirstHits s c floats numbers heap from found k ids distances
+    ended-first floats numbers vectors ids distances a b =
         let long : length heap ≡ 3 * max (s .vectors) (s .entries) = ap length is ∙ length-part (hitsAt s) (3 * max (s .vectors) (s .entries)) work size in
         record {
-          numbers = record {
+          vectors = record { lent = vectors; measure = record {
             queue = heap-none 3 heap;
             held = ap (allPass (λ x. ltb x (c .vectors))) ended-numbers ∙ ended-few view ef (walk view ef) found opened complete work refl w .1;
             inside = omega (arith, few, long, at, limits .vectors-low);
             apart = omega (arith, few, at, limits .vectors-low);
             room = omega (arith, few, long);
-          };
+          } };
           ids-room = a;
           distances-room = b;
         }

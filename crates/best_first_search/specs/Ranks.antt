@@ -10,8 +10,11 @@ use Rattle.lists.specs.Lists.{part, keep}
 use Rattle.order.specs.Sorted.{sort}
 use Rattle.order.specs.Records.{records, Heap}
 use Rattle.walk.specs.Answer.{documentOf, distanceOf, dropRepeats}
+use Rattle.store.specs.declared.Shape.{Shape}
 use Rattle.store.specs.declared.Counts.{Counts}
-use Rattle.hit_queue.specs.Hits.{within, Measure, rankedQueue}
+use Rattle.store.specs.Store.{Store}
+use Rattle.hit_queue.specs.Hits.{within, MeasureLent, rankedQueue}
+use Rattle.walk.specs.Contracts.{StoreLent}
 
 -- the first k of hits
 abbrev pub firstOf : ℕ → List ℕ → List ℕ
@@ -40,8 +43,8 @@ pub record Ranked (hits : List ℕ) (k total : ℕ) (heap : List ℕ) : Type 0 w
   pub first : take k (rankedQueue total heap) ≡ firstOf k hits
 
 -- `first_hits` wants the numbers of vectors as `measure` does, and answer lists of at least k places
-pub record FirstHits (c : Counts) (heap : List ℕ) (from found k : ℕ) (ids : List ℕ) (distances : List Float) : Type 0 where
-  pub numbers : Measure c heap 0 from found
+pub record FirstHits (s : Shape) (c : Counts) (floats : List Float) (numbers heap : List ℕ) (from found k : ℕ) (ids : List ℕ) (distances : List Float) : Type 0 where
+  pub vectors : MeasureLent s c floats numbers heap 0 from found
   pub ids-room : k ≤ length ids
   pub distances-room : k ≤ length distances
 
@@ -50,3 +53,9 @@ pub record Firsts (hits : List ℕ) (k : ℕ) (ids : List ℕ) (distances : List
   pub count-is : r ≡ length (firstOf k hits)
   pub ids-are : ids′ ≡ sets ids 0 (map documentOf (firstOf k hits))
   pub distances-are : distances′ ≡ sets distances 0 (map distanceOf (firstOf k hits))
+
+-- `best_first_search` wants a store, the work list, and answer lists of at least k places
+pub record SearchLent (s : Shape) (c : Counts) (store : Store) (work : List ℕ) (k : ℕ) (ids : List ℕ) (distances : List Float) : Type 0 where
+  pub lent : StoreLent s c store work
+  pub ids-room : k ≤ length ids
+  pub distances-room : k ≤ length distances

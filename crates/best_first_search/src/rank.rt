@@ -5,8 +5,7 @@ use order::pop;
 use store::Counts;
 use store::Shape;
 ghost use Rattle.lists.specs.Lists.{part};
-ghost use Rattle.walk.specs.Search.{FloatsLent, NumbersLent};
-ghost use Rattle.hit_queue.specs.Hits.{hitsOf, Measure, CountRest};
+ghost use Rattle.hit_queue.specs.Hits.{hitsOf, MeasureLent, CountRest};
 ghost use Rattle.best_first_search.specs.Ranks.{Bounds, Sampled, Ranked, FirstHits, Firsts};
 
 // The key up to which the hits of a queue come to k documents, repeats dropped; the highest of all keys, if they do not. The queue is used up.
@@ -52,9 +51,7 @@ fn sample_bound(
     found: usize,
     k: usize,
 ) -> u32
-    requires { ⌜ FloatsLent shape (now floats) ⌝ }
-    requires { ⌜ NumbersLent shape counts (now numbers) ⌝ }
-    requires { ⌜ Measure counts (now heap) 0 from found ⌝ }
+    requires { ⌜ MeasureLent shape counts (now floats) (now numbers) (now heap) 0 from found ⌝ }
     ensures { λ r. ⌜ Sampled (hitsOf shape (now (floats .entry)) (now (numbers .entry)) (now (query .entry)) (part from found (now (heap .entry)))) k r from found (now (heap .entry)) (now (heap .exit)) ⌝ }
 {
     if found / 16 < k {
@@ -86,9 +83,7 @@ fn rank(
     found: usize,
     k: usize,
 ) -> usize
-    requires { ⌜ FloatsLent shape (now floats) ⌝ }
-    requires { ⌜ NumbersLent shape counts (now numbers) ⌝ }
-    requires { ⌜ Measure counts (now heap) 0 from found ⌝ }
+    requires { ⌜ MeasureLent shape counts (now floats) (now numbers) (now heap) 0 from found ⌝ }
     ensures { λ r. ⌜ Ranked (hitsOf shape (now (floats .entry)) (now (numbers .entry)) (now (query .entry)) (part from found (now (heap .entry)))) k r (now (heap .exit)) ⌝ }
 {
     let bound = sample_bound(shape, counts, floats, numbers, heap, query, from, found, k);
@@ -119,9 +114,7 @@ pub fn first_hits(
     ids: &mut [u32],
     distances: &mut [f32],
 ) -> usize
-    requires { ⌜ FloatsLent shape (now floats) ⌝ }
-    requires { ⌜ NumbersLent shape counts (now numbers) ⌝ }
-    requires { ⌜ FirstHits counts (now heap) from found k (now ids) (now distances) ⌝ }
+    requires { ⌜ FirstHits shape counts (now floats) (now numbers) (now heap) from found k (now ids) (now distances) ⌝ }
     ensures { λ r. ⌜ Firsts (hitsOf shape (now (floats .entry)) (now (numbers .entry)) (now (query .entry)) (part from found (now (heap .entry)))) k (now (ids .entry)) (now (distances .entry)) r (now (ids .exit)) (now (distances .exit)) ⌝ }
 {
     let total = rank(shape, counts, floats, numbers, heap, query, from, found, k);

@@ -1,13 +1,13 @@
 -- `rank` meets its contract: the hits within the bound have the first k of all. Assumes nothing.
 use Rattle.best_first_search.proofs.Ranking.{measure-again, ranked-within}
-use Rattle.hit_queue.specs.Hits.{hitFor}
+use Rattle.walk.specs.StoreView.{hitAt}
 use Prim.Native.Nat.{ℕ}
 use borrow.Author.Needs.{needs}
 use Rattle.best_first_search.proofs.rank.rank.Statement.{statement}
 use Rattle.best_first_search.proofs.rank.rank.Tie as tie
 
 abbrev hit : tie.Start → ℕ → ℕ
-hit e = hitFor (e .args .shape) (e .args .floats .now) (e .args .numbers .now) (e .args .query .now)
+hit e = hitAt (e .args .shape) (e .args .floats .now) (e .args .numbers .now) (e .args .query .now)
 
 abbrev entry : tie.After-sample-bound → tie.Start
 entry s = s .before .before .before .before .before .before
@@ -20,7 +20,7 @@ measure-requires c κs =
     let s = c .before .before .before in
     let e = entry s in
     let a = e .args in
-    (e .pre .0, (e .pre .1 .0, measure-again (a .counts) (hit e) (a .k) (a .from) (a .found) (a .heap .now) (e .pre .1 .1) (s .sample-bound .result) (s .sample-bound .last .1 .1 .1 .1 .0) (s .sample-bound .ensures)))
+    record { lent = e .pre .lent; measure = measure-again (a .counts) (hit e) (a .k) (a .from) (a .found) (a .heap .now) (e .pre .measure) (s .sample-bound .result) (s .sample-bound .last .1 .1 .1 .1 .0) (s .sample-bound .ensures) }
 
 same-length : tie.Need-same-length
 same-length c = search needs
@@ -31,7 +31,7 @@ returns c =
     let s = c .before .before .before .before .before .before in
     let e = entry s in
     let a = e .args in
-    ranked-within (a .counts) (hit e) (a .k) (a .from) (a .found) (a .heap .now) (e .pre .1 .1) (s .sample-bound .result) (m .measure .result) (s .sample-bound .last .1 .1 .1 .1 .0) (m .measure .last .1 .1 .1 .1 .0)
+    ranked-within (a .counts) (hit e) (a .k) (a .from) (a .found) (a .heap .now) (e .pre .measure) (s .sample-bound .result) (m .measure .result) (s .sample-bound .last .1 .1 .1 .1 .0) (m .measure .last .1 .1 .1 .1 .0)
     (s .sample-bound .ensures) (m .measure .ensures)
 
 pub rank-spec : {M : Type 1} → statement M

@@ -1,6 +1,6 @@
 -- `sample_bound` meets its contract: the hits of the sample are among all, so there are as many documents within its bound. Assumes nothing.
 use Rattle.best_first_search.proofs.Ranking.{sampled-none, sampled}
-use Rattle.hit_queue.specs.Hits.{hitFor}
+use Rattle.walk.specs.StoreView.{hitAt}
 use Rattle.hit_queue.specs.HitsLaws.{measure-front}
 use Rattle.lists.specs.Lists.{part}
 use Rattle.lists.specs.Parts.{length-part}
@@ -12,13 +12,13 @@ use Rattle.best_first_search.proofs.rank.sample_bound.Statement.{statem
 use Rattle.best_first_search.proofs.rank.sample_bound.Tie as tie
 
 abbrev hit : tie.Start → ℕ → ℕ
-hit e = hitFor (e .args .shape) (e .args .floats .now) (e .args .numbers .now) (e .args .query .now)
+hit e = hitAt (e .args .shape) (e .args .floats .now) (e .args .numbers .now) (e .args .query .now)
 
 returns : tie.Need-returns
 returns c =
     let e = c .before .before .before .before .before in
     let a = e .args in
-    sampled-none (a .counts) (hit e) (a .k) (a .from) (a .found) (a .heap .now) (e .pre .1 .1)
+    sampled-none (a .counts) (hit e) (a .k) (a .from) (a .found) (a .heap .now) (e .pre .measure)
 
 mul-measure : tie.Need-mul-measure
 mul-measure c = search needs
@@ -27,7 +27,7 @@ measure-requires : tie.Need-measure-requires
 measure-requires c κs =
     let e = c .before .before .before .before .before .before in
     let a = e .args in
-    (e .pre .0, (e .pre .1 .0, measure-front (a .counts) (a .heap .now) 0 (a .from) (a .found) (8 * a .k) (omega (arith, c .before .if1 .left)) (e .pre .1 .1)))
+    record { lent = e .pre .lent; measure = measure-front (a .counts) (a .heap .now) 0 (a .from) (a .found) (8 * a .k) (omega (arith, c .before .if1 .left)) (e .pre .measure) }
 
 bound-of-requires : tie.Need-bound-of-requires
 bound-of-requires c κs =
@@ -35,7 +35,7 @@ bound-of-requires c κs =
     let i = c .before .before .before .before .before in
     let e = i .before .before .before .before .before in
     let a = e .args in
-    let w = e .pre .1 .1 in
+    let w = e .pre .measure in
     record {
       room = omega (
         arith,
@@ -59,7 +59,7 @@ returns-2 c =
     let i = m .before .before in
     let e = i .before .before .before .before .before in
     let a = e .args in
-    sampled (a .counts) (hit e) (a .k) (a .from) (a .found) (a .heap .now) (e .pre .1 .1) (b .bound-of .result) (m .measure .result) (m .measure .last .1 .1 .1 .1 .0) (b .bound-of .last .0)
+    sampled (a .counts) (hit e) (a .k) (a .from) (a .found) (a .heap .now) (e .pre .measure) (b .bound-of .result) (m .measure .result) (m .measure .last .1 .1 .1 .1 .0) (b .bound-of .last .0)
     (i .if1 .left) (m .measure .ensures) (b .bound-of .ensures)
 
 pub sample-bound-spec : {M : Type 1} → statement M

@@ -1,14 +1,14 @@
--- `search` meets its contract: the vectors that the walk found, and the first k of their hits. Assumes nothing.
+-- `best_first_search` meets its contract: the vectors that the walk found, and the first k of their hits. Assumes nothing.
 use Rattle.best_first_search.proofs.Searching.{damaged-search, ended-search, ended-numbers, ended-first}
 use Rattle.best_first_walk.specs.Walks.{hitsPart, foundIn, WalkEnds}
 use Rattle.best_first_walk.specs.declared.Walked.{Walked}
 use Rattle.best_first_walk.specs.declared.Walked.the-variants as walked
-use Rattle.hit_queue.specs.Hits.{hitFor}
 use Rattle.best_first_search.specs.Ranks.{Firsts}
-use Rattle.hit_queue.specs.HitsLaws.{view-most}
+use Rattle.walk.specs.Wanted.{most}
 use Rattle.walk.specs.LentLaws.{lent-is, works-trans, works-sets}
-use Rattle.walk.specs.Search.{lent, Works}
-use Rattle.walk.specs.StoreView.{storeView}
+use Rattle.walk.specs.Contracts.{Works}
+use Rattle.store.specs.Lent.{storeOf}
+use Rattle.walk.specs.StoreView.{hitAt, storeView}
 use Rattle.walk.specs.Walk.{View, walk}
 use Rattle.store.specs.Store.{hitsAt, workSize}
 use Rattle.lists.specs.Parts.{length-part, lent-part}
@@ -17,11 +17,11 @@ use lib.ListN.{length, take, drop}
 use lib.Seq.{sets}
 use mathlib.Core.Bool.{Bool}
 use mathlib.Core.List.{List, _++_, map}
-use mathlib.Core.Path.{_≡_, sym, ap, subst, _∙_}
+use mathlib.Core.Path.{_≡_, refl, sym, ap, subst, _∙_}
 use native.Mathlib.Omega.{arith}
 use Prim.Native.Nat.{ℕ, _-_, _*_, _≤_, max}
-use Rattle.best_first_search.proofs.search.Statement.{statement}
-use Rattle.best_first_search.proofs.search.Tie as tie
+use Rattle.best_first_search.proofs.best_first_search.Statement.{statement}
+use Rattle.best_first_search.proofs.best_first_search.Tie as tie
 
 -- the places: entry, the walk ended, it ended with hits, and the first k are taken
 abbrev entry : tie.After-best-first-walk → tie.Start
@@ -34,10 +34,14 @@ abbrev hits : tie.After-first-hits → tie.After-walked
 hits t = t .before .before .before .before .before
 
 abbrev hit : tie.Start → ℕ → ℕ
-hit e = hitFor (e .args .shape) (e .args .floats .now) (e .args .numbers .now) (e .args .query .now)
+hit e = hitAt (e .args .shape) (e .args .floats .now) (e .args .numbers .now) (e .args .query .now)
 
 abbrev view : tie.Start → View
-view e = storeView (e .args .shape) (e .args .counts) (lent (e .args .floats .now) (e .args .numbers .now) (e .args .hashes .now)) (e .args .query .now) (e .args .wanted)
+view e = storeView (e .args .shape) (e .args .counts) (storeOf (e .args .floats .now) (e .args .numbers .now) (e .args .hashes .now)) (e .args .query .now) (e .args .wanted)
+
+most-is : (e : tie.Start) → view e .most ≡ most (e .args .wanted) (e .args .counts)
+unfolding storeView
+most-is e = refl
 
 -- the work list after the walk, and the hits' part of it
 abbrev work : tie.After-best-first-walk → List ℕ
@@ -49,7 +53,7 @@ ends w r is =
     subst (λ (r : Walked). WalkEnds (entry w .args .shape) (entry w .args .counts) (hit (entry w)) (walk (view (entry w)) (entry w .args .ef-search)) r (work w)) is (w .best-first-walk .ensures .ends)
 
 size : (w : tie.After-best-first-walk) → workSize (entry w .args .shape) ≤ length (work w)
-size w = omega (arith, entry w .pre .1 .1 .1 .0 .size, w .best-first-walk .ensures .works .size)
+size w = omega (arith, entry w .pre .lent .work-size, w .best-first-walk .ensures .works .size)
 
 hits-start : (w : tie.After-best-first-walk) → w .before .before .before .before .hits-at .result ≡ hitsAt (entry w .args .shape)
 hits-start w = w .before .before .before .before .hits-at .ensures
@@ -142,15 +146,12 @@ first-hits-requires c κs =
     let h = c .before .before .before .before in
     let w = from h in
     let a = entry w .args in
-    let pre = entry w .pre in (
-      pre .0,
-      (
-        pre .1 .0,
-        ended-first (a .shape) (a .counts) (hit (entry w)) (a .wanted) (view (entry w)) (a .ef-search) (a .k) (found h) (opened h) (whole h) (work w) (lentHits w) _ (pre .0 .limits)
-            (view-most (a .shape) (a .counts) (a .floats .now) (a .numbers .now) (a .hashes .now) (a .query .now) (a .wanted)) (pre .1 .0 .vectors) (pre .1 .0 .entries) (size w) (lent-hits w) (from-is w) (ended h)
-            (a .ids .now) (a .distances .now) (pre .1 .1 .1 .1 .0) (pre .1 .1 .1 .1 .1),
-      ),
-    )
+    let pre = entry w .pre in
+    let lent = pre .lent in
+    ended-first (a .shape) (a .counts) (hit (entry w)) (a .wanted) (view (entry w)) (a .ef-search) (a .k) (found h) (opened h) (whole h) (work w) (lentHits w) _ (pre .lent .within .limits)
+            (most-is (entry w)) (pre .lent .within .vectors) (pre .lent .within .entries) (size w) (lent-hits w) (from-is w) (ended h)
+            (a .floats .now) (a .numbers .now) (record { within = lent .within; floats-size = lent .long .floats; numbers-size = lent .long .numbers })
+            (a .ids .now) (a .distances .now) (pre .ids-room) (pre .distances-room)
 
 same-length : tie.Need-same-length
 same-length c = search needs
@@ -184,15 +185,15 @@ returns-2 c =
     record {
       ends = ended-search (a .shape) (a .counts) (hit (entry w)) (walk (view (entry w)) (a .ef-search)) (a .k) (found h) (opened h) (whole h) (work w) (a .ids .now) _ (a .distances .now) _ (t .first-hits .result) (ended h)
           (subst (λ (l : List ℕ). Firsts (map (hit (entry w)) l) (a .k) (a .ids .now) (a .distances .now) (t .first-hits .result) (last .1 .1 .1 .1 .1 .1 .1 .1 .1 .0) (last .1 .1 .1 .1 .1 .1 .1 .1 .1 .1 .0))
-          (ended-numbers (a .shape) (a .counts) (hit (entry w)) (a .wanted) (view (entry w)) (a .ef-search) (a .k) (found h) (opened h) (whole h) (work w) (lentHits w) _ (pre .0 .limits)
-          (view-most (a .shape) (a .counts) (a .floats .now) (a .numbers .now) (a .hashes .now) (a .query .now) (a .wanted)) (pre .1 .0 .vectors) (pre .1 .0 .entries) (size w) (lent-hits w) (from-is w) (ended h))
+          (ended-numbers (a .shape) (a .counts) (hit (entry w)) (a .wanted) (view (entry w)) (a .ef-search) (a .k) (found h) (opened h) (whole h) (work w) (lentHits w) _ (pre .lent .within .limits)
+          (most-is (entry w)) (pre .lent .within .vectors) (pre .lent .within .entries) (size w) (lent-hits w) (from-is w) (ended h))
           (t .first-hits .ensures));
       works = works-trans (a .shape) (a .work .now) (work w) (after t) (w .best-first-walk .ensures .works)
           (subst (Works (a .shape) (work w)) (sym (after-is t)) (works-sets (a .shape) (work w) (back t) (hitsAt (a .shape)) (omega (arith, back-length t))));
     }
 
-pub search-spec : {M : Type 1} → statement M
-search-spec =
+pub best-first-search-spec : {M : Type 1} → statement M
+best-first-search-spec =
     tie.close
     (tie.spec
     hits-at-requires
