@@ -324,15 +324,16 @@ def show(tree, believed):
     print("lines  of file")
     for file, definitions in believed.items():
         print(f"{lines_in(definitions):5}  {len(file.read_text().splitlines()):7}  {short(file)}: {names_in(definitions)}")
-    print(total(believed))
     print("\nFrom the kit, not followed:")
     for path in sorted(tree.kit):
         print(f"  {path}: {' '.join(sorted(tree.kit[path]))}")
+    print()
 
 
 def section(believed):
-    rows = [f"| {short(file)} | {lines_in(definitions)} | {names_in(definitions)} |" for file, definitions in believed.items()]
-    return "\n".join([SECTION, "", f"Computed by tools/believed.py: {total(believed)}.", "", "| file | lines | names |", "|---|---|---|"] + rows) + "\n"
+    rows = [f"| {short(file)} | {names_in(definitions)} |" for file, definitions in believed.items()]
+    text = "By tools/believed.py, which also counts lines: files in reading order, with the names needed from each."
+    return "\n".join([SECTION, "", text, "", "| file | names |", "|---|---|"] + rows) + "\n"
 
 
 def parted(page):
@@ -342,31 +343,30 @@ def parted(page):
     return before, mark + inside, heading + after
 
 
-def check(page, believed):
-    listed = set(re.findall(r"crates/[\w/]+\.(?:antt|rt)", parted(page)[1]))
-    needed = {short(file) for file in believed}
-    wrong = [f"missing: {file}" for file in sorted(needed - listed)] + [f"superfluous: {file}" for file in sorted(listed - needed)]
-    print("\n".join(wrong) or f"the page lists the {len(needed)} files")
-    return wrong
+def compared(page, believed):
+    """How the section's rows differ from those computed."""
+    listed = dict(re.findall(r"^\| (crates/\S+) \| (.*) \|$", parted(page)[1], re.M))
+    needed = {short(file): names_in(definitions) for file, definitions in believed.items()}
+    return ([f"missing: {file}" for file in needed if file not in listed] + [f"superfluous: {file}" for file in listed if file not in needed]
+            + [f"other names: {file}: {needed[file]}" for file in needed if file in listed and set(listed[file].split(", ")) != set(needed[file].split(", "))])
 
 
 def main(arguments):
+    if arguments and (len(arguments) != 2 or arguments[0] not in ("--check", "--write")):
+        sys.exit(__doc__)
     tree = Tree()
     believed = tree.believed()
     wrong = [f"not found: {word}" for word in sorted(tree.unknown)]
     wrong += [f"in a file of laws: {short(file)}: {names_in(d)}" for file, d in believed.items() if "Laws" in short(file) or "/laws/" in short(file)]
     if not arguments:
         show(tree, believed)
-    elif len(arguments) == 2 and arguments[0] in ("--check", "--write"):
-        page = pathlib.Path(arguments[1])
-        if arguments[0] == "--check":
-            wrong += check(page.read_text(), believed)
-        else:
-            before, inside, after = parted(page.read_text())
-            page.write_text(before.rstrip("\n") + "\n\n" + section(believed) + after)
+    elif arguments[0] == "--check":
+        wrong += compared(pathlib.Path(arguments[1]).read_text(), believed)
     else:
-        sys.exit(__doc__)
-    print("\n".join(word for word in wrong if not word.startswith(("missing", "superfluous"))), end="\n" if wrong else "")
+        page = pathlib.Path(arguments[1])
+        before, _, after = parted(page.read_text())
+        page.write_text(before.rstrip("\n") + "\n\n" + section(believed) + after)
+    print("\n".join([total(believed)] + wrong))
     sys.exit(1 if wrong else 0)
 
 
