@@ -24,6 +24,23 @@ static inline float float_of(uint32_t b) { float x; memcpy(&x, &b, 4); return x;
 /* how many places each list has behind those that a call asks for, and what they hold */
 enum { SURPLUS = 3, MARK = 0x5a };
 
+/* NaNs quiet and signalling, of both signs, with and without a payload. The places of a float list hold them in turn before a call: the contracts know
+   one NaN, so that a place which is left alone keeps its bits is tested here. */
+#define NAN_PATTERNS 0x7FC00000u, 0xFFC00000u, 0x7F800001u, 0xFF800001u, 0x7FFFFFFFu, 0xFFFFFFFFu, 0x7FC12345u, 0xFFA54321u
+static const uint32_t nan_patterns[] = {NAN_PATTERNS};
+enum { NAN_COUNT = sizeof nan_patterns / sizeof nan_patterns[0] };
+
+static inline uint32_t float_mark(size_t place) { return nan_patterns[place % NAN_COUNT]; }
+
+static inline void mark_floats(float *list, size_t count) {
+    for (size_t i = 0; i < count; i++) { uint32_t b = float_mark(i); memcpy(list + i, &b, 4); }
+}
+
+static inline int floats_marked(const float *list, size_t from, size_t to) {
+    for (size_t i = from; i < to; i++) if (bits_of(list[i]) != float_mark(i)) return 0;
+    return 1;
+}
+
 typedef struct {
     size_t d, b, v, e, m;
     size_t state[CURATOR_STATE + SURPLUS], floats_len, numbers_len, hashes_len, work_len;
@@ -46,6 +63,7 @@ static inline uint32_t make(index_t *x, size_t d, size_t b, size_t leaf, size_t 
     x->hashes_len = CURATOR_HASHES_SIZE(e, m);
     x->work_len = CURATOR_WORK_SIZE(v, e, m);
     x->floats = marked(x->floats_len + SURPLUS, sizeof(float));
+    mark_floats(x->floats, x->floats_len + SURPLUS);
     x->numbers = marked(x->numbers_len + SURPLUS, sizeof(uint32_t));
     x->hashes = marked(x->hashes_len + SURPLUS, sizeof(uint64_t));
     x->work = marked(x->work_len + SURPLUS, sizeof(uint32_t));
@@ -64,7 +82,7 @@ static inline int is_marked(const void *list, size_t from, size_t to, size_t siz
 
 static inline int surplus_untouched(const index_t *x) {
     return is_marked(x->state, CURATOR_STATE, CURATOR_STATE + SURPLUS, sizeof(size_t))
-        && is_marked(x->floats, x->floats_len, x->floats_len + SURPLUS, sizeof(float))
+        && floats_marked(x->floats, x->floats_len, x->floats_len + SURPLUS)
         && is_marked(x->numbers, x->numbers_len, x->numbers_len + SURPLUS, sizeof(uint32_t))
         && is_marked(x->hashes, x->hashes_len, x->hashes_len + SURPLUS, sizeof(uint64_t))
         && is_marked(x->work, x->work_len, x->work_len + SURPLUS, sizeof(uint32_t));
@@ -74,13 +92,44 @@ static inline int surplus_untouched(const index_t *x) {
 #define STORE(x) (x)->floats, (x)->floats_len + SURPLUS, (x)->numbers, (x)->numbers_len + SURPLUS, (x)->hashes, (x)->hashes_len + SURPLUS
 #define WORK(x) (x)->work, (x)->work_len + SURPLUS
 
-/* a vector with one label */
-static inline uint32_t add(index_t *x, uint32_t doc_id, const float *vector, const char *label) {
-    uint8_t length = (uint8_t)strlen(label);
-    return curator_add(STATE(x), STORE(x), doc_id, vector, x->d, &length, 1, (const uint8_t *)label, length);
+/* the float list before a call, and whether each place outside two parts has the same bits after it */
+static inline void *floats_before(const index_t *x) {
+    size_t size = (x->floats_len + SURPLUS) * sizeof(float);
+    void *before = malloc(size);
+    if (!before) abort();
+    return memcpy(before, x->floats, size);
 }
 
-static inline uint32_t build(index_t *x) { return curator_build(STATE(x), STORE(x), WORK(x)); }
+static inline int floats_kept(const index_t *x, void *before, size_t from, size_t to, size_t from2, size_t to2) {
+    const char *old = before, *new = (const char *)x->floats;
+    int kept = 1;
+    for (size_t i = 0; i < x->floats_len + SURPLUS; i++)
+        if (!(from <= i && i < to) && !(from2 <= i && i < to2)) kept &= !memcmp(old + 4 * i, new + 4 * i, 4);
+    free(before);
+    return kept;
+}
+
+/* a vector with one label; it writes the vector's places */
+static inline uint32_t add(index_t *x, uint32_t doc_id, const float *vector, const char *label) {
+    uint8_t length = (uint8_t)strlen(label);
+    size_t at = x->state[CURATOR_VECTORS_HELD] * x->d;
+    void *before = floats_before(x);
+    uint32_t number = curator_add(STATE(x), STORE(x), doc_id, vector, x->d, &length, 1, (const uint8_t *)label, length);
+    CHECK(floats_kept(x, before, at, number ? at : at + x->d, 0, 0));
+    return number;
+}
+
+/* A build writes the centroids of its nodes and the centres; refused with 13 any centroid and the centres; otherwise refused, or built before, nothing. */
+static inline uint32_t build(index_t *x) {
+    size_t centroids = x->v * x->d, centres = centroids + x->m * x->d;
+    int built = x->state[CURATOR_BUILT] == 1;
+    void *before = floats_before(x);
+    uint32_t number = curator_build(STATE(x), STORE(x), WORK(x));
+    size_t nodes = number == CURATOR_NODES_FULL ? x->m : x->state[CURATOR_NODES_HELD];
+    int writes = !built && (number == 0 || number == CURATOR_NODES_FULL);
+    CHECK(floats_kept(x, before, centroids, writes ? centroids + nodes * x->d : centroids, centres, writes ? x->floats_len : centres));
+    return number;
+}
 
 enum { HITS = 64 };
 
@@ -91,16 +140,38 @@ typedef struct {
     size_t answer[CURATOR_ANSWER + SURPLUS];
 } answer_t;
 
-static inline void mark(answer_t *a) { memset(a, MARK, sizeof *a); }
-static inline int answer_untouched(const answer_t *a) { return is_marked(a, 0, sizeof *a, 1); }
+static inline void mark(answer_t *a) {
+    memset(a, MARK, sizeof *a);
+    mark_floats(a->distances, HITS);
+}
+
+/* whether the answer lists hold the mark from a hit on, and the answer from a place on */
+static inline int answer_marked(const answer_t *a, size_t hits, size_t values) {
+    return is_marked(a->ids, hits, HITS, sizeof(uint32_t)) && floats_marked(a->distances, hits, HITS)
+        && is_marked(a->answer, values, CURATOR_ANSWER + SURPLUS, sizeof(size_t));
+}
+
+static inline int answer_untouched(const answer_t *a) { return answer_marked(a, 0, 0); }
+
+/* what a search leaves alone: the floats, and the answer lists from the hit count on */
+static inline uint32_t searched(const index_t *x, void *before, const answer_t *a, uint32_t number) {
+    CHECK(floats_kept(x, before, 0, 0, 0, 0));
+    CHECK(number ? answer_untouched(a) : answer_marked(a, a->answer[CURATOR_HITS], CURATOR_ANSWER));
+    return number;
+}
 
 static inline uint32_t search_filtered(index_t *x, answer_t *a, const float *query, const char *label, size_t k) {
+    void *before = floats_before(x);
     mark(a);
-    return curator_search_filtered(STATE(x), STORE(x), WORK(x), query, x->d, (const uint8_t *)label, strlen(label), k,
-                                   a->ids, HITS, a->distances, HITS, a->answer, CURATOR_ANSWER + SURPLUS);
+    return searched(x, before, a,
+                    curator_search_filtered(STATE(x), STORE(x), WORK(x), query, x->d, (const uint8_t *)label, strlen(label), k,
+                                            a->ids, HITS, a->distances, HITS, a->answer, CURATOR_ANSWER + SURPLUS));
 }
 
 static inline uint32_t search(index_t *x, answer_t *a, const float *query, size_t k) {
+    void *before = floats_before(x);
     mark(a);
-    return curator_search(STATE(x), STORE(x), WORK(x), query, x->d, k, a->ids, HITS, a->distances, HITS, a->answer, CURATOR_ANSWER + SURPLUS);
+    return searched(x, before, a,
+                    curator_search(STATE(x), STORE(x), WORK(x), query, x->d, k, a->ids, HITS, a->distances, HITS,
+                                   a->answer, CURATOR_ANSWER + SURPLUS));
 }

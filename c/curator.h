@@ -68,7 +68,10 @@ enum {
     CURATOR_NODES_FULL = 13,         /* the tree has more than M nodes; leaves anything in centroids, centres, the six
                                         numbers of each node, child links, leaf orders, filters and work */
     CURATOR_ANSWER_TOO_SHORT = 14,   /* ids or distances shorter than k, or the answer list shorter than 3 */
-    CURATOR_DAMAGED = 15             /* the store is not what a build left */
+    CURATOR_DAMAGED = 15             /* A number that the call reads in the store points outside. build: an owner not below the vectors held. search,
+                                        in a node that is opened and not denied: a block past what is held; a child not above its parent, not below
+                                        the nodes held or pushed before; a vector, entry or owner not below what is held; one hit too many. Other
+                                        damage is not noticed. Leaves anything in work. */
 };
 
 /* An index that holds nothing: its state in the first twelve places of the state list. The lists of the store may hold anything. */

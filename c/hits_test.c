@@ -3,40 +3,27 @@
    rt staticlib hit_records && gcc -Ic c/hits_test.c target/staticlib/libhit_records.a -o target/hits_test && target/hits_test */
 #include "hit_records.h"
 
-#include <stdio.h>
-#include <string.h>
+#include "check.h"
 
 enum { PLACES = 8 };
 
-static int passed, failed;
-
-#define CHECK(fact)                                                                 \
-    do {                                                                            \
-        if (fact) passed++;                                                         \
-        else { failed++; printf("%s:%d: %s\n", __FILE__, __LINE__, #fact); }        \
-    } while (0)
-
-static uint32_t bits_of(float x) { uint32_t b; memcpy(&b, &x, 4); return b; }
-static float float_of(uint32_t b) { float x; memcpy(&x, &b, 4); return x; }
-
-/* What place i holds before a call. */
+/* What place i holds before a call; its distance is a NaN. */
 static uint32_t held_id(size_t i) { return 90 + (uint32_t)i; }
-static const float held_distance = 2.0f;
 
 /* One call on the first places of a list of eight: what it returns, and every place after it. */
 static void fill(size_t lent, const uint32_t *ids, size_t ids_len, const float *distances, size_t distances_len, size_t count, uint32_t expected) {
     struct curator_hit hits[PLACES];
-    for (size_t i = 0; i < PLACES; i++) hits[i] = (struct curator_hit){held_id(i), held_distance};
+    for (size_t i = 0; i < PLACES; i++) hits[i] = (struct curator_hit){held_id(i), float_of(float_mark(i))};
     CHECK(curator_hits(hits, lent, ids, ids_len, distances, distances_len, count) == expected);
     for (size_t i = 0; i < PLACES; i++) {
         int written = expected == 0 && i < count;
         CHECK(hits[i].id == (written ? ids[i] : held_id(i)));
-        CHECK(bits_of(hits[i].distance) == bits_of(written ? distances[i] : held_distance));
+        CHECK(bits_of(hits[i].distance) == (written ? bits_of(distances[i]) : float_mark(i)));
     }
 }
 
 int main(void) {
-    /* a NaN and -0.0 among the distances: their bits are copied */
+    /* the bits of a distance are copied: of -0.0, of the one NaN that a search writes */
     const uint32_t ids[4] = {7, 9, UINT32_MAX, 0};
     const float distances[4] = {0.0f, float_of(0x3ECCCCCC), float_of(0x7FC00000), float_of(0x80000000)};
 
@@ -49,6 +36,5 @@ int main(void) {
     fill(PLACES, ids, 4, distances, 3, 4, 14);
     fill(0, ids, 0, distances, 0, 1, 14);
     fill(PLACES, ids, 4, distances, 4, SIZE_MAX, 14);
-    printf("%d passed, %d failed\n", passed, failed);
-    return failed != 0;
+    return report();
 }

@@ -4,9 +4,8 @@
 
 #define NAN_BITS 0x7FC00000u
 
-/* NaNs quiet and signalling, of both signs, with and without a payload; infinities; zero; the largest number */
-static const uint32_t odd[] = {0x7FC00000u, 0xFFC00000u, 0x7F800001u, 0xFF800001u, 0x7FFFFFFFu, 0xFFFFFFFFu, 0x7FC12345u, 0xFFA54321u,
-                               0x7F800000u, 0xFF800000u, 0x00000000u, 0x80000000u, 0x7F7FFFFFu};
+/* NaNs, infinities, zeros, the largest number */
+static const uint32_t odd[] = {NAN_PATTERNS, 0x7F800000u, 0xFF800000u, 0x00000000u, 0x80000000u, 0x7F7FFFFFu};
 enum { ODD = sizeof odd / sizeof odd[0], VECTORS = 3 };
 
 static int is_nan(uint32_t b) { return (b & 0x7FFFFFFFu) > 0x7F800000u; }

@@ -34,7 +34,7 @@ pub enum RetrieveError {
     NodesFull,
     /// 14: an answer list is too short.
     AnswerTooShort,
-    /// 15: the store is not what a build left.
+    /// 15: a number that the call reads in the store points outside what is held; other damage is not noticed.
     Damaged,
     /// A label has more than 255 bytes. Refused here, before any call: it has no number.
     LabelTooLong,
