@@ -13,12 +13,13 @@ use Rattle.distance.specs.Vector.{dot, Normalized}
 use Rattle.lists.specs.Lists.{part}
 use Rattle.lists.specs.Parts.{length-part, sets-part}
 use Rattle.store.specs.declared.Shape.{Shape}
-use Rattle.store.specs.Store.{Store, floatsSize, numbersSize, hashesSize, workSize}
+use Rattle.store.specs.Store.{Store, workSize}
 use Rattle.store.specs.declared.Counts.{Counts}
 use Rattle.walk.specs.declared.Searched.{Searched}
 use Rattle.walk.specs.declared.Wanted.{Wanted}
 use Rattle.walk.specs.Answer.{answer}
-use Rattle.walk.specs.Search.{FloatsLent, NumbersLent, HashesLent, WorkLent, Works, SearchEnds, Searches as WalkSearches}
+use Rattle.walk.specs.Contracts.{Works, SearchEnds, SearchGives}
+use Rattle.best_first_search.specs.Ranks.{SearchLent}
 use Rattle.walk.specs.StoreView.{storeView}
 use Rattle.walk.specs.Walk.{State, damaged, going, walk}
 use Rattle.curator.specs.declared.Check.{Check}
@@ -33,38 +34,13 @@ use Rattle.curator.specs.RowLaws.{NoneHolds, fine-none}
 use Rattle.curator.specs.Rows.{Row, stateRow, searchRows}
 use Rattle.store.specs.declared.Lengths.{Lengths}
 use Rattle.curator.specs.Searches.{wantedOf, SearchEnd, searchCheck, WalkedTo, Walked, SearchesBy, Searches}
-use Rattle.curator.specs.Arguments.{SearchCall}
+use Rattle.curator.specs.Arguments.{SearchCall, askingOf}
 use Rattle.curator.specs.StateLaws.{Sound, sound-facts}
-use Rattle.lists.specs.Tests.{and-both}
-use Rattle.curator.specs.Lent.{lengths}
+use Rattle.lists.specs.Tests.{and-both, or-left, or-right}
 use Rattle.search.specs.Lent.{Ready, foundOf}
+use Rattle.store.specs.LentLaws.{lists-long}
 
 -- ---- what no row's case gives
-
--- of two tests neither of which holds
-neither : (a b : Bool) → a || b ≡ false → (a ≡ false) × (b ≡ false)
-neither true b h = absurd (no h)
-  where
-    no : true ≡ false → ⊥
-    no e = let z : _≡_ {A = ℕ} 0 1 = cc in omega arith
-neither false b h = (refl, h)
-
-store-long : (s : Shape) (lent : Lengths) → storeShort s lent ≡ false
-    → (leb (floatsSize s) (lent .floats) ≡ true)
-    × (leb (numbersSize s) (lent .numbers) ≡ true)
-    × (leb (hashesSize s) (lent .hashes) ≡ true)
-unfolding storeShort
-store-long s lent h =
-    let (f, rest) = and-both (leb (floatsSize s) (lent .floats)) _ (not-false _ h) in
-    let (n, k) = and-both (leb (numbersSize s) (lent .numbers)) (leb (hashesSize s) (lent .hashes)) rest in
-    (f, n, k)
-
-lists-long : (s : Shape) (lent : Lengths) → listsShort s lent ≡ false
-    → (storeShort s lent ≡ false) × (workSize s ≤ lent .work)
-unfolding listsShort
-lists-long s lent h =
-    let (a, b) = neither (storeShort s lent) (not (leb (workSize s) (lent .work))) h in
-    (a, leb-true _ _ (not-false _ b))
 
 -- what is built has a node
 has-node : (built : Bool) (c : Counts) → built ≡ true → builtAllowed built c ≡ true → 1 ≤ c .nodes
@@ -85,22 +61,20 @@ ready-of : (index : CuratorIndex) (store : Store) (work : List ℕ) (call : Sear
 unfolding searchRows
 ready-of index store work call (sound, (short, (built, (dimension, (finite, (answers, _)))))) =
     let s = sound-facts index (not-false _ sound) in
-    let (st, w) = lists-long (indexShape index) (lengthsOf store) (length work) short in
-    let (f, n, h) = store-long (indexShape index) (lengthsOf store) (length work) st in
-    let (i, d) = neither (ltb (length (call .ids)) (call .k)) (ltb (length (call .distances)) (call .k)) answers in
+    let long = lists-long (indexShape index) (lengthsOf store) (length work) short in
+    let i = ltb (length (call .ids)) (call .k) in
+    let d = ltb (length (call .distances)) (call .k) in
     record {
-      limits = s .limits;
-      vectors = s .vectors;
-      entries = s .entries;
-      nodes = s .nodes;
-      some = has-node (index .built) (index .counts) (not-false _ built) (s .built);
-      floats = leb-true _ _ f;
-      numbers = leb-true _ _ n;
-      hashes = leb-true _ _ h;
-      work = w;
+      lent =
+          record {
+            within = record { limits = s .limits; vectors = s .vectors; entries = s .entries; nodes = s .nodes };
+            long = long .0;
+            some = has-node (index .built) (index .counts) (not-false _ built) (s .built);
+            work-size = long .1;
+          };
       dimension = eqb-true _ _ (not-false _ dimension);
-      ids = ltb-false _ _ i;
-      distances = ltb-false _ _ d;
+      ids = ltb-false _ _ (or-left i d answers);
+      distances = ltb-false _ _ (or-right i d answers);
     }
 
 pub ready : (index : CuratorIndex) (store : Store) (work : List ℕ) (call : SearchCall) → searchCheck index store work call ≡ Fine
@@ -140,35 +114,18 @@ walked-to (going p) index work call searched end a f h =
 -- ---- a search that is ready
 
 -- what the walk asks of the lists that it is lent
-abbrev Lent : CuratorIndex → Store → List ℕ → ℕ → List ℕ → List Float → Shape → Type 0
-Lent index store work k ids distances s =
-    FloatsLent s (store .floats)
-    × (NumbersLent s (index .counts) (store .numbers)
-    × (HashesLent s (store .hashes) × (WorkLent s (index .counts) work × ((k ≤ length ids) × (k ≤ length distances)))))
-
-pub lent-all : (index : CuratorIndex) (store : Store) (work : List ℕ) (query : List Float) (k : ℕ) (ids : List ℕ) (distances : List Float)
-    → Ready index store work query k ids distances → (s : Shape) → s ≡ indexShape index → Lent index store work k ids distances s
-lent-all index store work query k ids distances r s e =
-    subst (Lent index store work k ids distances) (sym e) (
-      record { limits = r .limits; size = r .floats },
-      (
-        record { limits = r .limits; vectors = r .vectors; entries = r .entries; nodes = r .nodes; size = r .numbers },
-        (
-          record { limits = r .limits; size = r .hashes },
-          (
-            record { limits = r .limits; nodes = r .nodes; some = r .some; size = r .work },
-            (r .ids, r .distances),
-          ),
-        ),
-      ),
-    )
+pub search-lent : (index : CuratorIndex) (store : Store) (work : List ℕ) (query : List Float) (k : ℕ) (ids : List ℕ) (distances : List Float)
+    → Ready index store work query k ids distances → (s : Shape) → s ≡ indexShape index → SearchLent s (index .counts) store work k ids distances
+search-lent index store work query k ids distances r s e =
+    subst (λ (s : Shape). SearchLent s (index .counts) store work k ids distances) (sym e)
+    (record { lent = r .lent; ids-room = r .ids; distances-room = r .distances })
 
 -- the walk from the normalised query, whatever names its arguments have
 pub walked-of : (index : CuratorIndex) (store : Store) (work : List ℕ) (call : SearchCall) (end : SearchEnd) (s : Shape) (squares : Float)
     (query stored : List Float) (wanted : Wanted) (searched : Searched) → s ≡ indexShape index → query ≡ stored → wantedOf (call .question .asked) ≡ wanted
     → squares ≡ dot (call .question .query) (call .question .query) → Normalized squares (call .question .query) stored → workSize (indexShape index) ≤ length work
     → end .answer ≡ foundOf searched
-    → WalkSearches s (index .counts) (index .params .«ef_search») (store .floats) (store .numbers) (store .hashes) query wanted (call .k) work
+    → SearchGives s (index .counts) (index .params .«ef_search») store query wanted (call .k) work
     (call .ids)
     (call .distances)
     searched

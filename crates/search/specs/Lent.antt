@@ -5,7 +5,8 @@ use mathlib.Core.Path.{_≡_}
 use lib.Ieee.{Float}
 use lib.ListN.{length}
 use denote.Ref.{RefT, now}
-use Rattle.store.specs.Store.{Store, Limits, floatsSize, numbersSize, hashesSize, workSize}
+use Rattle.store.specs.Store.{Store}
+use Rattle.walk.specs.Contracts.{StoreLent}
 use Rattle.walk.specs.declared.Searched.{Searched}
 use Rattle.walk.specs.declared.Searched.the-variants as searched
 use Rattle.walk.specs.declared.Wanted.{Wanted}
@@ -20,17 +21,19 @@ use Rattle.curator.specs.Rows.{firstOf, stateRow, searchRows}
 use Rattle.store.specs.declared.Lengths.{Lengths}
 use Rattle.curator.specs.Calls.{factsOf}
 use Rattle.curator.specs.Searches.{wantedOf, SearchEnd, Walked, Searches}
-use Rattle.curator.specs.Arguments.{Asked, everything, labelled, SearchCall}
+use Rattle.curator.specs.Arguments.{Asking, Asked, everything, labelled, SearchCall}
 
 -- what the rows of a search come to, by the lengths of the lists
-abbrev pub searchChecked : CuratorIndex → Lengths → RefT (List Float) → ℕ → ℕ → ℕ → Check
-searchChecked index lent query k ids distances =
-    firstOf (stateRow (stateSound index) ∷ searchRows (factsOf index) lent (now query) k ids distances)
+abbrev pub searchChecked : CuratorIndex → Lengths → ℕ → Asking → Check
+searchChecked index lent work asked = firstOf (stateRow (stateSound index) ∷ searchRows (factsOf index) lent work asked)
+
+abbrev pub asking : RefT (List Float) → ℕ → ℕ → ℕ → Asking
+asking query k ids distances = record { query = now query; k = k; ids = ids; distances = distances }
 
 -- what a search brings, once it is known what it asks for
 abbrev pub looking : RefT (List Float) → ℕ → RefT (List ℕ) → RefT (List Float) → Asked → SearchCall
 looking query k ids distances asked =
-    record { query = now query; asked = asked; k = k; ids = now ids; distances = now distances }
+    record { question = record { query = now query; asked = asked }; k = k; ids = now ids; distances = now distances }
 
 -- `search_filtered` asks for those with a label, `search` for every vector
 abbrev pub filtered : RefT (List Float) → RefT (List ℕ) → ℕ → RefT (List ℕ) → RefT (List Float) → SearchCall
@@ -52,15 +55,7 @@ foundOf (searched.Found hits opened complete) = answers.Hits hits opened complet
 
 -- What the walk relies on, as plain facts: no row's case holds.
 pub record Ready (index : CuratorIndex) (store : Store) (scratch : List ℕ) (query : List Float) (k : ℕ) (found : List ℕ) (far : List Float) : Type 0 where
-  pub limits : Limits (indexShape index)
-  pub vectors : index .counts .vectors ≤ index .capacities .vectors
-  pub entries : index .counts .entries ≤ index .capacities .entries
-  pub nodes : index .counts .nodes ≤ index .capacities .nodes
-  pub some : 1 ≤ index .counts .nodes
-  pub floats : floatsSize (indexShape index) ≤ length (store .floats)
-  pub numbers : numbersSize (indexShape index) ≤ length (store .numbers)
-  pub hashes : hashesSize (indexShape index) ≤ length (store .hashes)
-  pub work : workSize (indexShape index) ≤ length scratch
+  pub lent : StoreLent (indexShape index) (index .counts) store scratch
   pub dimension : length query ≡ index .dimension
   pub ids : k ≤ length found
   pub distances : k ≤ length far

@@ -1,9 +1,8 @@
 // Both searches of an index: the refusals, the query normalised, and the walk (document 01, 'Search').
 ghost use mathlib.Core.Path.{_≡_};
-ghost use Rattle.curator.specs.Lent.{lengths};
 ghost use Rattle.store.specs.Lent.{lent};
 ghost use Rattle.curator.specs.Searches.{Searches};
-ghost use Rattle.search.specs.Lent.{searchChecked, Ready, foundOf, looking, leaving, filtered, unfiltered, SearchesFor, WalkedFor};
+ghost use Rattle.search.specs.Lent.{asking, searchChecked, Ready, foundOf, looking, leaving, filtered, unfiltered, SearchesFor, WalkedFor};
 use curator::Check;
 use curator::CuratorIndex;
 use curator::Found;
@@ -12,27 +11,26 @@ use curator::refusal::InputRefusal;
 use curator::refusal::Refusal;
 use curator::refusal::StateRefusal;
 use curator::refusal::StoreRefusal;
+use store::Lengths;
 use walk::Searched;
 use walk::Wanted;
 
 // The first refusal whose case holds, of those that come before the walk.
 fn search_check(
     index: CuratorIndex,
-    floats: usize,
-    numbers: usize,
-    hashes: usize,
+    lent: Lengths,
     work: usize,
     query: &[f32],
     k: usize,
     ids: usize,
     distances: usize,
 ) -> Check
-    ensures { λ r. ⌜ r ≡ searchChecked index (lengths floats numbers hashes work) (query .entry) k ids distances ⌝ }
+    ensures { λ r. ⌜ r ≡ searchChecked index lent work (asking (query .entry) k ids distances) ⌝ }
 {
     if !limits::state_sound(index) {
         return Check::Refused(Refusal::State(StateRefusal::InvalidState));
     }
-    if limits::lists_short(limits::shape_of(index), floats, numbers, hashes, work) {
+    if limits::shape_of(index).lists_short(lent, work) {
         return Check::Refused(Refusal::Store(StoreRefusal::ListTooShort));
     }
     if !index.built {
@@ -92,7 +90,7 @@ fn walk_from(
     let mut normalized: [f32; 128] = [0.0; 128];
     distance::vector::normalize(query, squares, &mut normalized[start..end]);
     let counts = index.counts;
-    found(best_first_search::search(
+    found(best_first_search::best_first_search(
         limits::shape_of(index),
         counts,
         index.params.ef_search,
@@ -125,11 +123,14 @@ fn search_wanted(
         (looking (query .entry) k (ids .entry) (distances .entry))
         (leaving r (work .exit) (ids .exit) (distances .exit)) ⌝ }
 {
+    let lent = Lengths {
+        floats: floats.len(),
+        numbers: numbers.len(),
+        hashes: hashes.len(),
+    };
     let check = search_check(
         index,
-        floats.len(),
-        numbers.len(),
-        hashes.len(),
+        lent,
         work.len(),
         query,
         k,

@@ -14,7 +14,7 @@ use Rattle.curator.specs.Rows.{Row, firstOf, stateRow, searchRows}
 use Rattle.store.specs.declared.Lengths.{Lengths}
 use Rattle.store.specs.Lent.{listsShort}
 use Rattle.curator.specs.StateLaws.{Sound, sound-facts}
-use Rattle.curator.specs.Lent.{lengths}
+use Rattle.search.specs.Lent.{asking}
 use borrow.Author.Needs.{needs}
 use Rattle.search.proofs.search_check.Statement.{statement}
 use Rattle.search.proofs.search_check.Tie as tie
@@ -39,20 +39,22 @@ abbrev start-6 : tie.Else6 → tie.Start
 start-6 c = start-5 (c .before)
 
 abbrev lens : tie.Start → Lengths
-lens s = lengths (s .args .floats) (s .args .numbers) (s .args .hashes) (s .args .work)
+lens s = s .args .lent
 
 abbrev rows : tie.Start → List Row
 rows s =
     stateRow (stateSound (s .args .index))
-    ∷ searchRows (factsOf (s .args .index)) (lens s) (now (s .args .query)) (s .args .k) (s .args .ids) (s .args .distances)
+    ∷ searchRows (factsOf (s .args .index)) (lens s) (s .args .work) (asking (s .args .query) (s .args .k) (s .args .ids) (s .args .distances))
 
 sound : (c : tie.Else1) → Sound (start-1 c .args .index)
 sound c = sound-facts _ (sym (c .before .state-sound .ensures) ∙ not-false _ (c .if1 .left))
 
 -- what the second row asks, by the shape that was made
 short : (c : tie.After-lists-short)
-    → c .lists-short .result ≡ listsShort (indexShape (start-1 (c .before .before) .args .index)) (lens (start-1 (c .before .before)))
-short c = c .lists-short .ensures ∙ ap (λ (s : Shape). listsShort s (lens (start-1 (c .before .before)))) (c .before .shape-of .ensures)
+    → c .lists-short .result ≡ listsShort (indexShape (start-1 (c .before .before) .args .index)) (lens (start-1 (c .before .before))) (start-1 (c .before .before) .args .work)
+short c =
+    let start = start-1 (c .before .before) in
+    c .lists-short .ensures ∙ ap (λ (s : Shape). listsShort s (lens start) (start .args .work)) (c .before .shape-of .ensures)
 
 after-1 : (c : tie.Else1) → firstOf (rows (start-1 c)) ≡ firstOf (drop 1 (rows (start-1 c)))
 unfolding searchRows

@@ -6,7 +6,7 @@ use lib.ListN.{length}
 use denote.Ref.{now}
 use Rattle.lists.specs.Parts.{front-room, front-back}
 use Rattle.curator.specs.StateLaws.{length-stored}
-use Rattle.search.proofs.Laws.{lent-all, walked-of}
+use Rattle.search.proofs.Laws.{search-lent, walked-of}
 use borrow.Author.Needs.{needs}
 use Rattle.search.proofs.walk_from.Statement.{statement}
 use Rattle.search.proofs.walk_from.Tie as tie
@@ -32,22 +32,22 @@ normalize-requires c κs = search needs
 shape-of-requires : tie.Need-shape-of-requires
 shape-of-requires c κs = search needs
 
-mul-search : tie.Need-mul-search
-mul-search c = search needs
+mul-best-first-search : tie.Need-mul-best-first-search
+mul-best-first-search c = search needs
 
-sub-search : tie.Need-sub-search
-sub-search c = search needs
+sub-best-first-search : tie.Need-sub-best-first-search
+sub-best-first-search c = search needs
 
-part-search-start : tie.Need-part-search-start
-part-search-start c = search needs
+part-best-first-search-start : tie.Need-part-best-first-search-start
+part-best-first-search-start c = search needs
 
-part-search-end : tie.Need-part-search-end
-part-search-end c =
+part-best-first-search-end : tie.Need-part-best-first-search-end
+part-best-first-search-end c =
     let normalized = c .before .before .before .before .before .normalize in
     front-room (normalized .last .1 .1 .0) _ _ (length-stored (normalized .ensures))
 
-search-requires : tie.Need-search-requires
-search-requires c κs = lent-all _ _ _ _ _ _ _ (c .before .before .before .before .before .before .before .before .before .before .before .before .before .before .before .before .before .before .pre) _ (c .before .before .before .before .before .shape-of .ensures)
+best-first-search-requires : tie.Need-best-first-search-requires
+best-first-search-requires c κs = search-lent _ _ _ _ _ _ _ (c .before .before .before .before .before .before .before .before .before .before .before .before .before .before .before .before .before .before .pre) _ (c .before .before .before .before .before .shape-of .ensures)
 
 found-requires : tie.Need-found-requires
 found-requires c κs = search needs
@@ -72,9 +72,9 @@ returns c =
     e
     (c .before .before .before .before .before .before .before .before .before .before .before .before .before .before .before .before .before .before .dot .ensures)
     (normalized .ensures)
-    (start .pre .work)
+    (start .pre .lent .work-size)
     (c .found .ensures)
-    (c .before .before .before .before .before .before .before .search .ensures)
+    (c .before .before .before .before .before .before .before .best-first-search .ensures)
 
 pub walk-from-spec : {M : Type 1} → statement M
 walk-from-spec =
@@ -87,11 +87,11 @@ walk-from-spec =
     part-normalized-end
     normalize-requires
     shape-of-requires
-    mul-search
-    sub-search
-    part-search-start
-    part-search-end
-    search-requires
+    mul-best-first-search
+    sub-best-first-search
+    part-best-first-search-start
+    part-best-first-search-end
+    best-first-search-requires
     found-requires
     same-length
     same-length-2
