@@ -29,7 +29,8 @@ use Rattle.load.specs.declared.carry.Carried.the-variants.{End, Refused,
 use Rattle.load.specs.declared.Step.{Step}
 use Rattle.load.specs.declared.Step.the-variants.{Ended, Next}
 use Rattle.load.specs.File.{Progress, unset, running, knownOf, Outcome, refused, printed, carried, Front, ends, goes, then, read, front, refusedText, textOf, textFrom, fileText}
-use Rattle.load.specs.Step.{Lent, Steps, known, CarriesRead, CarriesAt, carriedText, stepOf}
+use Rattle.load.specs.Step.{Lent, Steps, known, CarriesRead, CarriesAt, carriedText, stepOf, printedOf}
+use Rattle.load.specs.Onward.{printed-step}
 use Rattle.load.specs.Theorem.{Sized, Chain, last, more, Prints}
 use Rattle.load.specs.Agrees.{Stands, Agrees, record-agrees}
 
@@ -77,16 +78,6 @@ front-comes file at progress loading lent c lent′ z h by =
     (subst (λ (k : Known). CarriesRead (decode k (drop at file)) file at loading lent c lent′) (same-known progress loading (lent .store) h) by)
 
 -- ---- what a step says
-
-abbrev printedOf : Step → ℕ
-printedOf (Ended n) = n
-printedOf (Next loading at n) = n
-
-printed-step : (c : Carried) (n : ℕ) → printedOf (stepOf c n) ≡ n
-printed-step End n = refl
-printed-step (Refused r) n = refl
-printed-step (Silent loading next) n = refl
-printed-step (Answered index next count opened complete) n = refl
 
 abbrev loadingOf : Step → Loading
 loadingOf (Ended n) = Unset
