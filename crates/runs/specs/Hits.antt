@@ -3,14 +3,13 @@
 use Prim.Native.Nat.{ℕ, _/_, _%_, _^_, _≤_, _<_}
 use native.Mathlib.Omega.{arith}
 use mathlib.Core.Bool.{true}
-use mathlib.Core.List.{List, [], _∷_, map, map-map, List·Memᴰ, List·Memᴰ·head, List·Memᴰ·tail, List·Memᴰ·not-nil, List·Memᴰ·cases-cons}
+use mathlib.Core.List.{List, map, map-map, List·Memᴰ}
 use mathlib.Core.Path.{_≡_, refl, sym, ap, _∙_, subst}
 use lib.ListN.{length, getD}
 use Rattle.lists.specs.Maps.{map-on}
 use Rattle.lists.specs.Counting.{sumOf, sumOf-map, getD-Memᴰ, Memᴰ-keep}
 use Rattle.lists.specs.Partition.{hit, count, count-Memᴰ, Memᴰ-count}
 use Rattle.order.specs.Sorted.{sort}
-use Rattle.order.specs.SortedLaws.{either}
 use Rattle.distance.specs.DistanceLaws.{distance-fits}
 use Rattle.distance.specs.TotalOrder.{keyOf, ofKey}
 use Rattle.distance.specs.OrderLaws.{ofKey-keyOf}
@@ -24,8 +23,8 @@ use Rattle.walk.specs.AnswerLaws.{ranked-all}
 use Rattle.curator.specs.Searches.{SearchCall, wantedOf}
 use Rattle.runs.specs.Model.{Setting, Model, ModelRow, noRow, rowHit, treeView}
 use Rattle.runs.specs.Theorem.{Distinct, about, carries, rowDistance}
-use Rattle.runs.specs.State.{Allowed, Within}
-use Rattle.runs.specs.Reached.{Small}
+use Rattle.runs.specs.ListLaws.{Memᴰ-map}
+use Rattle.runs.specs.State.{Allowed, Within, Small}
 use Rattle.runs.specs.Due.{dueBelow, sizeAt, IsNode, sound-tree, root-due}
 use Rattle.runs.specs.Eligible.{numbersAbout, due-about, number-below, rank-hit, ranks-about, rowRank, hitRank, documents-different}
 
@@ -48,11 +47,6 @@ rank-distance call r h =
 pub hit-distance : (hit : ℕ) → distanceOf hit ≡ ofKey (hitRank hit / 2 ^ 32)
 unfolding distanceOf
 hit-distance hit = let e : hit / 2 ^ 64 ≡ hit / 2 ^ 32 / 2 ^ 32 = omega arith in ap ofKey e
-
-Mem-map : {A : Type 0} (f : A → ℕ) (l : List A) (y : ℕ) → List·Memᴰ y (map f l) → (x : A) × List·Memᴰ x l × (y ≡ f x)
-Mem-map f [] y k = absurd (List·Memᴰ·not-nil k)
-Mem-map f (x ∷ xs) y k =
-    either (List·Memᴰ·cases-cons k) (λ e. (x, List·Memᴰ·head refl, e)) (λ n. let r = Mem-map f xs y n in (r .0, List·Memᴰ·tail (r .1), r .2))
 
 count-sum : (x : ℕ) (l : List ℕ) → count x (map documentOf l) ≡ sumOf (λ h. hit x (documentOf h)) l
 unfolding count
@@ -103,7 +97,7 @@ module _ (s : Setting) (m : Model) (a : Allowed s) (w : Within s m) (d : Distinc
       → (i : ℕ) × (i < length (m .rows)) × (h ≡ rowHit m (normalized (call .query)) i)
   found-row b p e h k =
       let some : 0 < count h (hitsAbout m call) = omega (arith, Memᴰ-count k, found-part b p e (hit h), count-is h (p .found), count-is h (hitsAbout m call)) in
-      let r = Mem-map (rowHit m (normalized (call .query))) (numbersAbout (wantedOf (call .asked)) 0 (m .rows)) h (count-Memᴰ h (hitsAbout m call) some) in
+      let r = Memᴰ-map (rowHit m (normalized (call .query))) (numbersAbout (wantedOf (call .asked)) 0 (m .rows)) h (count-Memᴰ h (hitsAbout m call) some) in
       (r .0, number-below (wantedOf (call .asked)) m (r .0) (r .1), r .2)
 
   -- so its key is its distance's

@@ -19,9 +19,10 @@ use Rattle.curator.specs.declared.Check.{Check}
 use Rattle.curator.specs.declared.Check.the-variants as Check′
 use Rattle.curator.specs.Outcome.{foundNumber}
 use Rattle.curator.specs.Searches.{SearchCall, wantedOf, Searches, SearchesBy, WalkedTo}
-use Rattle.runs.specs.Model.{Setting, Model, rowHashes, nodeCount, settingShape, modelSearchCheck, modelWalk, treeView}
-use Rattle.runs.specs.Run.{Fronts, search, Ended, found, joinStores, SearchStep}
-use Rattle.runs.specs.Theorem.{lentBy, answered, searchedBy, Matches}
+use Rattle.runs.specs.Calls.{Fronts, search, lentBy}
+use Rattle.runs.specs.Model.{Setting, Model, rowHashes, nodeCount, settingShape, modelSearchCheck, answered, searchedBy, modelWalk, treeView}
+use Rattle.runs.specs.Run.{Ended, found, joinStores, SearchStep}
+use Rattle.runs.specs.Theorem.{Matches}
 use Rattle.runs.specs.State.{Allowed, Within, stateOf, nodesHeld}
 use Rattle.runs.specs.Held.{Held}
 use Rattle.runs.specs.Refusals.{search-refused, search-room, SearchRoom}
@@ -62,7 +63,7 @@ module _ (s : Setting) (allowed : Allowed s) (m : Model) (index : CuratorIndex) 
       λ i. record { vectors = length (m .rows); entries = length (rowHashes m); nodes = built-counts (m .built) s m (room .built) i } in
       let facts : NodeFacts s m = node-facts s m allowed w (w .nodes (room .built)) in
       let wide : LongStore s (st .front) = long-store s fronts (st .front) work (st .lent) (room .long) in
-      let held : Held s m (st .front) = held-front s m store (st .front) (st .rest) w (st .whole) wide (inv .held) in
+      let held : Held s m (st .front) = held-front s m (st .front) (st .rest) w wide (subst (Held s m) (st .whole) (inv .held)) in
       let laid : Laid s m (st .front) =
       laid-same s m (joinStores (st .front) (st .rest)) (st .front) facts (long-lists s (st .front) (st .rest) wide) (subst (Laid s m) (st .whole) (inv .laid (room .built))) in
       ap₂ (λ (c : Counts) (v : List Float). walk (storeView (settingShape s) c (st .front) v wanted) ef) counts q
@@ -75,7 +76,7 @@ module _ (s : Setting) (allowed : Allowed s) (m : Model) (index : CuratorIndex) 
   walked-holds damaged e by =
       let r = walk-goes s m allowed (inv .within) call in
       absurd (let z : damaged ≡ going (r .0) = sym e ∙ r .1 in let n : _≡_ {A = ℕ} 0 1 = cc in omega arith)
-  walked-holds (going p) e by = record { answer = by .answer; ids = by .ids; distances = by .distances }
+  walked-holds (going p) e by = (by .answer, by .ids, by .distances)
 
   ends : (c : Check) → modelSearchCheck s m (lentBy fronts work) call ≡ c → SearchesBy c (stateOf s m) (st .front) work call (st .search-end)
       → Matches (searchedBy c (call .k) (modelWalk s m call)) (search fronts work call) (found (st .search-end))
