@@ -4,7 +4,7 @@ use Prim.Native.Nat.{ℕ, zero, suc, _+_, _-_, _≤_, _<_}
 use native.Mathlib.Nat.{zero-add}
 use native.Mathlib.Omega.{arith}
 use mathlib.Core.Bool.{Bool, true, false}
-use mathlib.Core.List.{List}
+use mathlib.Core.List.{List, []}
 use mathlib.Core.Path.{_≡_, refl, sym, ap, _∙_}
 use lib.Dec.{ltb, leb}
 use lib.Ieee.{nan}
@@ -20,7 +20,9 @@ use Rattle.curator.specs.declared.refusal.InputRefusal.the-variants.{BadRecord,
 use Rattle.curator.specs.Changes.{AddCall, created, Builds}
 use Rattle.curator.specs.Searches.{SearchCall, everything, labelled}
 use Rattle.runs.specs.Agree.{SameLengths}
-use Rattle.runs.specs.Exists.{add-outcome, build-outcome, search-outcome}
+use Rattle.runs.specs.Calls.{add, build}
+use Rattle.runs.specs.Reached.{change-laws}
+use Rattle.runs.specs.Exists.{search-outcome}
 use Rattle.echo_file.specs.Format.{Record, settings, vector, filtered, unfiltered, encode, Bytes}
 use Rattle.echo_file.specs.FieldLaws.{bytes-drop}
 use Rattle.echo_file.specs.Decode.{Decoded, none, found, decode}
@@ -71,15 +73,15 @@ built index call next lent (Changed′.Index ready) store work b same =
 
 looked-up : (index : CuratorIndex) (call : Lent → SearchCall) (next : ℕ) (lent : Lent) → Outcome (SearchesBuilt index call next lent) lent
 looked-up index call next lent =
-    let b = build-outcome index (lent .store) (lent .work) in built index call next lent (b .answer) (b .store′) (b .work′) (b .builds) (b .lengths)
+    let b = change-laws build .outcome index (lent .store) (lent .work) in built index call next lent (b .answer) (b .store′) (b .work′) (b .changes) (b .lengths)
 
 added : (index : CuratorIndex) (call : AddCall) (next : ℕ) (lent : Lent) → Outcome (AddsVector index call next lent) lent
 added index call next lent =
-    let a = add-outcome index (lent .store) call in
+    let a = change-laws (add call) .outcome index (lent .store) [] in
     record {
       carried = addedBy (a .answer) next;
       lent′ = record { store = a .store′; work = lent .work; ids = lent .ids; distances = lent .distances };
-      holds = record { answer = a .answer; adds = a .adds; work = refl; ids = refl; distances = refl; comes = refl };
+      holds = record { answer = a .answer; adds = a .changes; work = refl; ids = refl; distances = refl; comes = refl };
       lengths = a .lengths;
     }
 

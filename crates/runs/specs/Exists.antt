@@ -31,7 +31,7 @@ use Rattle.runs.specs.Reached.{change-laws}
 
 -- ---- every search has an outcome
 
-record SearchOutcome (index : CuratorIndex) (store : Store) (work : List ℕ) (call : SearchCall) : Type 0 where
+pub record SearchOutcome (index : CuratorIndex) (store : Store) (work : List ℕ) (call : SearchCall) : Type 0 where
   pub end : SearchEnd
   pub searches : Searches index store work call end
 
@@ -58,7 +58,7 @@ search-by index store work call Check′.Fine =
     let r = walked-by index work call (walk view (index .params .«ef_search»)) in
     (r .0, record { query = normalized (call .query); normalized = normalized-holds (call .query); walked = r .1 })
 
-search-outcome : (index : CuratorIndex) (store : Store) (work : List ℕ) (call : SearchCall) → SearchOutcome index store work call
+pub search-outcome : (index : CuratorIndex) (store : Store) (work : List ℕ) (call : SearchCall) → SearchOutcome index store work call
 unfolding Searches
 search-outcome index store work call = let r = search-by index store work call (searchCheck index store work call) in record { end = r .0; searches = r .1 }
 
