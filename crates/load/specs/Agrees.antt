@@ -57,7 +57,7 @@ use Rattle.load.specs.declared.carry.Carried.{Carried}
 use Rattle.load.specs.declared.carry.Carried.the-variants.{Refused, Silent, Answered}
 use Rattle.load.specs.declared.Step.the-variants.{Next}
 use Rattle.load.specs.File as file
-use Rattle.load.specs.File.{Progress, unset, running, Outcome, stops, printed, largest, fronts, capacities, answerPlaces, searchCall, adding, searching, refusedText, answerText, before, called, carriedOut, opened, carried}
+use Rattle.load.specs.File.{Progress, unset, running, Outcome, stops, printed, largest, fronts, capacities, answerPlaces, searchCall, adding, searching, refusedText, answerText, before, called, outcomeOf, opened, carried}
 use Rattle.load.specs.Step as step
 use Rattle.load.specs.Step.{openedBy, addedBy, foundBy, AddsVector, SearchesBuilt, AfterBuild, searchWith, searchEnd, CarriesOut, carriedText, stepOf}
 use Rattle.load.specs.Theorem.{Sized}
@@ -142,8 +142,8 @@ module _ (s : Setting) (allowed : Allowed s) (index : CuratorIndex) where
       (Running i, (λ n. ap (λ (x : Carried). stepOf x n) k), ap (λ (x : Carried). carriedText x (lent .ids) (lent .distances)) k, (allowed, inv))
 
   add-agrees : (m : Model) (call : AddCall) (next : ℕ) (lent : step.Lent) (c : Carried) (lent′ : step.Lent) → Sized lent → Invariant s m index (lent .store)
-      → AddsVector index call next lent c lent′ → Agrees (carriedOut s m (adding call)) next c lent′
-  unfolding carriedOut expected after
+      → AddsVector index call next lent c lent′ → Agrees (outcomeOf s m (adding call)) next c lent′
+  unfolding outcomeOf expected after
   add-agrees m call next lent c lent′ z inv a =
       let k = change-whole s allowed m index lent z [] [] (lent′ .store) (add call) (a .answer) inv (a .adds) in
       add-by (after s m (change fronts [] (add call))) next c lent′ (checkNumber (changeCheck s m (lentBy fronts []) (add call))) (a .answer) (k .number-is) (k .invariant) (a .comes)
@@ -299,8 +299,8 @@ module _ (s : Setting) (allowed : Allowed s) (index : CuratorIndex) (k : ℕ) (a
       search-agrees s m′ k asked patterns lent z i next c lent′ work (by .0) allowed sizes w inv (by .1) (by .2)
 
   build-agrees : (m : Model) → Invariant s m index (lent .store) → SearchesBuilt index (searchWith (file.floats patterns) k asked) next lent c lent′
-      → Agrees (carriedOut s m (searching (searchCall k asked patterns))) next c lent′
-  unfolding carriedOut expected after
+      → Agrees (outcomeOf s m (searching (searchCall k asked patterns))) next c lent′
+  unfolding outcomeOf expected after
   build-agrees m inv a =
       let ends = change-whole s allowed m index lent z (lent .work) (a .work) (lent′ .store) build (a .answer) inv (a .builds) in
       let same = build-lengths index (lent .store) (lent .work) (a .answer) (lent′ .store) (a .work) (a .builds) in

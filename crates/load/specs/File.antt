@@ -119,10 +119,10 @@ called (answers a) later = before (answerText a) later
 called nothing later = stops (refusedText (Store Damaged))
 
 -- calls one after the other
-unfoldable pub carriedOut : Setting → Model → List Call → Outcome
+unfoldable pub outcomeOf : Setting → Model → List Call → Outcome
 unfolding called expected after
-carriedOut s m [] = printed [] (running s m)
-carriedOut s m (call ∷ calls) = called (expected s m call) (carriedOut s (after s m call) calls)
+outcomeOf s m [] = printed [] (running s m)
+outcomeOf s m (call ∷ calls) = called (expected s m call) (outcomeOf s (after s m call) calls)
 
 -- a settings record that comes first is put to `new`; 'D from 17 to 128 is printed as refused 2'
 unfoldable pub opened : Changed → ℕ → CuratorParams → Outcome
@@ -134,7 +134,7 @@ opened (Changed′.Index index) dimension params =
 
 -- a complete record; 17: 'settings not first, or given again'
 unfoldable pub carried : Progress → Record → Outcome
-unfolding created opened carriedOut refusedText
+unfolding created opened outcomeOf refusedText
 carried unset (settings dimension branching leaf-size ef beam) =
     let params = paramsOf branching leaf-size ef beam in
     opened (created dimension params capacities) dimension params
@@ -142,9 +142,9 @@ carried unset (vector document labels patterns) = stops (refusedText (Input Sett
 carried unset (filtered k label patterns) = stops (refusedText (Input SettingsOrder))
 carried unset (unfiltered k patterns) = stops (refusedText (Input SettingsOrder))
 carried (running s m) (settings dimension branching leaf-size ef beam) = stops (refusedText (Input SettingsOrder))
-carried (running s m) (vector document labels patterns) = carriedOut s m (adding (addCall document labels patterns))
-carried (running s m) (filtered k label patterns) = carriedOut s m (searching (searchCall k (labelled label) patterns))
-carried (running s m) (unfiltered k patterns) = carriedOut s m (searching (searchCall k everything patterns))
+carried (running s m) (vector document labels patterns) = outcomeOf s m (adding (addCall document labels patterns))
+carried (running s m) (filtered k label patterns) = outcomeOf s m (searching (searchCall k (labelled label) patterns))
+carried (running s m) (unfiltered k patterns) = outcomeOf s m (searching (searchCall k everything patterns))
 
 -- what the front of some bytes comes to; 16: 'unknown mark, or it ends inside a record'
 pub data Front : Type 0 where

@@ -1,5 +1,5 @@
 -- Document 01, 'The book', here the model: 'It is written from the settings, the capacities and the calls' arguments, list lengths among them; never
--- from state, store or answers.' A line of the book is a row of the model.
+-- from state, store or answers.' A line of the book is a row of the model. It says what is expected of every call, and is changed by it.
 use Prim.Native.Nat.{ℕ, suc}
 use mathlib.Core.Bool.{Bool, true, false, not}
 use mathlib.Core.List.{List, [], _∷_, _++_, map}

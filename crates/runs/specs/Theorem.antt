@@ -1,5 +1,6 @@
--- Demand 3: what the model (01's book, Model.antt) expects of a whole list of calls, and the one claim about every run of it (Run.antt). It is proved in
--- Demand.antt. Words in quotation marks are document 01's, 'Runs' and 'The book'; (a) and (b) are the two parts of the demand.
+-- Demand 3: when a call has ended as the model (01's book, Model.antt) expects, the premise, what a search is about, and the one claim about every run of
+-- a list of calls (Run.antt). It is proved in Demand.antt. Words in quotation marks are document 01's, 'Runs' and 'The book'; (a) and (b) are the two
+-- parts of the demand.
 use Prim.Native.Nat.{ℕ, _≤_, _<_}
 use mathlib.Core.Bool.{Bool, true, false, _||_}
 use mathlib.Core.List.{List, [], _∷_, map, List·Memᴰ, List·Permᴰ}
