@@ -1,6 +1,6 @@
 -- A record that the code carries out comes to what the model says: each call is a step of a run (crates/runs), so it is refused alike, or answered alike,
 -- and state and store go on standing for the model.
-use Prim.Native.Nat.{ℕ, _+_, _≤_, _<_}
+use Prim.Native.Nat.{ℕ, zero, suc, _≤_, _<_}
 use native.Mathlib.Nat.{zero-add}
 use native.Mathlib.Omega.{arith}
 use mathlib.Core.Bool.{Bool, true, false, cond}
@@ -15,6 +15,7 @@ use Rattle.lists.specs.Counting.{joined-congr, Memᴰ-countFrom}
 use Rattle.lists.specs.Parts.{getD-sets-in}
 use Rattle.store.specs.Store.{Store, workSize}
 use Rattle.tree.specs.LayoutLaws.{length-floatsOf, length-numbersOf, length-hashesOf}
+use Rattle.walk.specs.Walk as walk
 use Rattle.walk.specs.Walk.{State, damaged, going}
 use Rattle.walk.specs.Answer.{answer, ranked, documentOf, distanceOf}
 use Rattle.curator.specs.declared.CuratorIndex.{CuratorIndex}
@@ -31,30 +32,33 @@ use Rattle.curator.specs.declared.refusal.SettingsRefusal.the-variants.{Invalid
 use Rattle.curator.specs.declared.refusal.InputRefusal.the-variants.{SettingsOrder}
 use Rattle.curator.specs.Outcome.{number, checkNumber, changedNumber}
 use Rattle.curator.specs.Limits.{indexShape}
-use Rattle.curator.specs.Rows.{firstOf, searchRows}
+use Rattle.store.specs.declared.Lengths.{Lengths}
 use Rattle.curator.specs.RowLaws.{number-positive}
 use Rattle.curator.specs.Changes.{Builds, BuildsBy, BuildsFine, buildCheck, heldNodes, created, freeOf, workPart}
 use Rattle.curator.specs.Arguments.{AddCall, SearchCall, Asked, everything, labelled}
 use Rattle.curator.specs.Searches.{Searches}
-use Rattle.runs.specs.Model as model
-use Rattle.runs.specs.Model.{Setting, Model, emptyModel, modelAddCheck, modelBuildCheck, modelSearchCheck, modelWalk, modelFacts, builtBy}
-use Rattle.runs.specs.Run.{build, search, changed, found, Lent, joinStores, nextIndex, AddStep, BuildStep, SearchStep}
-use Rattle.runs.specs.Theorem.{lentBy, answered, searchedBy, Matches}
+use Rattle.runs.specs.Calls.{Change, add, build, change, search, lentBy, Alike}
+use Rattle.runs.specs.Model.{Setting, Model, emptyModel, changeCheck, changedBy, modelSearchCheck, modelWalk, Expected, returns, answers, answered, searchedBy, expected, after}
+use Rattle.runs.specs.Run.{found, Lent, joinStores, nextIndex, Changes, SearchStep}
+use Rattle.runs.specs.Theorem.{AnsweredWith, replyOf, Matches}
 use Rattle.runs.specs.Agree.{SameLengths}
 use Rattle.runs.specs.State.{Allowed, created-is}
 use Rattle.runs.specs.Refusals.{SearchRoom, search-room}
-use Rattle.runs.specs.Invariant.{Invariant, begins, add-step}
-use Rattle.runs.specs.Builds.{build-step, freed-length}
+use Rattle.runs.specs.Invariant.{Invariant, begins}
+use Rattle.runs.specs.ChangeLaws.{ChangeEnds}
+use Rattle.runs.specs.Builds.{freed-length}
 use Rattle.runs.specs.Search.{search-step}
+use Rattle.runs.specs.Reached.{change-keeps}
+use Rattle.runs.specs.Contents.{alike-expected}
 use Rattle.echo_file.specs.Format.{Record, settings, vector, filtered, unfiltered}
-use Rattle.text.specs.Lines.{hitLines, hitAt, hitLine, closingLine}
+use Rattle.text.specs.Lines.{hitLines, hitAt, hitLine, closingLine, refusedLine}
 use Rattle.load.specs.declared.Loading.{Loading}
 use Rattle.load.specs.declared.Loading.the-variants.{Unset, Running}
 use Rattle.load.specs.declared.carry.Carried.{Carried}
 use Rattle.load.specs.declared.carry.Carried.the-variants.{Refused, Silent, Answered}
 use Rattle.load.specs.declared.Step.the-variants.{Next}
 use Rattle.load.specs.File as file
-use Rattle.load.specs.File.{Progress, unset, running, Outcome, refused, printed, largest, fronts, lentWith, capacities, answerPlaces, searchCall, answerText, opened, added, built, searched, walked, searching, carried}
+use Rattle.load.specs.File.{Progress, unset, running, Outcome, stops, printed, largest, fronts, capacities, answerPlaces, searchCall, adding, searching, refusedText, answerText, before, called, outcomeOf, opened, carried}
 use Rattle.load.specs.Step as step
 use Rattle.load.specs.Step.{openedBy, addedBy, foundBy, AddsVector, SearchesBuilt, AfterBuild, searchWith, searchEnd, CarriesOut, carriedText, stepOf}
 use Rattle.load.specs.Theorem.{Sized}
@@ -66,9 +70,9 @@ Stands unset (Running index) store = ⊥
 Stands (running s m) Unset store = ⊥
 Stands (running s m) (Running index) store = Allowed s × Invariant s m index store
 
--- a record came to what the model says: refused with the same number, or the same text and what stands for the model after it
+-- a record came to what the model says: refused with the same text, or the same text and what stands for the model after it
 abbrev pub Agrees : Outcome → ℕ → Carried → step.Lent → Type 0
-Agrees (refused r) next carried lent = (q : Refusal) × (carried ≡ Refused q) × (number q ≡ number r)
+Agrees (stops text) next carried lent = (q : Refusal) × (carried ≡ Refused q) × (refusedText q ≡ text)
 Agrees (printed text progress) next carried lent =
     (loading : Loading) × ((n : ℕ) → stepOf carried n ≡ Next loading next n) × (carriedText carried (lent .ids) (lent .distances) ≡ text) × Stands progress loading (lent .store)
 
@@ -87,12 +91,20 @@ join-nothing store = λ i. record {
 whole-lent : (lent : step.Lent) → Sized lent → Lent fronts (lent .store)
 whole-lent lent z = record { floats = z .floats; numbers = z .numbers; hashes = z .hashes }
 
+-- a change of the whole lists
+change-whole : (s : Setting) → Allowed s → (m : Model) (index : CuratorIndex) (lent : step.Lent) → Sized lent → (work work′ : List ℕ) (store′ : Store) (what : Change) (answer : Changed)
+    → Invariant s m index (lent .store) → Changes what index (lent .store) work answer store′ work′
+    → ChangeEnds s m (lentBy fronts work) what answer (nextIndex index answer) store′
+change-whole s allowed m index lent z work work′ store′ what answer inv by =
+    subst (λ (x : Store). ChangeEnds s m (lentBy fronts work) what answer (nextIndex index answer) x) (sym (join-nothing store′))
+    (change-keeps s allowed m index fronts work work′ (lent .store) nothing store′ what answer (subst (Invariant s m index) (join-nothing (lent .store)) inv) (whole-lent lent z) by)
+
 -- ---- settings
 
 open-by : (b : Bool) (index : CuratorIndex) (d : ℕ) (params : CuratorParams) (next : ℕ) (c : Carried) (lent : step.Lent)
     → created d params capacities ≡ Changed′.Index index
     → c ≡ cond b (Refused (Settings InvalidConfig)) (Silent (Running index) next)
-    → Agrees (cond b (refused (Settings InvalidConfig)) (printed [] (running (record { dimension = d; params = params; capacities = capacities }) emptyModel))) next c lent
+    → Agrees (cond b (stops (refusedText (Settings InvalidConfig))) (printed [] (running (record { dimension = d; params = params; capacities = capacities }) emptyModel))) next c lent
 open-by true index d params next c lent e k = (Settings InvalidConfig, k, refl)
 open-by false index d params next c lent e k =
     let s : Setting = record { dimension = d; params = params; capacities = capacities } in
@@ -114,34 +126,28 @@ open-agrees (Changed′.Index index) d params next c lent e k = open-by (ltb 16 
 no-number : {C : Type 0} (r : Refusal) → 0 ≡ number r → C
 no-number r e = absurd (omega (arith, number-positive r, e))
 
-module _ (s : Setting) (allowed : Allowed s) (m : Model) (index : CuratorIndex) where
-  add-by : (call : AddCall) (next : ℕ) (c : Carried) (lent : step.Lent) (check : Check) (answer : Changed) → changedNumber answer ≡ checkNumber check
-      → Invariant s (model.addedBy check m call) (nextIndex index answer) (lent .store) → c ≡ addedBy answer next → Agrees (added check s m call) next c lent
-  unfolding added nextIndex
-  add-by call next c lent (Check′.Refused r) (Changed′.Index i) e inv k = no-number r e
-  add-by call next c lent (Check′.Refused r) (Changed′.Refused q) e inv k = (q, k, e)
-  add-by call next c lent Check′.Fine (Changed′.Refused q) e inv k = no-number q (sym e)
-  add-by call next c lent Check′.Fine (Changed′.Index i) e inv k =
+-- a call that returned a number other than 0 ends the file
+refused-called : (n : ℕ) (later : Outcome) → 0 < n → called (returns n) later ≡ stops (refusedLine n)
+unfolding called
+refused-called zero later h = absurd (omega (arith, h))
+refused-called (suc n) later h = refl
+
+module _ (s : Setting) (allowed : Allowed s) (index : CuratorIndex) where
+  add-by : (m′ : Model) (next : ℕ) (c : Carried) (lent : step.Lent) (n : ℕ) (answer : Changed) → changedNumber answer ≡ n
+      → Invariant s m′ (nextIndex index answer) (lent .store) → c ≡ addedBy answer next → Agrees (called (returns n) (printed [] (running s m′))) next c lent
+  unfolding called nextIndex refusedText
+  add-by m′ next c lent (suc n) (Changed′.Index i) e inv k = absurd (omega (arith, e))
+  add-by m′ next c lent (suc n) (Changed′.Refused q) e inv k = (q, k, ap refusedLine e)
+  add-by m′ next c lent zero (Changed′.Refused q) e inv k = no-number q (sym e)
+  add-by m′ next c lent zero (Changed′.Index i) e inv k =
       (Running i, (λ n. ap (λ (x : Carried). stepOf x n) k), ap (λ (x : Carried). carriedText x (lent .ids) (lent .distances)) k, (allowed, inv))
 
-  add-agrees : (call : AddCall) (next : ℕ) (lent : step.Lent) (c : Carried) (lent′ : step.Lent) → Sized lent → Invariant s m index (lent .store)
-      → AddsVector index call next lent c lent′ → Agrees (added (modelAddCheck s m (lentWith 0) call) s m call) next c lent′
-  add-agrees call next lent c lent′ z inv a =
-      let st : AddStep index (lent .store) fronts call (changed (a .answer)) (nextIndex index (a .answer)) (lent′ .store) =
-      record {
-        front = lent .store;
-        rest = nothing;
-        front′ = lent′ .store;
-        answer = a .answer;
-        whole = join-nothing (lent .store);
-        lent = whole-lent lent z;
-        adds = a .adds;
-        ended = refl;
-        index-next = refl;
-        store-next = join-nothing (lent′ .store);
-      } in
-      let r = add-step s allowed m index (lent .store) inv fronts call (changed (a .answer)) (nextIndex index (a .answer)) (lent′ .store) st in
-      add-by call next c lent′ (modelAddCheck s m (lentWith 0) call) (a .answer) (r .0) (r .1) (a .comes)
+  add-agrees : (m : Model) (call : AddCall) (next : ℕ) (lent : step.Lent) (c : Carried) (lent′ : step.Lent) → Sized lent → Invariant s m index (lent .store)
+      → AddsVector index call next lent c lent′ → Agrees (outcomeOf s m (adding call)) next c lent′
+  unfolding outcomeOf expected after
+  add-agrees m call next lent c lent′ z inv a =
+      let k = change-whole s allowed m index lent z [] [] (lent′ .store) (add call) (a .answer) inv (a .adds) in
+      add-by (after s m (change fronts [] (add call))) next c lent′ (checkNumber (changeCheck s m (lentBy fronts []) (add call))) (a .answer) (k .number-is) (k .invariant) (a .comes)
 
 -- ---- a search
 
@@ -204,59 +210,60 @@ lines-in-front ids distances newIds newDistances e p q =
     (getD-front distances newDistances i nan (omega (arith, below, e)) (omega (arith, q, e))))
 
 module _ (s : Setting) (allowed : Allowed s) (m : Model) (index : CuratorIndex) (next : ℕ) (c : Carried) where
-  walked-by : (w : State) (call : SearchCall) (lent : step.Lent) (work : List ℕ) (reply : Found) → call .k ≤ length (call .ids)
-      → call .k ≤ length (call .distances)
-      → Matches (answered (call .k) w) (search fronts work call) (found (searchEnd reply lent)) → c ≡ foundBy index reply next
-      → Invariant s m index (lent .store) → Agrees (walked w (call .k) s m) next c lent
-  unfolding answered walked answer answerText
-  walked-by damaged call lent work reply p q h k inv = absurd h
-  walked-by (going w) call lent work reply p q h k inv =
+  answer-by : (w : walk.Progress) (call : SearchCall) (lent : step.Lent) (reply : Found) → call .k ≤ length (call .ids) → call .k ≤ length (call .distances)
+      → AnsweredWith (found (searchEnd reply lent)) (replyOf (answer (call .k) w) call) → c ≡ foundBy index reply next
+      → Invariant s m index (lent .store) → Agrees (called (answers (answer (call .k) w)) (printed [] (running s m))) next c lent
+  unfolding called before answer answerText
+  answer-by w call lent reply p q h k inv =
       let a = answer (call .k) w in
       let hits = take (call .k) (ranked w) in
-      let is : c ≡ Answered index next (length (a .ids)) (a .opened) (a .complete) = k ∙ ap (λ (x : Found). foundBy index x next) (h .answer) in
+      let is : c ≡ Answered index next (length (a .ids)) (a .opened) (a .complete) = k ∙ ap (λ (x : Found). foundBy index x next) (h .0) in
       let few : length (a .ids) ≤ call .k = omega (arith, length-map hits documentOf, length-take (call .k) (ranked w)) in
       let same : length (a .distances) ≡ length (a .ids) = length-map hits distanceOf ∙ sym (length-map hits documentOf) in (
         Running index,
         (λ n. ap (λ (x : Carried). stepOf x n) is),
         ap (λ (x : Carried). carriedText x (lent .ids) (lent .distances)) is
             ∙ ap (λ (t : List ℕ). t ++ closingLine (a .complete) (a .opened))
-            (ap₂ (λ (i : List ℕ) (d : List Float). hitLines i d (length (a .ids))) (h .ids) (h .distances)
-            ∙ lines-in-front (call .ids) (call .distances) (a .ids) (a .distances) same (omega (arith, few, p)) (omega (arith, few, q))),
+            (ap₂ (λ (i : List ℕ) (d : List Float). hitLines i d (length (a .ids))) (h .1) (h .2)
+            ∙ lines-in-front (call .ids) (call .distances) (a .ids) (a .distances) same (omega (arith, few, p)) (omega (arith, few, q)))
+            ∙ sym (append-nil (answerText a)),
         (allowed, inv),
       )
 
-  search-by : (check : Check) (call : SearchCall) (lent : step.Lent) (work : List ℕ) (reply : Found)
+  search-by : (check : Check) (w : State) (call : SearchCall) (lent : step.Lent) (work : List ℕ) (reply : Found)
       → (check ≡ Check′.Fine → (call .k ≤ length (call .ids)) × (call .k ≤ length (call .distances)))
-      → Matches (searchedBy check (call .k) (modelWalk s m call)) (search fronts work call) (found (searchEnd reply lent)) → c ≡ foundBy index reply next
-      → Invariant s m index (lent .store) → Agrees (searched check s m call) next c lent
-  unfolding searchedBy searched
-  search-by Check′.Fine call lent work reply room h k inv =
-      walked-by (modelWalk s m call) call lent work reply (room refl .0) (room refl .1) h k inv
-  search-by (Check′.Refused r) call lent work (Found′.Refused q) room h k inv = (q, k, h .0)
-  search-by (Check′.Refused r) call lent work (Found′.Hits count opened complete) room h k inv = no-number r (h .0)
+      → Matches (searchedBy check (call .k) w) (search fronts work call) (found (searchEnd reply lent)) → c ≡ foundBy index reply next
+      → Invariant s m index (lent .store) → Agrees (called (searchedBy check (call .k) w) (printed [] (running s m))) next c lent
+  unfolding searchedBy answered refusedText
+  search-by Check′.Fine damaged call lent work reply room h k inv = absurd h
+  search-by Check′.Fine (going p) call lent work reply room h k inv = answer-by p call lent reply (room refl .0) (room refl .1) h k inv
+  search-by (Check′.Refused r) w call lent work (Found′.Hits count opened complete) room h k inv = no-number r (h .0)
+  search-by (Check′.Refused r) w call lent work (Found′.Refused q) room h k inv =
+      subst (λ (o : Outcome). Agrees o next c lent) (sym (refused-called (number r) (printed [] (running s m)) (number-positive r))) (q, k, ap refusedLine (h .0))
 
--- only the lengths of the answer lists count
+-- a search with the lists that the code lends, and the file's: alike
 module _ (s : Setting) (m : Model) (k : ℕ) (asked : Asked) (patterns : List ℕ) (lent : step.Lent) (z : Sized lent) where
   abbrev brought : SearchCall
   brought = searchWith (file.floats patterns) k asked lent
 
-  same-check : (work : List ℕ) → length work ≡ workSize largest
-      → modelSearchCheck s m (lentBy fronts work) brought ≡ modelSearchCheck s m (lentWith (workSize largest)) (searchCall k asked patterns)
-  unfolding modelSearchCheck
-  same-check work e =
-      let at : ℕ → ℕ → ℕ → Check = λ w i d. firstOf (searchRows (modelFacts s m) (lentWith w) (file.floats patterns) k i d) in
-      ap (λ (w : ℕ). at w (length (lent .ids)) (length (lent .distances))) e
-      ∙ ap₂ (λ (i d : ℕ). at (workSize largest) i d) (z .ids ∙ sym (length-replicate {A = ℕ} answerPlaces 0)) (z .distances ∙ sym (length-replicate answerPlaces nan))
-
-  same-searched : (check : Check) → searched check s m brought ≡ searched check s m (searchCall k asked patterns)
-  unfolding searched modelWalk
-  same-searched Check′.Fine = refl
-  same-searched (Check′.Refused r) = refl
+  brought-alike : (work : List ℕ) → length work ≡ workSize largest → Alike (search fronts work brought) (search fronts file.work (searchCall k asked patterns))
+  brought-alike work e =
+      let w : length work ≡ length file.work = e ∙ sym (length-replicate {A = ℕ} (workSize largest) 0) in (
+        λ i. record { floats = fronts .floats; numbers = fronts .numbers; hashes = fronts .hashes; work = w i },
+        record {
+          query = refl;
+          asked = refl;
+          k = refl;
+          ids = z .ids ∙ sym (length-replicate {A = ℕ} answerPlaces 0);
+          distances = z .distances ∙ sym (length-replicate answerPlaces nan);
+        },
+      )
 
   search-agrees : (index : CuratorIndex) (next : ℕ) (c : Carried) (lent′ : step.Lent) (work : List ℕ) (reply : Found) → Allowed s → Lent fronts (lent′ .store)
       → length work ≡ workSize largest
       → Invariant s m index (lent′ .store) → Searches index (lent′ .store) work brought (searchEnd reply lent′) → c ≡ foundBy index reply next
-      → Agrees (searched (modelSearchCheck s m (lentWith (workSize largest)) (searchCall k asked patterns)) s m (searchCall k asked patterns)) next c lent′
+      → Agrees (called (expected s m (search fronts file.work (searchCall k asked patterns))) (printed [] (running s m))) next c lent′
+  unfolding expected
   search-agrees index next c lent′ work reply allowed sizes w inv by comes =
       let st : SearchStep index (lent′ .store) fronts work brought (found (searchEnd reply lent′)) index (lent′ .store) =
       record {
@@ -272,45 +279,31 @@ module _ (s : Setting) (m : Model) (k : ℕ) (asked : Asked) (patterns : List �
       } in
       let r = search-step s allowed m index (lent′ .store) inv fronts work brought (found (searchEnd reply lent′)) index (lent′ .store) st in
       let check = modelSearchCheck s m (lentBy fronts work) brought in
-      let here : Agrees (searched check s m brought) next c lent′ =
-      search-by s allowed m index next c check brought lent′ work reply
+      subst (λ (x : Expected). Agrees (called x (printed [] (running s m))) next c lent′)
+      (alike-expected s m (search fronts work brought) (search fronts file.work (searchCall k asked patterns)) (brought-alike work w))
+      (search-by s allowed m index next c check (modelWalk s m brought) brought lent′ work reply
       (λ e. let room : SearchRoom s m (lentBy fronts work) brought = search-room s m (lentBy fronts work) brought e in (room .ids, room .distances))
-      (r .0) comes inv in
-      subst (λ (o : Outcome). Agrees o next c lent′) (ap (λ (x : Check). searched x s m brought) (same-check work w) ∙ same-searched (modelSearchCheck s m (lentWith (workSize largest)) (searchCall k asked patterns))) here
+      (r .0) comes inv)
 
 -- a build, and the search after it
-module _ (s : Setting) (allowed : Allowed s) (m : Model) (index : CuratorIndex) (k : ℕ) (asked : Asked) (patterns : List ℕ) (next : ℕ) (c : Carried)
+module _ (s : Setting) (allowed : Allowed s) (index : CuratorIndex) (k : ℕ) (asked : Asked) (patterns : List ℕ) (next : ℕ) (c : Carried)
     (lent lent′ : step.Lent) (z : Sized lent) where
-  build-by : (check : Check) (answer : Changed) (work : List ℕ) → changedNumber answer ≡ checkNumber check
-      → Invariant s (builtBy check m) (nextIndex index answer) (lent′ .store) → Lent fronts (lent′ .store) → length work ≡ workSize largest
+  build-by : (m′ : Model) (n : ℕ) (answer : Changed) (work : List ℕ) → changedNumber answer ≡ n → Invariant s m′ (nextIndex index answer) (lent′ .store)
+      → Lent fronts (lent′ .store) → length work ≡ workSize largest
       → AfterBuild answer work (searchWith (file.floats patterns) k asked) next lent c lent′
-      → Agrees (built check s m (searchCall k asked patterns)) next c lent′
-  unfolding built nextIndex
-  build-by (Check′.Refused r) (Changed′.Index i) work e inv sizes w by = no-number r e
-  build-by (Check′.Refused r) (Changed′.Refused q) work e inv sizes w by = (q, by .0, e)
-  build-by Check′.Fine (Changed′.Refused q) work e inv sizes w by = no-number q (sym e)
-  build-by Check′.Fine (Changed′.Index i) work e inv sizes w by =
-      search-agrees s (builtBy Check′.Fine m) k asked patterns lent z i next c lent′ work (by .0) allowed sizes w inv (by .1) (by .2)
+      → Agrees (called (returns n) (called (expected s m′ (search fronts file.work (searchCall k asked patterns))) (printed [] (running s m′)))) next c lent′
+  unfolding called nextIndex refusedText
+  build-by m′ (suc n) (Changed′.Index i) work e inv sizes w by = absurd (omega (arith, e))
+  build-by m′ (suc n) (Changed′.Refused q) work e inv sizes w by = (q, by .0, ap refusedLine e)
+  build-by m′ zero (Changed′.Refused q) work e inv sizes w by = no-number q (sym e)
+  build-by m′ zero (Changed′.Index i) work e inv sizes w by =
+      search-agrees s m′ k asked patterns lent z i next c lent′ work (by .0) allowed sizes w inv (by .1) (by .2)
 
-  build-agrees : Invariant s m index (lent .store) → SearchesBuilt index (searchWith (file.floats patterns) k asked) next lent c lent′
-      → Agrees (searching s m (searchCall k asked patterns)) next c lent′
-  unfolding searching
-  build-agrees inv a =
-      let st : BuildStep index (lent .store) fronts (lent .work) (changed (a .answer)) (nextIndex index (a .answer)) (lent′ .store) =
-      record {
-        front = lent .store;
-        rest = nothing;
-        front′ = lent′ .store;
-        work′ = a .work;
-        answer = a .answer;
-        whole = join-nothing (lent .store);
-        lent = whole-lent lent z;
-        builds = a .builds;
-        ended = refl;
-        index-next = refl;
-        store-next = join-nothing (lent′ .store);
-      } in
-      let r = build-step s allowed m index (lent .store) inv fronts (lent .work) (changed (a .answer)) (nextIndex index (a .answer)) (lent′ .store) st in
+  build-agrees : (m : Model) → Invariant s m index (lent .store) → SearchesBuilt index (searchWith (file.floats patterns) k asked) next lent c lent′
+      → Agrees (outcomeOf s m (searching (searchCall k asked patterns))) next c lent′
+  unfolding outcomeOf expected after
+  build-agrees m inv a =
+      let ends = change-whole s allowed m index lent z (lent .work) (a .work) (lent′ .store) build (a .answer) inv (a .builds) in
       let same = build-lengths index (lent .store) (lent .work) (a .answer) (lent′ .store) (a .work) (a .builds) in
       let sizes : Lent fronts (lent′ .store) =
       record {
@@ -318,8 +311,12 @@ module _ (s : Setting) (allowed : Allowed s) (m : Model) (index : CuratorIndex) 
         numbers = sym (same .0 .numbers) ∙ z .numbers;
         hashes = sym (same .0 .hashes) ∙ z .hashes;
       } in
-      subst (λ (w : ℕ). Agrees (built (modelBuildCheck s m (lentWith w)) s m (searchCall k asked patterns)) next c lent′) (z .work)
-      (build-by (modelBuildCheck s m (lentBy fronts (lent .work))) (a .answer) (a .work) (r .0) (r .1) sizes (sym (same .1) ∙ z .work) (a .searches))
+      let w : length (lent .work) ≡ length file.work = z .work ∙ sym (length-replicate {A = ℕ} (workSize largest) 0) in
+      let at : ℕ → Lengths = λ n. record { floats = fronts .floats; numbers = fronts .numbers; hashes = fronts .hashes; work = n } in
+      let check : ℕ → Check = λ n. changeCheck s m (at n) build in
+      subst (λ (n : ℕ). Agrees (called (returns (checkNumber (check n))) (called (expected s (changedBy (check n) build m) (search fronts file.work (searchCall k asked patterns)))
+      (printed [] (running s (changedBy (check n) build m))))) next c lent′) w
+      (build-by (changedBy (check (length (lent .work))) build m) (checkNumber (check (length (lent .work)))) (a .answer) (a .work) (ends .number-is) (ends .invariant) sizes (sym (same .1) ∙ z .work) (a .searches))
 
 -- ---- every record
 
@@ -335,8 +332,8 @@ record-agrees unset (Running index) r next lent c lent′ z h out = absurd h
 record-agrees (running s m) Unset r next lent c lent′ z h out = absurd h
 record-agrees (running s m) (Running index) (settings d b l e w) next lent c lent′ z h out = (Input SettingsOrder, out .0, refl)
 record-agrees (running s m) (Running index) (vector document labels patterns) next lent c lent′ z h out =
-    add-agrees s (h .0) m index (file.addCall document labels patterns) next lent c lent′ z (h .1) out
+    add-agrees s (h .0) index m (file.addCall document labels patterns) next lent c lent′ z (h .1) out
 record-agrees (running s m) (Running index) (filtered k label patterns) next lent c lent′ z h out =
-    build-agrees s (h .0) m index k (labelled label) patterns next c lent lent′ z (h .1) out
+    build-agrees s (h .0) index k (labelled label) patterns next c lent lent′ z m (h .1) out
 record-agrees (running s m) (Running index) (unfiltered k patterns) next lent c lent′ z h out =
-    build-agrees s (h .0) m index k everything patterns next c lent lent′ z (h .1) out
+    build-agrees s (h .0) index k everything patterns next c lent lent′ z m (h .1) out

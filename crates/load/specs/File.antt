@@ -8,12 +8,9 @@ use lib.Ieee.{Float, binary32, ofBits, nan}
 use lib.ListN.{length, replicate}
 use Rattle.store.specs.declared.Shape.{Shape}
 use Rattle.store.specs.Store.{floatsSize, numbersSize, hashesSize, workSize}
-use Rattle.walk.specs.Walk.{State, damaged, going}
-use Rattle.walk.specs.Answer.{Answer, answer}
+use Rattle.walk.specs.Answer.{Answer}
 use Rattle.curator.specs.declared.CuratorParams.{CuratorParams}
 use Rattle.curator.specs.declared.Capacities.{Capacities}
-use Rattle.curator.specs.declared.Check.{Check}
-use Rattle.curator.specs.declared.Check.the-variants.{Fine, Refused}
 use Rattle.curator.specs.declared.Changed.{Changed}
 use Rattle.curator.specs.declared.Changed.the-variants as Changed′
 use Rattle.curator.specs.declared.refusal.Refusal.{Refusal}
@@ -22,11 +19,10 @@ use Rattle.curator.specs.declared.refusal.SettingsRefusal.the-variants.{Invalid
 use Rattle.curator.specs.declared.refusal.InputRefusal.the-variants.{BadRecord, SettingsOrder, FileTooLong}
 use Rattle.curator.specs.declared.refusal.StoreRefusal.the-variants.{Damaged}
 use Rattle.curator.specs.Outcome.{number}
-use Rattle.store.specs.declared.Lengths.{Lengths}
 use Rattle.curator.specs.Changes.{created}
 use Rattle.curator.specs.Arguments.{AddCall, SearchCall, Asked, everything, labelled}
-use Rattle.runs.specs.Model.{Setting, Model, emptyModel, modelAddCheck, modelBuildCheck, modelSearchCheck, addedBy, builtBy, modelWalk}
-use Rattle.runs.specs.Run.{Fronts}
+use Rattle.runs.specs.Calls.{Fronts, add, build, Call, change, search}
+use Rattle.runs.specs.Model.{Setting, Model, emptyModel, Expected, returns, answers, nothing, expected, after}
 use Rattle.echo_file.specs.declared.Known.{Known}
 use Rattle.echo_file.specs.Format as format
 use Rattle.echo_file.specs.Format.{Record, settings, vector, filtered, unfiltered}
@@ -47,12 +43,9 @@ answerPlaces = 256
 abbrev pub largest : Shape
 largest = record { dimension = 16; branching = 64; vectors = 128; entries = 256; nodes = 512 }
 
--- the sizes of the lists of the store, and the work list's, if one is lent
+-- the three lists of the store are lent whole
 abbrev pub fronts : Fronts
 fronts = record { floats = floatsSize largest; numbers = numbersSize largest; hashes = hashesSize largest }
-
-abbrev pub lentWith : ℕ → Lengths
-lentWith work = record { floats = fronts .floats; numbers = fronts .numbers; hashes = fronts .hashes; work = work }
 
 -- ---- the calls of a record
 
@@ -67,9 +60,21 @@ floats patterns = map (ofBits binary32) patterns
 abbrev pub addCall : ℕ → List (List ℕ) → List ℕ → AddCall
 addCall document labels patterns = record { document = document; vector = floats patterns; lengths = map length labels; bytes = format.labelBytes labels }
 
+-- The contents of work and answer lists do not matter (crates/runs/specs/Contents.antt): here they are zeros.
 abbrev pub searchCall : ℕ → Asked → List ℕ → SearchCall
 searchCall k asked patterns =
     record { query = floats patterns; asked = asked; k = k; ids = replicate answerPlaces 0; distances = replicate answerPlaces nan }
+
+abbrev pub work : List ℕ
+work = replicate (workSize largest) 0
+
+-- a vector is an add, which is lent no work list
+abbrev pub adding : AddCall → List Call
+adding call = change fronts [] (add call) ∷ []
+
+-- 'The first search builds': a build of a built index leaves all as it is, so every search builds
+abbrev pub searching : SearchCall → List Call
+searching call = change fronts work build ∷ search fronts work call ∷ []
 
 -- ---- one record after the other
 
@@ -83,23 +88,15 @@ abbrev pub knownOf : Progress → Known
 knownOf unset = record { dimension = 0 }
 knownOf (running s m) = record { dimension = s .dimension }
 
--- what a record comes to: a refusal, which ends the file, or a text, after which the file goes on
+-- what a record comes to: the last text of the file, or a text after which the file goes on
 pub data Outcome : Type 0 where
-  refused : Refusal → Outcome
+  stops : List ℕ → Outcome
   printed : List ℕ → Progress → Outcome
 
--- a settings record that comes first is put to `new`; 'D from 17 to 128 is printed as refused 2'
-unfoldable pub opened : Changed → ℕ → CuratorParams → Outcome
-opened (Changed′.Refused r) dimension params = refused r
-opened (Changed′.Index index) dimension params =
-    cond (ltb 16 dimension) (refused (Settings InvalidConfig))
-    (printed [] (running (record { dimension = dimension; params = params; capacities = capacities }) emptyModel))
-
--- a vector
-unfoldable pub added : Check → Setting → Model → AddCall → Outcome
-unfolding addedBy
-added (Refused r) s m call = refused r
-added Fine s m call = printed [] (running s (addedBy Fine m call))
+-- '`refused` and the number, and ends'
+unfoldable pub refusedText : Refusal → List ℕ
+unfolding refusedLine
+refusedText r = refusedLine (number r)
 
 -- 'prints per hit the document id in decimal, a space, the distance's bits in eight lowercase hexadecimal digits; then `whole` or `cut` and the opened
 -- count'
@@ -107,69 +104,68 @@ unfoldable pub answerText : Answer → List ℕ
 unfolding hitLines closingLine
 answerText a = hitLines (a .ids) (a .distances) (length (a .ids)) ++ closingLine (a .complete) (a .opened)
 
--- a search, after its build; its walk is never damaged (demand 3)
-unfoldable pub walked : State → ℕ → Setting → Model → Outcome
-unfolding answer answerText
-walked damaged k s m = refused (Store Damaged)
-walked (going p) k s m = printed (answerText (answer k p)) (running s m)
+-- a text before what comes later
+unfoldable pub before : List ℕ → Outcome → Outcome
+before text (stops later) = stops (text ++ later)
+before text (printed later progress) = printed (text ++ later) progress
 
-unfoldable pub searched : Check → Setting → Model → SearchCall → Outcome
-unfolding walked modelWalk
-searched (Refused r) s m call = refused r
-searched Fine s m call = walked (modelWalk s m call) (call .k) s m
+-- A call by what the model expects of it: 0 prints nothing, any other number ends the file, an answer is printed. The walk of a search is never damaged
+-- (demand 3).
+unfoldable pub called : Expected → Outcome → Outcome
+unfolding answerText before refusedText
+called (returns zero) later = later
+called (returns (suc n)) later = stops (refusedLine (suc n))
+called (answers a) later = before (answerText a) later
+called nothing later = stops (refusedText (Store Damaged))
 
--- 'The first search builds': a build of a built index leaves all as it is, so every search builds.
-unfoldable pub built : Check → Setting → Model → SearchCall → Outcome
-unfolding builtBy searched modelSearchCheck
-built (Refused r) s m call = refused r
-built Fine s m call = searched (modelSearchCheck s (builtBy Fine m) (lentWith (workSize largest)) call) s (builtBy Fine m) call
+-- calls one after the other
+unfoldable pub outcomeOf : Setting → Model → List Call → Outcome
+unfolding called expected after
+outcomeOf s m [] = printed [] (running s m)
+outcomeOf s m (call ∷ calls) = called (expected s m call) (outcomeOf s (after s m call) calls)
 
-unfoldable pub searching : Setting → Model → SearchCall → Outcome
-unfolding built modelBuildCheck
-searching s m call = built (modelBuildCheck s m (lentWith (workSize largest))) s m call
+-- a settings record that comes first is put to `new`; 'D from 17 to 128 is printed as refused 2'
+unfoldable pub opened : Changed → ℕ → CuratorParams → Outcome
+unfolding refusedText
+opened (Changed′.Refused r) dimension params = stops (refusedText r)
+opened (Changed′.Index index) dimension params =
+    cond (ltb 16 dimension) (stops (refusedText (Settings InvalidConfig)))
+    (printed [] (running (record { dimension = dimension; params = params; capacities = capacities }) emptyModel))
 
 -- a complete record; 17: 'settings not first, or given again'
 unfoldable pub carried : Progress → Record → Outcome
-unfolding created opened added searching modelAddCheck
+unfolding created opened outcomeOf refusedText
 carried unset (settings dimension branching leaf-size ef beam) =
     let params = paramsOf branching leaf-size ef beam in
     opened (created dimension params capacities) dimension params
-carried unset (vector document labels patterns) = refused (Input SettingsOrder)
-carried unset (filtered k label patterns) = refused (Input SettingsOrder)
-carried unset (unfiltered k patterns) = refused (Input SettingsOrder)
-carried (running s m) (settings dimension branching leaf-size ef beam) = refused (Input SettingsOrder)
-carried (running s m) (vector document labels patterns) =
-    let call = addCall document labels patterns in
-    added (modelAddCheck s m (lentWith 0) call) s m call
-carried (running s m) (filtered k label patterns) = searching s m (searchCall k (labelled label) patterns)
-carried (running s m) (unfiltered k patterns) = searching s m (searchCall k everything patterns)
+carried unset (vector document labels patterns) = stops (refusedText (Input SettingsOrder))
+carried unset (filtered k label patterns) = stops (refusedText (Input SettingsOrder))
+carried unset (unfiltered k patterns) = stops (refusedText (Input SettingsOrder))
+carried (running s m) (settings dimension branching leaf-size ef beam) = stops (refusedText (Input SettingsOrder))
+carried (running s m) (vector document labels patterns) = outcomeOf s m (adding (addCall document labels patterns))
+carried (running s m) (filtered k label patterns) = outcomeOf s m (searching (searchCall k (labelled label) patterns))
+carried (running s m) (unfiltered k patterns) = outcomeOf s m (searching (searchCall k everything patterns))
 
 -- what the front of some bytes comes to; 16: 'unknown mark, or it ends inside a record'
 pub data Front : Type 0 where
-  ends : Refusal → Front
+  ends : List ℕ → Front
   goes : List ℕ → Progress → List ℕ → Front
 
 unfoldable pub then : Outcome → List ℕ → Front
-then (refused r) rest = ends r
+then (stops text) rest = ends text
 then (printed text progress) rest = goes text progress rest
 
 unfoldable pub read : Decoded Record → Progress → Front
-unfolding then carried
-read none progress = ends (Input BadRecord)
+unfolding then carried refusedText
+read none progress = ends (refusedText (Input BadRecord))
 read (found r rest) progress = then (carried progress r) rest
 
 unfoldable pub front : Progress → List ℕ → Front
 unfolding read decode
 front progress bytes = read (decode (knownOf progress) bytes) progress
 
--- '`refused` and the number, and ends'
-unfoldable pub refusedText : Refusal → List ℕ
-unfolding refusedLine
-refusedText r = refusedLine (number r)
-
 unfoldable pub textOf : Front → (Progress → List ℕ → List ℕ) → List ℕ
-unfolding refusedText
-textOf (ends r) later = refusedText r
+textOf (ends text) later = text
 textOf (goes text progress rest) later = text ++ later progress rest
 
 -- at the end of a file nothing more is printed

@@ -8,3 +8,6 @@ pub mod StepLaws
 -- why it holds
 pub mod Agrees
 pub mod Prints
+pub mod Onward
+-- every file has such steps
+pub mod Exists

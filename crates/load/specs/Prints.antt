@@ -1,6 +1,6 @@
 -- The texts of a chain of steps, joined, are what is printed of the file. By the chain: each step reads the record that the definition reads, which comes
 -- to the same (Agrees), and goes on with the same rest of the file.
-use Prim.Native.Nat.{ℕ, zero, suc, _+_, _-_, _≤_, _<_}
+use Prim.Native.Nat.{ℕ, zero, suc, _+_, _≤_, _<_}
 use native.Mathlib.Nat.{zero-add}
 use native.Mathlib.Omega.{arith}
 use mathlib.Core.Bool.{Bool, true, false, cond, false≢true}
@@ -16,20 +16,20 @@ use Rattle.curator.specs.declared.CuratorIndex.{CuratorIndex}
 use Rattle.curator.specs.declared.refusal.Refusal.{Refusal}
 use Rattle.curator.specs.declared.refusal.Refusal.the-variants.{Input}
 use Rattle.curator.specs.declared.refusal.InputRefusal.the-variants.{BadRecord, FileTooLong}
-use Rattle.curator.specs.Outcome.{number}
 use Rattle.echo_file.specs.declared.Known.{Known}
 use Rattle.echo_file.specs.Format.{Record}
 use Rattle.echo_file.specs.Decode.{Decoded, none, found, decode}
-use Rattle.text.specs.Lines.{refusedLine, Written}
+use Rattle.text.specs.Lines.{Written}
 use Rattle.text.specs.LinesLaws.{length-written}
 use Rattle.load.specs.declared.Loading.{Loading}
 use Rattle.load.specs.declared.Loading.the-variants.{Unset, Running}
 use Rattle.load.specs.declared.carry.Carried.{Carried}
-use Rattle.load.specs.declared.carry.Carried.the-variants.{End, Refused, Silent, Answered}
+use Rattle.load.specs.declared.carry.Carried.the-variants.{End, Refused}
 use Rattle.load.specs.declared.Step.{Step}
 use Rattle.load.specs.declared.Step.the-variants.{Ended, Next}
-use Rattle.load.specs.File.{Progress, unset, running, knownOf, Outcome, refused, printed, carried, Front, ends, goes, then, read, front, refusedText, textOf, textFrom, fileText}
-use Rattle.load.specs.Step.{Lent, Steps, known, CarriesRead, CarriesAt, carriedText, stepOf}
+use Rattle.load.specs.File.{Progress, unset, running, knownOf, Outcome, stops, printed, carried, Front, ends, goes, then, read, front, refusedText, textOf, textFrom, fileText}
+use Rattle.load.specs.Step.{Lent, Steps, known, CarriesRead, CarriesAt, carriedText, stepOf, printedOf}
+use Rattle.load.specs.Onward.{printed-step}
 use Rattle.load.specs.Theorem.{Sized, Chain, last, more, Prints}
 use Rattle.load.specs.Agrees.{Stands, Agrees, record-agrees}
 
@@ -50,7 +50,7 @@ same-known (running s m) (Running index) store h =
 
 -- What a step comes to, beside what the definition says of the front of the file.
 abbrev Comes : Front → List ℕ → ℕ → Carried → Lent → Type 0
-Comes (ends r) file at c lent = (q : Refusal) × (c ≡ Refused q) × (number q ≡ number r)
+Comes (ends text) file at c lent = (q : Refusal) × (c ≡ Refused q) × (refusedText q ≡ text)
 Comes (goes text progress rest) file at c lent =
     (loading : Loading) × (next : ℕ) × ((n : ℕ) → stepOf c n ≡ Next loading next n) × (carriedText c (lent .ids) (lent .distances) ≡ text)
     × Stands progress loading (lent .store) × (rest ≡ drop next file) × (at < next)
@@ -58,7 +58,7 @@ Comes (goes text progress rest) file at c lent =
 outcome-comes : (o : Outcome) (rest file : List ℕ) (at next : ℕ) (c : Carried) (lent : Lent) → rest ≡ drop next file → at < next → Agrees o next c lent
     → Comes (then o rest) file at c lent
 unfolding then
-outcome-comes (refused r) rest file at next c lent e l a = a
+outcome-comes (stops text) rest file at next c lent e l a = a
 outcome-comes (printed text progress) rest file at next c lent e l a = (a .0, next, a .1, a .2, a .3, e, l)
 
 read-comes : (d : Decoded Record) (file : List ℕ) (at : ℕ) (progress : Progress) (loading : Loading) (lent : Lent) (c : Carried) (lent′ : Lent) → Sized lent
@@ -77,16 +77,6 @@ front-comes file at progress loading lent c lent′ z h by =
     (subst (λ (k : Known). CarriesRead (decode k (drop at file)) file at loading lent c lent′) (same-known progress loading (lent .store) h) by)
 
 -- ---- what a step says
-
-abbrev printedOf : Step → ℕ
-printedOf (Ended n) = n
-printedOf (Next loading at n) = n
-
-printed-step : (c : Carried) (n : ℕ) → printedOf (stepOf c n) ≡ n
-printed-step End n = refl
-printed-step (Refused r) n = refl
-printed-step (Silent loading next) n = refl
-printed-step (Answered index next count opened complete) n = refl
 
 abbrev loadingOf : Step → Loading
 loadingOf (Ended n) = Unset
@@ -148,8 +138,8 @@ some-left steps progress (b ∷ bytes) h = refl
 -- the last step
 last-prints : (file : List ℕ) (at : ℕ) (f : Front) (c : Carried) (lent : Lent) (n : ℕ) (later : Progress → List ℕ → List ℕ) → Comes f file at c lent
     → goesOn (stepOf c n) ≡ false → carriedText c (lent .ids) (lent .distances) ≡ textOf f later
-unfolding textOf refusedText
-last-prints file at (ends r) c lent n later a e = ap (λ (x : Carried). carriedText x (lent .ids) (lent .distances)) (a .1) ∙ ap refusedLine (a .2)
+unfolding textOf
+last-prints file at (ends text) c lent n later a e = ap (λ (x : Carried). carriedText x (lent .ids) (lent .distances)) (a .1) ∙ a .2
 last-prints file at (goes text progress rest) c lent n later a e = not-both (stepOf c n) (Next (a .0) (a .1) n) e refl (a .2 n)
 
 -- a step after which others come
@@ -165,7 +155,7 @@ record Onward (file : List ℕ) (at : ℕ) (c : Carried) (lent : Lent) (n : ℕ)
 
 onward : (file : List ℕ) (at : ℕ) (f : Front) (c : Carried) (lent : Lent) (n : ℕ) → Comes f file at c lent → goesOn (stepOf c n) ≡ true
     → Onward file at c lent n f
-onward file at (ends r) c lent n a e = not-both (stepOf (Refused (a .0)) n) (stepOf c n) refl e (ap (λ (x : Carried). stepOf x n) (sym (a .1)))
+onward file at (ends text) c lent n a e = not-both (stepOf (Refused (a .0)) n) (stepOf c n) refl e (ap (λ (x : Carried). stepOf x n) (sym (a .1)))
 onward file at (goes text progress rest) c lent n a e =
     let s = sym (a .2 n) in
     record {

@@ -139,6 +139,11 @@ stepOf (Refused r) printed = Ended printed
 stepOf (Silent loading next) printed = Next loading next printed
 stepOf (Answered index next count opened complete) printed = Next (Running index) next printed
 
+-- the bytes that a step wrote
+abbrev pub printedOf : Step → ℕ
+printedOf (Ended n) = n
+printedOf (Next loading at n) = n
+
 abbrev pub textOf : Carried → Lent → List ℕ
 textOf carried lent = carriedText carried (lent .ids) (lent .distances)
 

@@ -1,9 +1,10 @@
 // Prints an echo file: one record after the other is carried out, and its lines are written to standard output.
-ghost use Prim.Native.Nat.{_+_, _*_, _≤_};
+ghost use Prim.Native.Nat.{_+_, _^_, _<_};
 ghost use lib.ListN.{length};
-ghost use Rattle.load.specs.Code.{Narrow, NarrowStep};
 ghost use mathlib.Core.Path.{_≡_};
-ghost use Rattle.printer.specs.Onward.{Onward, printedOf};
+ghost use Rattle.load.specs.File.{fileText};
+ghost use Rattle.load.specs.Step.{printedOf};
+ghost use Rattle.printer.specs.Due.{Due};
 use libc::STDOUT_FILENO;
 use load::Loading;
 use load::Step;
@@ -22,43 +23,20 @@ fn printed_of(step: Step) -> usize
     }
 }
 
-// Carries out the record at a place and writes its lines.
-fn print_record(
-    loading: Loading,
-    file: &[u8],
-    at: usize,
-    floats: &mut [f32],
-    numbers: &mut [u32],
-    hashes: &mut [u64],
-    work: &mut [u32],
-    ids: &mut [u32],
-    distances: &mut [f32],
-    text: &mut [u8],
-) -> Step
-    requires { ⌜ Narrow loading ⌝ }
-    requires { ⌜ 20 * length (now ids) + 27 ≤ length (now text) ⌝ }
-    ensures narrow { λ r. ⌜ NarrowStep r ⌝ }
-    ensures onward { λ r. ⌜ Onward (now (file .entry)) at r ⌝ }
+// Writes the next text of what is printed of a file, after `done` bytes of it; how many those are with it. Nothing is written elsewhere.
+fn print_next(file: &[u8], done: usize, text: &[u8]) -> usize
+    requires { ⌜ Due (now file) done (now text) ⌝ }
+    requires { ⌜ done + length (now text) < 2 ^ 64 ⌝ }
+    ensures { λ r. ⌜ r ≡ done + length (now (text .entry)) ⌝ }
 {
-    let step = load::load_record(
-        loading,
-        file,
-        at,
-        floats,
-        numbers,
-        hashes,
-        work,
-        ids,
-        distances,
-        text,
-    );
-    let end = printed_of(step);
-    io::write_all(STDOUT_FILENO, &text[..end]);
-    step
+    io::write_all(STDOUT_FILENO, text);
+    done + text.len()
 }
 
-// The lists have room for V 128, E 256, M 512, D 16 and B 64, answers of 256 places and the lines of one.
-pub fn print_file(file: &[u8]) {
+// How many bytes were printed: all of them. The lists have room for V 128, E 256, M 512, D 16 and B 64, answers of 256 places and the lines of one.
+pub fn print_file(file: &[u8]) -> usize
+    ensures { λ r. ⌜ r ≡ length (fileText (now (file .entry))) ⌝ }
+{
     let mut floats = [0.0f32; 11264];
     let mut numbers = [0u32; 4352];
     let mut hashes = [0u64; 2304];
@@ -68,8 +46,9 @@ pub fn print_file(file: &[u8]) {
     let mut text = [0u8; 5147];
     let mut loading = Loading::Unset;
     let mut at = 0;
+    let mut done = 0;
     loop {
-        let step = print_record(
+        let step = load::load_record(
             loading,
             file,
             at,
@@ -81,13 +60,15 @@ pub fn print_file(file: &[u8]) {
             &mut distances,
             &mut text,
         );
+        let end = printed_of(step);
+        done = print_next(file, done, &text[..end]);
         let Step::Next {
             loading: running,
             at: next,
-            printed,
+            ..
         } = step
         else {
-            return;
+            return done;
         };
         loading = running;
         at = next;

@@ -3,7 +3,7 @@
 use Prim.Native.Nat.{ℕ, zero, suc, _+_, _-_, _≤_}
 use native.Mathlib.Nat.{zero-sub, suc-sub-suc, sub-zero}
 use mathlib.Core.List.{List, [], _∷_, _++_}
-use mathlib.Core.Path.{_≡_, sym, ap, ap₂, _∙_}
+use mathlib.Core.Path.{_≡_, refl, sym, ap, ap₂, _∙_}
 use lib.ListN.{length, take, drop}
 use lib.Seq.{slice, take-take, take-append-le}
 use Rattle.lists.specs.Lists.{part}
@@ -63,6 +63,9 @@ pub record SameLengths (store store′ : Store) : Type 0 where
   pub floats : length (store .floats) ≡ length (store′ .floats)
   pub numbers : length (store .numbers) ≡ length (store′ .numbers)
   pub hashes : length (store .hashes) ≡ length (store′ .hashes)
+
+pub same-lengths : (store : Store) → SameLengths store store
+same-lengths store = record { floats = refl; numbers = refl; hashes = refl }
 
 pub agree-join : (f n h : ℕ) (front front′ rest : Store) → SameLengths front front′ → Agree f n h front front′
     → Agree f n h (joinStores front rest) (joinStores front′ rest)

@@ -190,7 +190,7 @@ abbrev pub hitRank : ℕ → ℕ
 hitRank hit = hit / 2 ^ 32
 
 pub rank-hit : (s : Setting) (m : Model) → Allowed s → Within s m → (call : SearchCall) (i : ℕ) → i < length (m .rows)
-    → hitRank (rowHit m (normalized (call .query)) i) ≡ rowRank call (getD (m .rows) i noRow)
+    → hitRank (rowHit m (normalized (call .question .query)) i) ≡ rowRank call (getD (m .rows) i noRow)
 unfolding rowHit
 rank-hit s m a w call i h =
     let key = keyOf (rowDistance call (getD (m .rows) i noRow)) in
@@ -199,11 +199,11 @@ rank-hit s m a w call i h =
     omega arith
 
 pub ranks-about : (s : Setting) (m : Model) → Allowed s → Within s m → (call : SearchCall) (wanted : Wanted)
-    → map hitRank (map (rowHit m (normalized (call .query))) (numbersAbout wanted 0 (m .rows))) ≡ map (rowRank call) (about wanted m)
+    → map hitRank (map (rowHit m (normalized (call .question .query))) (numbersAbout wanted 0 (m .rows))) ≡ map (rowRank call) (about wanted m)
 ranks-about s m a w call wanted =
     let nums = numbersAbout wanted 0 (m .rows) in
-    map-map hitRank (rowHit m (normalized (call .query))) nums
-    ∙ map-on (λ i. hitRank (rowHit m (normalized (call .query)) i)) (λ i. rowRank call (getD (m .rows) i noRow)) nums
+    map-map hitRank (rowHit m (normalized (call .question .query))) nums
+    ∙ map-on (λ i. hitRank (rowHit m (normalized (call .question .query)) i)) (λ i. rowRank call (getD (m .rows) i noRow)) nums
     (λ i k. rank-hit s m a w call i (number-below wanted m i k))
     ∙ sym (map-map (rowRank call) (λ i. getD (m .rows) i noRow) nums) ∙ ap (map (rowRank call)) (about-is wanted m)
 

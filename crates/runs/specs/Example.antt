@@ -5,19 +5,19 @@ use native.Mathlib.Omega.{arith}
 use mathlib.Core.Bool.{Bool, true}
 use mathlib.Core.List.{List, [], _∷_, map}
 use mathlib.Core.Path.{_≡_, refl, subst}
-use lib.Ieee.{binary32, ofBits, nan}
+use lib.Ieee.{Float, binary32, ofBits, nan}
 use lib.ListN.{length, getD, take, replicate}
 use Rattle.distance.specs.Distance.{distance}
 use Rattle.label.specs.Fnv.{fnvFrom, fnvStep}
-use Rattle.store.specs.Store.{Store}
-use Rattle.curator.specs.Limits.{dimensionAllowed, paramsAllowed, capacitiesAllowed}
-use Rattle.curator.specs.Arguments.{SearchCall, Asked, everything, labelled}
-use Rattle.runs.specs.Model.{Setting, Model, emptyModel}
-use Rattle.runs.specs.Run.{Fronts, Call, add, build, search, Ended, Run}
-use Rattle.runs.specs.Theorem.{Expected, returns, answers, expected, after, modelFrom, Matches, InPairs, Premise, AllTyped, Better}
-use Rattle.runs.specs.State.{Allowed}
-use Rattle.runs.specs.Exists.{Fits, run-exists}
-use Rattle.runs.specs.Places.{at-place, distinctTest, test-distinct, premise-final}
+use Rattle.curator.specs.Calls.{fresh}
+use Rattle.curator.specs.Changes.{created}
+use Rattle.curator.specs.Arguments.{Asked, everything, labelled}
+use Rattle.runs.specs.Calls.{Fronts, add, build, Call, change, search, AllTyped, Alike, AllAlike}
+use Rattle.runs.specs.Model.{Setting, Model, emptyModel, Expected, returns, answers, expected, after, modelFrom}
+use Rattle.runs.specs.Run.{Ended, Run}
+use Rattle.runs.specs.Theorem.{Matches, InPairs, Premise, Better}
+use Rattle.runs.specs.Exists.{every-run}
+use Rattle.runs.specs.Places.{at-place, premiseTest, test-premise}
 use Rattle.runs.specs.Demand.{demand3}
 
 -- ---- the calls
@@ -31,30 +31,24 @@ sample ef nodes =
       capacities = record { vectors = 4; entries = 4; nodes = nodes };
     }
 
--- lists longer than the sizes, of which fronts are lent
-abbrev pub lists : Store
-lists = record { floats = replicate 40 nan; numbers = replicate 70 1; hashes = replicate 40 2 }
-
 abbrev pub fronts : Fronts
 fronts = record { floats = 30; numbers = 60; hashes = 30 }
 
-abbrev pub work : List ℕ
-work = replicate 30 0
-
 -- an add of a document with a vector, by bits, and a label of one byte
 abbrev pub adds : ℕ → List ℕ → ℕ → Call
-adds document bits label = add fronts (record { document = document; vector = map (ofBits binary32) bits; lengths = 1 ∷ []; bytes = label ∷ [] })
+adds document bits label = change fronts [] (add (record { document = document; vector = map (ofBits binary32) bits; lengths = 1 ∷ []; bytes = label ∷ [] }))
 
--- a search from (1, 0) for the first k
-abbrev pub searches : ℕ → Asked → SearchCall
-searches k asked =
-    record {
+-- a search from (1, 0) for the first k, lent work and answer lists of some content
+abbrev pub searches : ℕ → Float → ℕ → Asked → Call
+searches number float k asked =
+    search fronts (replicate 30 number)
+    (record {
       query = map (ofBits binary32) (0x3F800000 ∷ 0 ∷ []);
       asked = asked;
       k = k;
-      ids = replicate 4 0;
-      distances = replicate 4 nan;
-    }
+      ids = replicate 4 number;
+      distances = replicate 4 float;
+    })
 
 -- `a` is 97, `b` 98
 abbrev pub first : Call
@@ -66,16 +60,21 @@ second = adds 8 (0 ∷ 0x40000000 ∷ []) 98
 abbrev pub third : Call
 third = adds 9 (0x40400000 ∷ 0x40800000 ∷ []) 97
 
-abbrev pub labelled-a : Call
-labelled-a = search fronts work (searches 4 (labelled (97 ∷ [])))
+abbrev pub label-a : Asked
+label-a = labelled (97 ∷ [])
 
 -- a search before the build, an add of three components, an add after the build, and k beyond the answer lists are refused
-abbrev pub calls : List Call
-calls =
-    first ∷ labelled-a ∷ second ∷ adds 10 (0 ∷ 0 ∷ 0 ∷ []) 97 ∷ third ∷ build fronts work ∷ adds 10 (0x3F800000 ∷ 0 ∷ []) 97 ∷ labelled-a
-    ∷ search fronts work (searches 2 everything)
-    ∷ search fronts work (searches 5 everything)
+abbrev pub callsOver : ℕ → Float → List Call
+callsOver number float =
+    first ∷ searches number float 4 label-a ∷ second ∷ adds 10 (0 ∷ 0 ∷ 0 ∷ []) 97 ∷ third ∷ change fronts (replicate 30 number) build
+    ∷ adds 10 (0x3F800000 ∷ 0 ∷ []) 97
+    ∷ searches number float 4 label-a
+    ∷ searches number float 2 everything
+    ∷ searches number float 5 everything
     ∷ []
+
+abbrev pub calls : List Call
+calls = callsOver 0 nan
 
 -- ---- what the model expects
 
@@ -99,45 +98,54 @@ unfolding expectations ofBits fnvFrom fnvStep distance
 expects = refl
 
 -- with M 4 the build is refused 13; an add may still follow, and a search finds no index
-pub too-many : expectations (sample 5 4) emptyModel (first ∷ second ∷ third ∷ build fronts work ∷ adds 10 (0x3F800000 ∷ 0 ∷ []) 97 ∷ labelled-a ∷ [])
+pub too-many : expectations (sample 5 4) emptyModel (first ∷ second ∷ third ∷ change fronts (replicate 30 0) build ∷ adds 10 (0x3F800000 ∷ 0 ∷ []) 97 ∷ searches 0 nan 4 label-a ∷ [])
     ≡ returns 0 ∷ returns 0 ∷ returns 0 ∷ returns 13 ∷ returns 0 ∷ returns 6 ∷ []
 unfolding expectations ofBits fnvFrom fnvStep distance
 too-many = refl
 
 -- ---- the premise, the types and a run
 
-tested : (ef : ℕ) → distinctTest (modelFrom (sample ef 5) emptyModel calls) ≡ true
-unfolding distinctTest modelFrom ofBits fnvFrom fnvStep distance
+tested : (ef : ℕ) → premiseTest (sample ef 5) emptyModel calls ≡ true
+unfolding premiseTest ofBits fnvFrom fnvStep distance
 tested ef = refl
 
 pub premise : (ef : ℕ) → Premise (sample ef 5) calls
-premise ef = premise-final (sample ef 5) calls (test-distinct (modelFrom (sample ef 5) emptyModel calls) (tested ef))
+premise ef = test-premise (sample ef 5) calls (tested ef)
 
 pub typed : AllTyped calls
 typed =
     (omega arith, (tt, (omega arith, (omega arith, (omega arith, (tt, (omega arith, (tt, (tt, (tt, tt))))))))))
 
-allowed : Allowed (sample 5 5)
-unfolding dimensionAllowed paramsAllowed capacitiesAllowed
-allowed = record { dimension = refl; params = refl; capacities = refl }
-
-fit : Fits fronts lists
-fit = record { floats = omega arith; numbers = omega arith; hashes = omega arith }
-
 pub example-run : (ends : List Ended) × Run (sample 5 5) calls ends
-example-run = run-exists (sample 5 5) allowed lists calls (fit, (fit, (fit, (fit, (fit, (fit, (fit, (fit, (fit, (fit, tt))))))))))
+unfolding created
+example-run = every-run (sample 5 5) (fresh 2 (sample 5 5 .params) (sample 5 5 .capacities)) refl calls typed
 
 -- so in every run the eighth call finds 7 and 9 and is whole
-eighth-expected : expected (sample 5 5) (modelFrom (sample 5 5) emptyModel (take 7 calls)) labelled-a ≡ hits (7 ∷ 9 ∷ []) (0 ∷ 0x3ecccccc ∷ []) 5 true
+eighth-expected : expected (sample 5 5) (modelFrom (sample 5 5) emptyModel (take 7 calls)) (searches 0 nan 4 label-a) ≡ hits (7 ∷ 9 ∷ []) (0 ∷ 0x3ecccccc ∷ []) 5 true
 unfolding expected modelFrom ofBits fnvFrom fnvStep distance
 eighth-expected = refl
 
 pub eighth : (ends : List Ended) → Run (sample 5 5) calls ends → (none : Ended)
-    → Matches (hits (7 ∷ 9 ∷ []) (0 ∷ 0x3ecccccc ∷ []) 5 true) labelled-a (getD ends 7 none)
+    → Matches (hits (7 ∷ 9 ∷ []) (0 ∷ 0x3ecccccc ∷ []) 5 true) (searches 0 nan 4 label-a) (getD ends 7 none)
 eighth ends run none =
-    subst (λ (x : Expected). Matches x labelled-a (getD ends 7 none)) eighth-expected
+    subst (λ (x : Expected). Matches x (searches 0 nan 4 label-a) (getD ends 7 none)) eighth-expected
     (at-place (sample 5 5) (λ m call end. Matches (expected (sample 5 5) m call) call end) emptyModel calls ends (demand3 (sample 5 5) calls .matches ends run) 7 first none (omega arith))
 
--- (a) of the example: with ef 5 no answer is worse than with ef 2
-pub five-not-worse : (ends ends′ : List Ended) → Run (sample 2 5) calls ends → Run (sample 5 5) calls ends′ → InPairs Better ends ends′
-five-not-worse ends ends′ run run′ = demand3 (sample 2 5) calls .larger (premise 2) typed 5 (omega arith) ends ends′ run run′
+-- ---- (a)
+
+-- the calls are alike whatever stands in work and answer lists
+alike-search : (number number′ : ℕ) (float float′ : Float) (k : ℕ) (asked : Asked) → Alike (searches number float k asked) (searches number′ float′ k asked)
+alike-search number number′ float float′ k asked = (refl, record { query = refl; asked = refl; k = refl; ids = refl; distances = refl })
+
+pub over-alike : (number number′ : ℕ) (float float′ : Float) → AllAlike (callsOver number float) (callsOver number′ float′)
+over-alike number number′ float float′ =
+    let four = alike-search number number′ float float′ 4 label-a in
+    let every : (k : ℕ) → Alike (searches number float k everything) (searches number′ float′ k everything) =
+    λ k. alike-search number number′ float float′ k everything in
+    ((refl, refl), (four, ((refl, refl), ((refl, refl), ((refl, refl), ((refl, refl), ((refl, refl), (four, (every 2, (every 5, tt))))))))))
+
+-- with ef 5 no answer is worse than with ef 2
+pub five-not-worse : (number : ℕ) (float : Float) (ends ends′ : List Ended) → Run (sample 2 5) calls ends → Run (sample 5 5) (callsOver number float) ends′
+    → InPairs Better ends ends′
+five-not-worse number float ends ends′ run run′ =
+    demand3 (sample 2 5) calls .larger (premise 2) (callsOver number float) (over-alike 0 number nan float) 5 (omega arith) ends ends′ run run′

@@ -1,158 +1,36 @@
--- Nothing of demand 3 is empty: every call has an outcome, whatever index, lists and arguments it is given, and so every list of calls has a run, as long
--- as no call is lent more than the lists have. Whatever an outcome leaves free can be anything; here it is zeros.
-use Prim.Native.Nat.{ℕ, _+_, _*_, _≤_}
-use mathlib.Core.Bool.{Bool, true, false}
+-- Nothing of demand 3 is empty: every call has an outcome, whatever index, lists and arguments it is given, and so every list of calls has a run, for
+-- every setting that `new` accepts. Whatever an outcome leaves free can be anything; here it is zeros.
+use Prim.Native.Nat.{ℕ, _+_, _≤_}
+use native.Mathlib.Omega.{arith}
 use mathlib.Core.List.{List, [], _∷_}
 use mathlib.Core.Path.{_≡_, refl, sym, ap, _∙_, subst}
 use lib.Ieee.{nan}
-use lib.ListN.{length, take, drop, set, replicate, length-replicate, length-set, length-append, take-append-drop}
-use lib.Seq.{sets, length-sets, length-take-le}
+use lib.ListN.{length, take, drop, replicate, length-replicate, length-append, take-append-drop}
+use lib.Seq.{sets, length-take-le}
 use Rattle.distance.specs.Normalized.{normalized, normalized-holds}
-use Rattle.store.specs.Store.{Store, ownersAt}
-use Rattle.tree.specs.Layout.{floatsOf, numbersOf, hashesOf}
-use Rattle.tree.specs.LayoutLaws.{length-floatsOf, length-numbersOf, length-hashesOf}
+use Rattle.store.specs.Store.{Store}
 use Rattle.walk.specs.Walk.{State, damaged, going, walk}
 use Rattle.walk.specs.Answer.{answer}
 use Rattle.walk.specs.StoreView.{storeView}
 use Rattle.curator.specs.declared.CuratorIndex.{CuratorIndex}
 use Rattle.curator.specs.declared.Check.{Check}
 use Rattle.curator.specs.declared.Check.the-variants as Check′
-use Rattle.curator.specs.declared.Changed.{Changed}
 use Rattle.curator.specs.declared.Changed.the-variants as Changed′
 use Rattle.curator.specs.declared.Found.the-variants as Found′
 use Rattle.curator.specs.declared.refusal.Refusal.the-variants as Refusal′
 use Rattle.curator.specs.declared.refusal.StoreRefusal.the-variants as StoreRefusal′
 use Rattle.curator.specs.Limits.{indexShape}
-use Rattle.curator.specs.Rows.{firstOf, newRows}
-use Rattle.curator.specs.Calls.{hashesOfLabels, grown, builtWith, fresh}
-use Rattle.curator.specs.Changes.{Part, Freed, workPart, freeOf, Adds, AddsBy, addCheck, Builds, BuildsBy, BuildsFine, buildCheck, heldNodes, created, newAnswer}
-use Rattle.curator.specs.Arguments.{AddCall, SearchCall}
+use Rattle.curator.specs.Changes.{workPart, created}
 use Rattle.curator.specs.Searches.{SearchEnd, wantedOf, Searches, SearchesBy, searchCheck, WalkedTo}
+use Rattle.curator.specs.Arguments.{SearchCall}
+use Rattle.runs.specs.Calls.{Fronts, Call, change, search, TypedCall, AllTyped}
 use Rattle.runs.specs.Model.{Setting}
-use Rattle.runs.specs.Run.{Fronts, Call, add, build, search, Ended, changed, found, joinStores, Lent, nextIndex, Step, RunFrom, done, next, Run}
-use Rattle.runs.specs.Agree.{SameLengths}
-use Rattle.runs.specs.State.{Allowed}
-use Rattle.runs.specs.Builds.{freed-length}
+use Rattle.runs.specs.Run.{Ended, changed, found, joinStores, Lent, nextIndex, Step, RunFrom, done, next, Run}
+use Rattle.runs.specs.Agree.{SameLengths, same-lengths}
+use Rattle.runs.specs.Builds.{freed}
+use Rattle.runs.specs.Reached.{change-laws}
 
--- ---- every call has an outcome
-
-module _ {A : Type 0} (x : A) where
-  -- a list with some parts replaced by anything
-  freed : (parts : List Part) (before : List A) → (after : List A) × Freed parts before after
-  unfolding Freed
-  freed [] before = (before, refl)
-  freed (p ∷ parts) before =
-      let new = replicate (p .count) x in
-      let r = freed parts (sets before (p .start) new) in
-      (r .0, (new, length-replicate (p .count) x, r .1))
-
-same-lengths : (store : Store) → SameLengths store store
-same-lengths store = record { floats = refl; numbers = refl; hashes = refl }
-
--- an outcome of an add: the answer and the lists, which keep their lengths
-pub record AddOutcome (index : CuratorIndex) (store : Store) (call : AddCall) : Type 0 where
-  pub answer : Changed
-  pub store′ : Store
-  pub adds : Adds index store call answer store′
-  pub lengths : SameLengths store store′
-
-add-by : (index : CuratorIndex) (store : Store) (call : AddCall) (c : Check)
-    → (answer : Changed) × (store′ : Store) × AddsBy c index store call answer store′ × SameLengths store store′
-unfolding AddsBy
-add-by index store call (Check′.Refused r) = (Changed′.Refused r, store, (refl, refl), same-lengths store)
-add-by index store call Check′.Fine =
-    let n = index .counts .vectors in
-    let at = ownersAt (indexShape index) + index .counts .entries in
-    let one = set (store .numbers) n (call .document) in
-    let owners = replicate (length (call .lengths)) n in
-    let hs = hashesOfLabels (call .lengths) (call .bytes) in (
-      Changed′.Index (grown index (length (call .lengths))),
-      record {
-        floats = sets (store .floats) (index .counts .vectors * index .dimension) (normalized (call .vector));
-        numbers = sets (set (store .numbers) (index .counts .vectors) (call .document)) (ownersAt (indexShape index) + index .counts .entries) (replicate (length (call .lengths)) (index .counts .vectors));
-        hashes = sets (store .hashes) (index .counts .entries) (hashesOfLabels (call .lengths) (call .bytes));
-      },
-      (refl, record { stored = normalized (call .vector); normalized = normalized-holds (call .vector); floats = refl; numbers = refl; hashes = refl }),
-      record {
-        floats = sym (length-sets (store .floats) (n * index .dimension) (normalized (call .vector)));
-        numbers = sym (length-sets one at owners ∙ length-set (store .numbers) n (call .document));
-        hashes = sym (length-sets (store .hashes) (index .counts .entries) hs);
-      },
-    )
-
-pub add-outcome : (index : CuratorIndex) (store : Store) (call : AddCall) → AddOutcome index store call
-unfolding Adds
-add-outcome index store call =
-    let r = add-by index store call (addCheck index store call) in
-    record { answer = r .0; store′ = r .1; adds = r .2; lengths = r .3 }
-
-pub record BuildOutcome (index : CuratorIndex) (store : Store) (work : List ℕ) : Type 0 where
-  pub answer : Changed
-  pub store′ : Store
-  pub work′ : List ℕ
-  pub builds : Builds index store work answer store′ work′
-  pub lengths : SameLengths store store′
-
-build-fine : (index : CuratorIndex) (store : Store) (work : List ℕ) (b : Bool)
-    → (answer : Changed) × (store′ : Store) × (work′ : List ℕ) × BuildsFine b index store work answer store′ work′ × SameLengths store store′
-unfolding BuildsFine
-build-fine index store work true = (Changed′.Index index, store, work, (refl, refl, refl), same-lengths store)
-build-fine index store work false =
-    let nodes = heldNodes index store in
-    let sh = indexShape index in
-    let centres = replicate (index .dimension * index .params .«branching_factor») nan in
-    let w = freed 0 (workPart (indexShape index) ∷ []) work in (
-      Changed′.Index (builtWith index (length (heldNodes index store))),
-      record {
-        floats = floatsOf (indexShape index) (heldNodes index store) (replicate (index .dimension * index .params .«branching_factor») nan) (store .floats);
-        numbers = numbersOf (indexShape index) (heldNodes index store) (store .numbers);
-        hashes = hashesOf (indexShape index) (heldNodes index store) (store .hashes);
-      },
-      w .0,
-      (
-        refl,
-        record {
-          centres = replicate (index .dimension * index .params .«branching_factor») nan;
-          centres-length = length-replicate (index .dimension * index .params .«branching_factor») nan;
-          floats = refl;
-          numbers = refl;
-          hashes = refl;
-          work = w .1;
-        },
-      ),
-      record {
-        floats = sym (length-floatsOf sh nodes centres (store .floats));
-        numbers = sym (length-numbersOf sh nodes (store .numbers));
-        hashes = sym (length-hashesOf sh nodes (store .hashes));
-      },
-    )
-
-build-by : (index : CuratorIndex) (store : Store) (work : List ℕ) (c : Check)
-    → (answer : Changed) × (store′ : Store) × (work′ : List ℕ) × BuildsBy c index store work answer store′ work′ × SameLengths store store′
-unfolding BuildsBy
-build-by index store work Check′.Fine = build-fine index store work (index .built)
-build-by index store work (Check′.Refused r) =
-    let free = freeOf (indexShape index) r in
-    let f = freed nan (free .floats) (store .floats) in
-    let n = freed 0 (free .numbers) (store .numbers) in
-    let h = freed 0 (free .hashes) (store .hashes) in
-    let w = freed 0 (free .work) work in (
-      Changed′.Refused r,
-      record { floats = f .0; numbers = n .0; hashes = h .0 },
-      w .0,
-      (refl, record { floats = f .1; numbers = n .1; hashes = h .1; work = w .1 }),
-      record {
-        floats = freed-length (free .floats) (store .floats) (f .0) (f .1);
-        numbers = freed-length (free .numbers) (store .numbers) (n .0) (n .1);
-        hashes = freed-length (free .hashes) (store .hashes) (h .0) (h .1);
-      },
-    )
-
-pub build-outcome : (index : CuratorIndex) (store : Store) (work : List ℕ) → BuildOutcome index store work
-unfolding Builds
-build-outcome index store work =
-    let r = build-by index store work (buildCheck index store work) in
-    record { answer = r .0; store′ = r .1; work′ = r .2; builds = r .3; lengths = r .4 }
+-- ---- every search has an outcome
 
 pub record SearchOutcome (index : CuratorIndex) (store : Store) (work : List ℕ) (call : SearchCall) : Type 0 where
   pub end : SearchEnd
@@ -177,15 +55,15 @@ unfolding SearchesBy
 search-by index store work call (Check′.Refused r) =
     (record { answer = Found′.Refused r; work = work; ids = call .ids; distances = call .distances }, record { answer = refl; work = refl; ids = refl; distances = refl })
 search-by index store work call Check′.Fine =
-    let view = storeView (indexShape index) (index .counts) store (normalized (call .query)) (wantedOf (call .asked)) in
+    let view = storeView (indexShape index) (index .counts) store (normalized (call .question .query)) (wantedOf (call .question .asked)) in
     let r = walked-by index work call (walk view (index .params .«ef_search»)) in
-    (r .0, record { query = normalized (call .query); normalized = normalized-holds (call .query); walked = r .1 })
+    (r .0, record { query = normalized (call .question .query); normalized = normalized-holds (call .question .query); walked = r .1 })
 
 pub search-outcome : (index : CuratorIndex) (store : Store) (work : List ℕ) (call : SearchCall) → SearchOutcome index store work call
 unfolding Searches
 search-outcome index store work call = let r = search-by index store work call (searchCheck index store work call) in record { end = r .0; searches = r .1 }
 
--- ---- runs
+-- ---- every step
 
 -- 'A call may be lent only the front of a list': no more than the list has
 pub record Fits (fronts : Fronts) (store : Store) : Type 0 where
@@ -194,8 +72,7 @@ pub record Fits (fronts : Fronts) (store : Store) : Type 0 where
   pub hashes : fronts .hashes ≤ length (store .hashes)
 
 abbrev pub frontsOf : Call → Fronts
-frontsOf (add fronts call) = fronts
-frontsOf (build fronts work) = fronts
+frontsOf (change fronts work c) = fronts
 frontsOf (search fronts work call) = fronts
 
 abbrev pub AllFit : Store → List Call → Type 0
@@ -251,31 +128,10 @@ pub record StepOutcome (index : CuratorIndex) (store : Store) (call : Call) : Ty
   pub step : Step index store call end index′ store′
   pub lengths : SameLengths store store′
 
-pub step-outcome : (index : CuratorIndex) (store : Store) (call : Call) → Fits (frontsOf call) store → StepOutcome index store call
+pub step-outcome : (index : CuratorIndex) (store : Store) (call : Call) → TypedCall call → Fits (frontsOf call) store → StepOutcome index store call
 unfolding Step
-step-outcome index store (add fronts call) f =
-    let r = add-outcome index (frontOf fronts store) call in
-    record {
-      end = changed (r .answer);
-      index′ = nextIndex index (r .answer);
-      store′ = joinStores (r .store′) (restOf fronts store);
-      step =
-          record {
-            front = frontOf fronts store;
-            rest = restOf fronts store;
-            front′ = r .store′;
-            answer = r .answer;
-            whole = front-rest fronts store;
-            lent = front-lent fronts store f;
-            adds = r .adds;
-            ended = refl;
-            index-next = refl;
-            store-next = refl;
-          };
-      lengths = joined-lengths fronts store (r .store′) (r .lengths);
-    }
-step-outcome index store (build fronts work) f =
-    let r = build-outcome index (frontOf fronts store) work in
+step-outcome index store (change fronts work c) t f =
+    let r = change-laws c .outcome index (frontOf fronts store) work in
     record {
       end = changed (r .answer);
       index′ = nextIndex index (r .answer);
@@ -289,14 +145,15 @@ step-outcome index store (build fronts work) f =
             answer = r .answer;
             whole = front-rest fronts store;
             lent = front-lent fronts store f;
-            builds = r .builds;
+            typed = t;
+            changes = r .changes;
             ended = refl;
             index-next = refl;
             store-next = refl;
           };
       lengths = joined-lengths fronts store (r .store′) (r .lengths);
     }
-step-outcome index store (search fronts work call) f =
+step-outcome index store (search fronts work call) t f =
     let r = search-outcome index (frontOf fronts store) work call in
     record {
       end = found (r .end);
@@ -317,6 +174,8 @@ step-outcome index store (search fronts work call) f =
       lengths = same-lengths store;
     }
 
+-- ---- every run
+
 fits-same : (fronts : Fronts) (store store′ : Store) → SameLengths store store′ → Fits fronts store → Fits fronts store′
 fits-same fronts store store′ l f =
     record {
@@ -329,21 +188,45 @@ all-fit-same : (store store′ : Store) (calls : List Call) → SameLengths stor
 all-fit-same store store′ [] l f = tt
 all-fit-same store store′ (call ∷ calls) l f = (fits-same (frontsOf call) store store′ l (f .0), all-fit-same store store′ calls l (f .1))
 
-pub run-from : (index : CuratorIndex) (store : Store) (calls : List Call) → AllFit store calls → (ends : List Ended) × RunFrom index store calls ends
-run-from index store [] f = ([], done)
-run-from index store (call ∷ calls) f =
-    let o = step-outcome index store call (f .0) in
-    let r = run-from (o .index′) (o .store′) calls (all-fit-same store (o .store′) calls (o .lengths) (f .1)) in
+pub run-from : (index : CuratorIndex) (store : Store) (calls : List Call) → AllTyped calls → AllFit store calls → (ends : List Ended) × RunFrom index store calls ends
+run-from index store [] t f = ([], done)
+run-from index store (call ∷ calls) t f =
+    let o = step-outcome index store call (t .0) (f .0) in
+    let r = run-from (o .index′) (o .store′) calls (t .1) (all-fit-same store (o .store′) calls (o .lengths) (f .1)) in
     (o .end ∷ r .0, next (o .step) (r .1))
 
--- settings within the limits are accepted
-pub accepted : (s : Setting) → Allowed s
-    → created (s .dimension) (s .params) (s .capacities) ≡ Changed′.Index (fresh (s .dimension) (s .params) (s .capacities))
-unfolding created newAnswer firstOf newRows
-accepted s a = rw (a .dimension, a .params, a .capacities)
+-- from any three lists of which no call is lent more than they have
+pub run-exists : (s : Setting) (index : CuratorIndex) → created (s .dimension) (s .params) (s .capacities) ≡ Changed′.Index index → (store : Store) (calls : List Call)
+    → AllTyped calls → AllFit store calls → (ends : List Ended) × Run s calls ends
+run-exists s index e store calls t f =
+    let r = run-from index store calls t f in
+    (r .0, record { index = index; accepted = e; store = store; run = r .1 })
 
--- Runs exist: for any settings within the limits, any three lists and any calls that are lent no more than the lists have
-pub run-exists : (s : Setting) → Allowed s → (store : Store) (calls : List Call) → AllFit store calls → (ends : List Ended) × Run s calls ends
-run-exists s a store calls f =
-    let r = run-from (fresh (s .dimension) (s .params) (s .capacities)) store calls f in
-    (r .0, record { index = fresh (s .dimension) (s .params) (s .capacities); accepted = accepted s a; store = store; run = r .1 })
+-- lists that are long enough: as long as all that is lent together
+abbrev lentInAll : List Call → Fronts
+lentInAll [] = record { floats = 0; numbers = 0; hashes = 0 }
+lentInAll (call ∷ calls) =
+    record {
+      floats = frontsOf call .floats + lentInAll calls .floats;
+      numbers = frontsOf call .numbers + lentInAll calls .numbers;
+      hashes = frontsOf call .hashes + lentInAll calls .hashes;
+    }
+
+all-fit : (calls : List Call) (store : Store) → Fits (lentInAll calls) store → AllFit store calls
+all-fit [] store f = tt
+all-fit (call ∷ calls) store f = (
+  record { floats = omega (arith, f .floats); numbers = omega (arith, f .numbers); hashes = omega (arith, f .hashes) },
+  all-fit calls store (record { floats = omega (arith, f .floats); numbers = omega (arith, f .numbers); hashes = omega (arith, f .hashes) }),
+)
+
+-- Every list of calls has a run, for every setting that `new` accepts; that document ids are u32s is by the type of the argument.
+pub every-run : (s : Setting) (index : CuratorIndex) → created (s .dimension) (s .params) (s .capacities) ≡ Changed′.Index index → (calls : List Call) → AllTyped calls
+    → (ends : List Ended) × Run s calls ends
+every-run s index e calls t =
+    let n = lentInAll calls in
+    let store : Store = record { floats = replicate (n .floats) nan; numbers = replicate (n .numbers) 0; hashes = replicate (n .hashes) 0 } in
+    let f = length-replicate (n .floats) nan in
+    let g = length-replicate {A = ℕ} (n .numbers) 0 in
+    let h = length-replicate {A = ℕ} (n .hashes) 0 in
+    run-exists s index e store calls t
+    (all-fit calls store (record { floats = omega (arith, f); numbers = omega (arith, g); hashes = omega (arith, h) }))

@@ -3,14 +3,13 @@
 use Prim.Native.Nat.{ℕ, _/_, _%_, _^_, _≤_, _<_}
 use native.Mathlib.Omega.{arith}
 use mathlib.Core.Bool.{true}
-use mathlib.Core.List.{List, [], _∷_, map, map-map, List·Memᴰ, List·Memᴰ·head, List·Memᴰ·tail, List·Memᴰ·not-nil, List·Memᴰ·cases-cons}
+use mathlib.Core.List.{List, map, map-map, List·Memᴰ}
 use mathlib.Core.Path.{_≡_, refl, sym, ap, _∙_, subst}
 use lib.ListN.{length, getD}
 use Rattle.lists.specs.Maps.{map-on}
 use Rattle.lists.specs.Counting.{sumOf, sumOf-map, getD-Memᴰ, Memᴰ-keep}
 use Rattle.lists.specs.Partition.{hit, count, count-Memᴰ, Memᴰ-count}
 use Rattle.order.specs.Sorted.{sort}
-use Rattle.lists.specs.Tests.{either}
 use Rattle.distance.specs.DistanceLaws.{distance-fits}
 use Rattle.distance.specs.TotalOrder.{keyOf, ofKey}
 use Rattle.distance.specs.OrderLaws.{ofKey-keyOf}
@@ -25,8 +24,8 @@ use Rattle.curator.specs.Searches.{wantedOf}
 use Rattle.curator.specs.Arguments.{SearchCall}
 use Rattle.runs.specs.Model.{Setting, Model, ModelRow, noRow, rowHit, treeView}
 use Rattle.runs.specs.Theorem.{Distinct, about, carries, rowDistance}
-use Rattle.runs.specs.State.{Allowed, Within}
-use Rattle.runs.specs.Reached.{Small}
+use Rattle.runs.specs.ListLaws.{Memᴰ-map}
+use Rattle.runs.specs.State.{Allowed, Within, Small}
 use Rattle.runs.specs.Due.{dueBelow, sizeAt, IsNode, sound-tree, root-due}
 use Rattle.runs.specs.Eligible.{numbersAbout, due-about, number-below, rank-hit, ranks-about, rowRank, hitRank, documents-different}
 
@@ -43,17 +42,12 @@ pub rank-distance : (call : SearchCall) (r : ModelRow) → r .document < 2 ^ 32 
 rank-distance call r h =
     let key = keyOf (rowDistance call r) in
     let e : rowRank call r / 2 ^ 32 ≡ keyOf (rowDistance call r) = omega arith in
-    ap ofKey e ∙ ofKey-keyOf (rowDistance call r) (distance-fits (normalized (call .query)) (r .vector))
+    ap ofKey e ∙ ofKey-keyOf (rowDistance call r) (distance-fits (normalized (call .question .query)) (r .vector))
 
 -- a hit by its rank
 pub hit-distance : (hit : ℕ) → distanceOf hit ≡ ofKey (hitRank hit / 2 ^ 32)
 unfolding distanceOf
 hit-distance hit = let e : hit / 2 ^ 64 ≡ hit / 2 ^ 32 / 2 ^ 32 = omega arith in ap ofKey e
-
-Mem-map : {A : Type 0} (f : A → ℕ) (l : List A) (y : ℕ) → List·Memᴰ y (map f l) → (x : A) × List·Memᴰ x l × (y ≡ f x)
-Mem-map f [] y k = absurd (List·Memᴰ·not-nil k)
-Mem-map f (x ∷ xs) y k =
-    either (List·Memᴰ·cases-cons k) (λ e. (x, List·Memᴰ·head refl, e)) (λ n. let r = Mem-map f xs y n in (r .0, List·Memᴰ·tail (r .1), r .2))
 
 count-sum : (x : ℕ) (l : List ℕ) → count x (map documentOf l) ≡ sumOf (λ h. hit x (documentOf h)) l
 unfolding count
@@ -65,35 +59,35 @@ count-is x l = refl
 
 -- the view that a search walks, and one hit for each row that it is about
 abbrev pub searchView : Setting → Model → SearchCall → View
-searchView s m call = treeView s m (normalized (call .query)) (wantedOf (call .asked))
+searchView s m call = treeView s m (normalized (call .question .query)) (wantedOf (call .question .asked))
 
 abbrev pub hitsAbout : Model → SearchCall → List ℕ
-hitsAbout m call = map (rowHit m (normalized (call .query))) (numbersAbout (wantedOf (call .asked)) 0 (m .rows))
+hitsAbout m call = map (rowHit m (normalized (call .question .query))) (numbersAbout (wantedOf (call .question .asked)) 0 (m .rows))
 
 module _ (s : Setting) (m : Model) (a : Allowed s) (w : Within s m) (d : Distinct m) (small : Small m) (call : SearchCall) where
-  all-due : dueBelow s m (normalized (call .query)) (wantedOf (call .asked)) 0 ≡ (hitsAbout m call)
-  all-due = root-due s m a w (normalized (call .query)) (wantedOf (call .asked)) ∙ due-about s m a w d (normalized (call .query)) (wantedOf (call .asked))
+  all-due : dueBelow s m (normalized (call .question .query)) (wantedOf (call .question .asked)) 0 ≡ (hitsAbout m call)
+  all-due = root-due s m a w (normalized (call .question .query)) (wantedOf (call .question .asked)) ∙ due-about s m a w d (normalized (call .question .query)) (wantedOf (call .question .asked))
 
-  hits-documents : map documentOf (hitsAbout m call) ≡ map (λ r. r .document) (about (wantedOf (call .asked)) m)
+  hits-documents : map documentOf (hitsAbout m call) ≡ map (λ r. r .document) (about (wantedOf (call .question .asked)) m)
   hits-documents =
-      let rows = about (wantedOf (call .asked)) m in
+      let rows = about (wantedOf (call .question .asked)) m in
       sym (map-map (λ n. n % 2 ^ 32) hitRank (hitsAbout m call))
-      ∙ ap (map (λ n. n % 2 ^ 32)) (ranks-about s m a w call (wantedOf (call .asked)))
+      ∙ ap (map (λ n. n % 2 ^ 32)) (ranks-about s m a w call (wantedOf (call .question .asked)))
       ∙ map-map (λ n. n % 2 ^ 32) (rowRank call) rows
-      ∙ map-on (λ r. rowRank call r % 2 ^ 32) (λ r. r .document) rows (λ r k. rank-document call r (small r (about-rows m (wantedOf (call .asked)) r k)))
+      ∙ map-on (λ r. rowRank call r % 2 ^ 32) (λ r. r .document) rows (λ r k. rank-document call r (small r (about-rows m (wantedOf (call .question .asked)) r k)))
 
   -- at most what is due was found
   found-part : (b : ℕ) (p : Progress) → walk (searchView s m call) b ≡ going p → (f : ℕ → ℕ) → sumOf f (p .found) ≤ sumOf f (hitsAbout m call)
   found-part b p e f =
       subst (λ (l : List ℕ). sumOf f (p .found) ≤ sumOf f l) all-due
-      (sound-part (searchView s m call) (dueBelow s m (normalized (call .query)) (wantedOf (call .asked))) (sizeAt s m) (IsNode s m)
-      (sound-tree s m a w (normalized (call .query)) (wantedOf (call .asked))) b p e f)
+      (sound-part (searchView s m call) (dueBelow s m (normalized (call .question .query)) (wantedOf (call .question .asked))) (sizeAt s m) (IsNode s m)
+      (sound-tree s m a w (normalized (call .question .query)) (wantedOf (call .question .asked))) b p e f)
 
   pub found-different : (b : ℕ) (p : Progress) → walk (searchView s m call) b ≡ going p → Different (map documentOf (p .found))
   found-different b p e x =
-      let rows = about (wantedOf (call .asked)) m in
+      let rows = about (wantedOf (call .question .asked)) m in
       let one : count x (map documentOf (hitsAbout m call)) ≤ 1 =
-      subst (λ (l : List ℕ). count x l ≤ 1) (sym hits-documents) (documents-different m d (wantedOf (call .asked)) x) in
+      subst (λ (l : List ℕ). count x l ≤ 1) (sym hits-documents) (documents-different m d (wantedOf (call .question .asked)) x) in
       omega (arith, found-part b p e (λ h. hit x (documentOf h)), count-sum x (p .found), count-sum x (hitsAbout m call), one)
 
   pub found-ranked : (b : ℕ) (p : Progress) → walk (searchView s m call) b ≡ going p → ranked p ≡ sort (p .found)
@@ -101,11 +95,11 @@ module _ (s : Setting) (m : Model) (a : Allowed s) (w : Within s m) (d : Distinc
 
   -- each hit is a row's
   found-row : (b : ℕ) (p : Progress) → walk (searchView s m call) b ≡ going p → (h : ℕ) → List·Memᴰ h (p .found)
-      → (i : ℕ) × (i < length (m .rows)) × (h ≡ rowHit m (normalized (call .query)) i)
+      → (i : ℕ) × (i < length (m .rows)) × (h ≡ rowHit m (normalized (call .question .query)) i)
   found-row b p e h k =
       let some : 0 < count h (hitsAbout m call) = omega (arith, Memᴰ-count k, found-part b p e (hit h), count-is h (p .found), count-is h (hitsAbout m call)) in
-      let r = Mem-map (rowHit m (normalized (call .query))) (numbersAbout (wantedOf (call .asked)) 0 (m .rows)) h (count-Memᴰ h (hitsAbout m call) some) in
-      (r .0, number-below (wantedOf (call .asked)) m (r .0) (r .1), r .2)
+      let r = Memᴰ-map (rowHit m (normalized (call .question .query))) (numbersAbout (wantedOf (call .question .asked)) 0 (m .rows)) h (count-Memᴰ h (hitsAbout m call) some) in
+      (r .0, number-below (wantedOf (call .question .asked)) m (r .0) (r .1), r .2)
 
   -- so its key is its distance's
   pub found-key : (b : ℕ) (p : Progress) → walk (searchView s m call) b ≡ going p → (h : ℕ) → List·Memᴰ h (p .found)
@@ -121,6 +115,6 @@ module _ (s : Setting) (m : Model) (a : Allowed s) (w : Within s m) (d : Distinc
   -- a whole walk has found all that is due
   pub found-whole : (b : ℕ) (p : Progress) → walk (searchView s m call) b ≡ going p → whole p ≡ true → sort (p .found) ≡ sort (hitsAbout m call)
   found-whole b p e f =
-      sound-whole (searchView s m call) (dueBelow s m (normalized (call .query)) (wantedOf (call .asked))) (sizeAt s m) (IsNode s m)
-      (sound-tree s m a w (normalized (call .query)) (wantedOf (call .asked))) b p e f
+      sound-whole (searchView s m call) (dueBelow s m (normalized (call .question .query)) (wantedOf (call .question .asked))) (sizeAt s m) (IsNode s m)
+      (sound-tree s m a w (normalized (call .question .query)) (wantedOf (call .question .asked))) b p e f
       ∙ ap sort all-due

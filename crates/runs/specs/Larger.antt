@@ -1,21 +1,19 @@
 -- (a) A larger `ef_search` walks on where the smaller stopped, so what the smaller found is among what the larger found; no document is twice among
 -- it, so in order, place by place, the larger has a hit no later.
-use Prim.Native.Nat.{ℕ, zero, suc, _+_, _-_, _≤_, _<_}
+use Prim.Native.Nat.{ℕ, _+_, _-_, _≤_, _<_}
 use native.Mathlib.Nat.{zero-add}
 use native.Mathlib.Omega.{arith}
-use mathlib.Core.Bool.{Bool}
-use mathlib.Core.List.{List, [], _∷_, map, List·Memᴰ, List·Memᴰ·head, List·Memᴰ·tail, List·Memᴰ·not-nil, List·Memᴰ·cases-cons}
-use mathlib.Core.Path.{_≡_, refl, sym, ap, ap₂, _∙_, subst}
+use mathlib.Core.List.{List, [], _∷_, map, List·Memᴰ}
+use mathlib.Core.Path.{_≡_, sym, ap, ap₂, _∙_, subst}
 use borrow.Author.Tests.{le-leb}
 use lib.Ieee.{Float, nan}
-use lib.ListN.{length, getD, take, length-map}
+use lib.ListN.{length, getD, take, length-map, length-take}
 use lib.Seq.{sets}
 use Rattle.lists.specs.Maps.{getD-map}
 use Rattle.lists.specs.Counting.{getD-Memᴰ}
 use Rattle.lists.specs.Parts.{getD-sets-in}
 use Rattle.order.specs.Sorted.{sort}
 use Rattle.order.specs.SortedLaws.{sort-mem, no-later-length}
-use Rattle.lists.specs.Tests.{either}
 use Rattle.distance.specs.DistanceLaws.{distance-fits}
 use Rattle.distance.specs.TotalOrder.{totalOrder, keyOf}
 use Rattle.distance.specs.OrderLaws.{totalOrder-key}
@@ -24,61 +22,52 @@ use Rattle.walk.specs.Walk.{Progress, going, walk, whole}
 use Rattle.walk.specs.WalkLaws.{larger-later}
 use Rattle.walk.specs.Answer.{answer, documentOf, distanceOf, ranked}
 use Rattle.walk.specs.AnswerLaws.{never-worse, never-later}
-use Rattle.curator.specs.declared.Found.the-variants.{Hits}
 use Rattle.curator.specs.Outcome.{checkNumber}
-use Rattle.curator.specs.Searches.{SearchEnd}
 use Rattle.curator.specs.Arguments.{SearchCall}
-use Rattle.runs.specs.Model.{Setting, Model, nodeCount, modelNodes, modelFacts, treeView}
-use Rattle.runs.specs.Run.{Fronts, Call, add, build, search, Ended, changed, found}
-use Rattle.runs.specs.Theorem.{lentBy, modelCheck, expected, after, endNumber, Holds, Matches, AtEach, InPairs, Distinct, NotWorse, Better, withBudget, rowDistance}
-use Rattle.runs.specs.State.{Allowed, Within}
+use Rattle.runs.specs.Calls.{Fronts, Call, change, search, lentBy, AlikeSearch, Alike, AllAlike}
+use Rattle.runs.specs.Model.{Setting, Model, modelNodes, changeCheck, treeView, expected, after}
+use Rattle.runs.specs.Run.{Ended}
+use Rattle.runs.specs.Theorem.{endNumber, Reply, replyOf, Matches, AtEach, InPairs, Distinct, NotWorse, Better, withBudget, rowDistance}
+use Rattle.runs.specs.ListLaws.{take-Memᴰ}
+use Rattle.runs.specs.State.{Allowed, Within, Small}
 use Rattle.runs.specs.Refusals.{search-room}
 use Rattle.runs.specs.Search.{walk-is}
-use Rattle.runs.specs.Reached.{Ends, Along, Small, Finds, answered-finds, no-found-add, no-found-build, numbered}
+use Rattle.runs.specs.Reached.{Ends, Along, Finds, answered-finds, not-answered, numbered}
+use Rattle.runs.specs.Contents.{alike-walk, alike-check, alike-after, budget-check, budget-after}
 use Rattle.runs.specs.Hits.{searchView, found-different, found-ranked, found-key}
 
 -- ---- the answer lists
 
-pub length-take : {A : Type 0} (k : ℕ) (l : List A) → length (take k l) ≤ k
-length-take zero l = omega arith
-length-take (suc k) [] = omega arith
-length-take (suc k) (x ∷ xs) = let h : length (take k xs) ≤ k = length-take k xs in omega arith
-
 -- an answered search's hits are the first k of what was ranked
-pub record Listed (call : SearchCall) (p : Progress) (end : SearchEnd) (hits : ℕ) (complete : Bool) : Type 0 where
-  pub count : hits ≡ length (take (call .k) (ranked p))
-  pub whole-is : complete ≡ whole p
-  pub ids : end .ids ≡ sets (call .ids) 0 (map documentOf (take (call .k) (ranked p)))
-  pub distances : end .distances ≡ sets (call .distances) 0 (map distanceOf (take (call .k) (ranked p)))
+pub record Listed (k : ℕ) (ids : List ℕ) (distances : List Float) (p : Progress) (reply : Reply) : Type 0 where
+  pub count : reply .hits ≡ length (take k (ranked p))
+  pub whole-is : reply .complete ≡ whole p
+  pub ids-are : reply .ids ≡ sets ids 0 (map documentOf (take k (ranked p)))
+  pub distances-are : reply .distances ≡ sets distances 0 (map distanceOf (take k (ranked p)))
 
-pub listed : (call : SearchCall) (p : Progress) (end : SearchEnd) (hits opened : ℕ) (complete : Bool) → Holds (answer (call .k) p) call end
-    → end .answer ≡ Hits hits opened complete
-    → Listed call p end hits complete
+pub listed : (call : SearchCall) (p : Progress) (reply : Reply) → reply ≡ replyOf (answer (call .k) p) call
+    → Listed (call .k) (call .ids) (call .distances) p reply
 unfolding answer
-listed call p end hits opened complete h e =
-    let same : Hits hits opened complete ≡ Hits (length (map documentOf (take (call .k) (ranked p)))) (length (p .opened)) (whole p) = sym e ∙ h .answer in
-    let c : hits ≡ length (map documentOf (take (call .k) (ranked p))) = cc in
-    let b : complete ≡ whole p = cc in
-    record { count = c ∙ length-map (take (call .k) (ranked p)) documentOf; whole-is = b; ids = h .ids; distances = h .distances }
+listed call p reply e =
+    record {
+      count = ap (λ (r : Reply). r .hits) e ∙ length-map (take (call .k) (ranked p)) documentOf;
+      whole-is = ap (λ (r : Reply). r .complete) e;
+      ids-are = ap (λ (r : Reply). r .ids) e;
+      distances-are = ap (λ (r : Reply). r .distances) e;
+    }
 
 -- the distance at a place below the hit count
-pub listed-distance : (call : SearchCall) (p : Progress) (end : SearchEnd) (hits : ℕ) (complete : Bool) → Listed call p end hits complete
-    → call .k ≤ length (call .distances)
-    → (i : ℕ) → i < length (take (call .k) (ranked p)) → getD (end .distances) i nan ≡ distanceOf (getD (take (call .k) (ranked p)) i 0)
-listed-distance call p end hits complete l long i h =
-    let hs = take (call .k) (ranked p) in
+listed-distance : (k : ℕ) (ids : List ℕ) (distances : List Float) (p : Progress) (reply : Reply) → Listed k ids distances p reply → k ≤ length distances
+    → (i : ℕ) → i < length (take k (ranked p)) → getD (reply .distances) i nan ≡ distanceOf (getD (take k (ranked p)) i 0)
+listed-distance k ids distances p reply l long i h =
+    let hs = take k (ranked p) in
     let ds = map distanceOf hs in
     let n : length ds ≡ length hs = length-map hs distanceOf in
-    let fit : 0 + length ds ≤ length (call .distances) = omega (arith, n, length-take (call .k) (ranked p), long) in
-    ap (λ (d : List Float). getD d i nan) (l .distances)
-    ∙ ap (λ (k : ℕ). getD (sets (call .distances) 0 ds) k nan) (sym (zero-add i))
-    ∙ getD-sets-in (call .distances) 0 ds i nan (omega (arith, n, h)) fit
+    let fit : 0 + length ds ≤ length distances = omega (arith, n, length-take k (ranked p), long) in
+    ap (λ (d : List Float). getD d i nan) (l .distances-are)
+    ∙ ap (λ (j : ℕ). getD (sets distances 0 ds) j nan) (sym (zero-add i))
+    ∙ getD-sets-in distances 0 ds i nan (omega (arith, n, h)) fit
     ∙ getD-map distanceOf hs i 0 nan h
-
-pub take-Memᴰ : {A : Type 0} (k : ℕ) (l : List A) {x : A} → List·Memᴰ x (take k l) → List·Memᴰ x l
-take-Memᴰ zero l m = absurd (List·Memᴰ·not-nil m)
-take-Memᴰ (suc k) [] m = m
-take-Memᴰ (suc k) (y ∷ ys) m = either (List·Memᴰ·cases-cons m) (λ e. List·Memᴰ·head e) (λ n. List·Memᴰ·tail (take-Memᴰ k ys n))
 
 -- a hit of the answer was found
 first-found : (k : ℕ) (p : Progress) → ranked p ≡ sort (p .found) → (i : ℕ) → i < length (take k (ranked p))
@@ -89,11 +78,11 @@ first-found k p e i h =
 -- ---- one search
 
 module _ (s : Setting) (m : Model) (a : Allowed s) (w : Within s m) (d : Distinct m) (small : Small m) (call : SearchCall) where
+  -- answers with the same k, of a walk and of one that went on
   not-worse : (b more : ℕ) (p q : Progress) → walk (searchView s m call) b ≡ going p → walk (searchView s m call) (b + more) ≡ going q
-      → (end end′ : SearchEnd) (hits hits′ : ℕ) (complete complete′ : Bool) → Listed call p end hits complete → Listed call q end′ hits′ complete′
-      → call .k ≤ length (call .distances) → NotWorse end end′ hits hits′
-  not-worse b more p q e f end end′ hits hits′ complete complete′ l l′ long =
-      let k = call .k in
+      → (ids ids′ : List ℕ) (distances distances′ : List Float) (k : ℕ) (reply reply′ : Reply) → Listed k ids distances p reply
+      → Listed k ids′ distances′ q reply′ → k ≤ length distances → k ≤ length distances′ → NotWorse reply reply′
+  not-worse b more p q e f ids ids′ distances distances′ k reply reply′ l l′ long long′ =
       let view = searchView s m call in
       let later = larger-later view b more p q e f in
       let different = found-different s m a w d small call (b + more) q f in
@@ -107,70 +96,66 @@ module _ (s : Setting) (m : Model) (a : Allowed s) (w : Within s m) (d : Distinc
             let old = found-key s m a w d small call b p e (getD (take k (ranked p)) i 0) (first-found k p (found-ranked s m a w d small call b p e) i low) in
             let new = found-key s m a w d small call (b + more) q f (getD (take k (ranked q)) i 0) (first-found k q (found-ranked s m a w d small call (b + more) q f) i low′) in
             let keys = never-later p q (later .found .0) k (later .found .1) different i low in
-            let query = normalized (call .query) in
-            ap₂ totalOrder (listed-distance call q end′ hits′ complete′ l′ long i low′ ∙ new .1) (listed-distance call p end hits complete l long i low ∙ old .1)
+            let query = normalized (call .question .query) in
+            ap₂ totalOrder (listed-distance k ids′ distances′ q reply′ l′ long′ i low′ ∙ new .1) (listed-distance k ids distances p reply l long i low ∙ old .1)
             ∙ totalOrder-key (rowDistance call (new .0)) (rowDistance call (old .0)) (distance-fits query (new .0 .vector)) (distance-fits query (old .0 .vector))
             ∙ le-leb (keyOf (rowDistance call (new .0))) (keyOf (rowDistance call (old .0))) (omega (arith, keys, old .2, new .2)));
       }
 
-  -- two answered searches
-  pub better : (ef : ℕ) → s .params .«ef_search» ≤ ef → (fronts : Fronts) (work : List ℕ) (end end′ : SearchEnd) → Finds s m fronts work call end
-      → Finds (withBudget ef s) m fronts work call end′ → Better (found end) (found end′)
+  -- two answered searches that are alike
+  better : (ef : ℕ) → s .params .«ef_search» ≤ ef → (call′ : SearchCall) → AlikeSearch call call′ → (fronts fronts′ : Fronts) (work work′ : List ℕ) (reply reply′ : Reply)
+      → Finds s m fronts work call reply → Finds (withBudget ef s) m fronts′ work′ call′ reply′ → NotWorse reply reply′
   unfolding treeView modelNodes
-  better ef h fronts work end end′ x y hits hits′ opened opened′ complete complete′ e e′ =
+  better ef h call′ same fronts fronts′ work work′ reply reply′ x y =
       let more = ef - s .params .«ef_search» in
       let sum : s .params .«ef_search» + (ef - s .params .«ef_search») ≡ ef = omega arith in
       let walk′ : walk (searchView s m call) (s .params .«ef_search» + (ef - s .params .«ef_search»)) ≡ going (y .progress) =
-      ap (walk (searchView s m call)) sum ∙ sym (walk-is (withBudget ef s) m call) ∙ y .walked in
-      not-worse (s .params .«ef_search») more (x .progress) (y .progress) (sym (walk-is s m call) ∙ x .walked) walk′ end end′ hits hits′ complete complete′
-      (listed call (x .progress) end hits opened complete (x .holds) e) (listed call (y .progress) end′ hits′ opened′ complete′ (y .holds) e′)
-      (search-room s m (lentBy fronts work) call (x .check) .distances)
+      ap (walk (searchView s m call)) sum ∙ sym (walk-is (withBudget ef s) m call) ∙ alike-walk (withBudget ef s) m call call′ same ∙ y .walked in
+      let l′ : Listed (call .k) (call′ .ids) (call′ .distances) (y .progress) reply′ =
+      subst (λ (k : ℕ). Listed k (call′ .ids) (call′ .distances) (y .progress) reply′) (sym (same .k)) (listed call′ (y .progress) reply′ (y .is)) in
+      let long = search-room s m (lentBy fronts work) call (x .check) .distances in
+      not-worse (s .params .«ef_search») more (x .progress) (y .progress) (sym (walk-is s m call) ∙ x .walked) walk′ (call .ids) (call′ .ids) (call .distances) (call′ .distances)
+      (call .k) reply reply′ (listed call (x .progress) reply (x .is)) l′ long (subst (λ (n : ℕ). call .k ≤ n) (same .distances) long)
 
 -- ---- every call
 
--- `ef_search` is no matter to the refusals, nor to what is written
-same-check : (s : Setting) (ef : ℕ) (m : Model) (call : Call) → modelCheck (withBudget ef s) m call ≡ modelCheck s m call
-unfolding modelCheck modelFacts nodeCount
-same-check s ef m (add fronts call) = refl
-same-check s ef m (build fronts work) = refl
-same-check s ef m (search fronts work call) = refl
-
-same-after : (s : Setting) (ef : ℕ) (m : Model) (call : Call) → after (withBudget ef s) m call ≡ after s m call
-unfolding after modelFacts nodeCount
-same-after s ef m (add fronts call) = refl
-same-after s ef m (build fronts work) = refl
-same-after s ef m (search fronts work call) = refl
+-- the model after alike calls with another `ef_search`
+same-after : (s : Setting) (ef : ℕ) (m : Model) (call call′ : Call) → Alike call call′ → after (withBudget ef s) m call′ ≡ after s m call
+same-after s ef m call call′ e = budget-after s ef m call′ ∙ sym (alike-after s m call call′ e)
 
 -- refused alike
-pub call-alike : (s : Setting) (ef : ℕ) (m : Model) (call : Call) (end end′ : Ended) → Matches (expected s m call) call end
-    → Matches (expected (withBudget ef s) m call) call end′ → endNumber end ≡ endNumber end′
-call-alike s ef m call end end′ x y = numbered s m call end x ∙ ap checkNumber (sym (same-check s ef m call)) ∙ sym (numbered (withBudget ef s) m call end′ y)
+pub call-alike : (s : Setting) (ef : ℕ) (m : Model) (call call′ : Call) → Alike call call′ → (end end′ : Ended) → Matches (expected s m call) call end
+    → Matches (expected (withBudget ef s) m call′) call′ end′ → endNumber end ≡ endNumber end′
+call-alike s ef m call call′ e end end′ x y =
+    numbered s m call end x ∙ ap checkNumber (alike-check s m call call′ e ∙ sym (budget-check s ef m call′)) ∙ sym (numbered (withBudget ef s) m call′ end′ y)
 
 module _ (s : Setting) (a : Allowed s) (ef : ℕ) (more : s .params .«ef_search» ≤ ef) (m : Model) (w : Within s m) (d : Distinct m) (small : Small m) where
-  pub call-better : (call : Call) (end end′ : Ended) → Matches (expected s m call) call end → Matches (expected (withBudget ef s) m call) call end′
-      → Better end end′
-  call-better call (changed answer) end′ x y = tt
-  call-better call (found end) (changed answer) x y = tt
-  call-better (add fronts call) (found end) (found end′) x y = absurd (no-found-add s m fronts call end x)
-  call-better (build fronts work) (found end) (found end′) x y = absurd (no-found-build s m fronts work end x)
-  call-better (search fronts work call) (found end) (found end′) x y = λ hits hits′ opened opened′ complete complete′ e e′.
-      better s m a w d small call ef more fronts work end end′ (answered-finds s m fronts work call end x hits opened complete e)
-      (answered-finds (withBudget ef s) m fronts work call end′ y hits′ opened′ complete′ e′) hits hits′ opened opened′ complete complete′ e e′
+  pub call-better : (call call′ : Call) → Alike call call′ → (end end′ : Ended) → Matches (expected s m call) call end
+      → Matches (expected (withBudget ef s) m call′) call′ end′ → Better end end′
+  unfolding expected
+  call-better (change f work c) call′ e end end′ x y =
+      λ reply reply′ g g′. absurd (not-answered f work c (checkNumber (changeCheck s m (lentBy f work) c)) end reply x g)
+  call-better (search f work call) (change f′ work′ c′) e end end′ x y = absurd e
+  call-better (search f work call) (search f′ work′ call′) e end end′ x y = λ reply reply′ g g′.
+      better s m a w d small call ef more call′ (e .1) f f′ work work′ reply reply′ (answered-finds s m f work call end reply x g)
+      (answered-finds (withBudget ef s) m f′ work′ call′ end′ reply′ y g′)
 
 -- ---- both runs
 
--- what follows for each call from how it ended in both runs, and from a fact about the models that are reached
+-- what follows for each two alike calls from how they ended in both runs, and from a fact about the models that are reached
 pub pairs : (s : Setting) (ef : ℕ) (Fact : Model → Type 0) (claim : Ended → Ended → Type 0)
-    → ((m : Model) (call : Call) (end end′ : Ended) → Fact m → Ends s m call end → Ends (withBudget ef s) m call end′ → claim end end′)
-    → (m : Model) (calls : List Call) (ends ends′ : List Ended) → Along s Fact m calls → AtEach s (Ends s) m calls ends
-    → AtEach (withBudget ef s) (Ends (withBudget ef s)) m calls ends′ → InPairs claim ends ends′
-pairs s ef Fact claim f m [] [] [] g x y = tt
-pairs s ef Fact claim f m [] [] (end′ ∷ ends′) g x y = y
-pairs s ef Fact claim f m [] (end ∷ ends) ends′ g x y = absurd x
-pairs s ef Fact claim f m (call ∷ calls) [] ends′ g x y = absurd x
-pairs s ef Fact claim f m (call ∷ calls) (end ∷ ends) [] g x y = absurd y
-pairs s ef Fact claim f m (call ∷ calls) (end ∷ ends) (end′ ∷ ends′) g x y = (
-  f m call end end′ (g .0) (x .0) (y .0),
-  pairs s ef Fact claim f (after s m call) calls ends ends′ (g .1) (x .1)
-      (subst (λ (n : Model). AtEach (withBudget ef s) (Ends (withBudget ef s)) n calls ends′) (same-after s ef m call) (y .1)),
+    → ((m : Model) (call call′ : Call) → Alike call call′ → (end end′ : Ended) → Fact m → Ends s m call end → Ends (withBudget ef s) m call′ end′ → claim end end′)
+    → (m : Model) (calls calls′ : List Call) → AllAlike calls calls′ → (ends ends′ : List Ended) → Along s Fact m calls → AtEach s (Ends s) m calls ends
+    → AtEach (withBudget ef s) (Ends (withBudget ef s)) m calls′ ends′ → InPairs claim ends ends′
+pairs s ef Fact claim f m [] [] e [] [] g x y = tt
+pairs s ef Fact claim f m [] [] e [] (end′ ∷ ends′) g x y = y
+pairs s ef Fact claim f m [] [] e (end ∷ ends) ends′ g x y = absurd x
+pairs s ef Fact claim f m [] (call′ ∷ calls′) e ends ends′ g x y = absurd e
+pairs s ef Fact claim f m (call ∷ calls) [] e ends ends′ g x y = absurd e
+pairs s ef Fact claim f m (call ∷ calls) (call′ ∷ calls′) e [] ends′ g x y = absurd x
+pairs s ef Fact claim f m (call ∷ calls) (call′ ∷ calls′) e (end ∷ ends) [] g x y = absurd y
+pairs s ef Fact claim f m (call ∷ calls) (call′ ∷ calls′) e (end ∷ ends) (end′ ∷ ends′) g x y = (
+  f m call call′ (e .0) end end′ (g .0) (x .0) (y .0),
+  pairs s ef Fact claim f (after s m call) calls calls′ (e .1) ends ends′ (g .1) (x .1)
+      (subst (λ (n : Model). AtEach (withBudget ef s) (Ends (withBudget ef s)) n calls′ ends′) (same-after s ef m call call′ (e .0)) (y .1)),
 )

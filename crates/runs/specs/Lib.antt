@@ -1,22 +1,29 @@
--- Document 01, 'Runs' and 'The book', and demand 3. To believe the statement, read the first three; what follows proves it.
+-- Document 01, 'Runs' and 'The book', and demand 3. To believe the statement read these four, which hold definitions only: the calls, the model of all
+-- calls (01's book), runs, and the claim `Demand3`. What follows proves it.
+pub mod Calls
 pub mod Model
 pub mod Run
 pub mod Theorem
 -- between a run and its model: the state, what the lists hold of the rows, what of the nodes; refusals alike
+pub mod ListLaws
 pub mod Agree
 pub mod State
 pub mod Held
 pub mod Refusals
 pub mod Built
+pub mod Invariant
+-- what is owed for a change, and of each change
+pub mod ChangeLaws
+pub mod Adds
+pub mod Builds
 -- the walk over the store is the walk over the rows' tree, which is sound
 pub mod Views
 pub mod Due
--- every step, and every run
-pub mod Invariant
-pub mod Builds
 pub mod Search
+-- every step, and every run
 pub mod Reached
 -- (a) and (b)
+pub mod Contents
 pub mod Eligible
 pub mod Hits
 pub mod Larger

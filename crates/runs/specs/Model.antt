@@ -1,5 +1,5 @@
 -- Document 01, 'The book', here the model: 'It is written from the settings, the capacities and the calls' arguments, list lengths among them; never
--- from state, store or answers.' A line of the book is a row of the model.
+-- from state, store or answers.' A line of the book is a row of the model. It says what is expected of every call, and is changed by it.
 use Prim.Native.Nat.{ℕ, suc}
 use mathlib.Core.Bool.{Bool, true, false, not}
 use mathlib.Core.List.{List, [], _∷_, _++_, map}
@@ -16,18 +16,20 @@ use Rattle.tree.specs.Tree.{treeOf, size}
 use Rattle.tree.specs.Nodes.{Node, Entries, nodesOf}
 use Rattle.walk.specs.declared.Wanted.{Wanted}
 use Rattle.walk.specs.declared.Wanted.the-variants.{Everything, Label}
-use Rattle.walk.specs.Walk.{View, Shown, State, children, hits, walk}
-use Rattle.walk.specs.Answer.{hitOf}
+use Rattle.walk.specs.Walk.{View, Shown, State, damaged, going, children, hits, walk}
+use Rattle.walk.specs.Answer.{Answer, answer, hitOf}
 use Rattle.curator.specs.declared.CuratorParams.{CuratorParams}
 use Rattle.curator.specs.declared.Capacities.{Capacities}
 use Rattle.curator.specs.declared.Check.{Check}
 use Rattle.curator.specs.declared.Check.the-variants.{Fine, Refused}
 use Rattle.curator.specs.Limits.{shapeOf}
-use Rattle.curator.specs.Rows.{Facts, firstOf, addRows, buildRows, searchRows}
+use Rattle.curator.specs.Outcome.{number, checkNumber}
+use Rattle.curator.specs.Rows.{Facts, Row, firstOf, addRows, buildRows, searchRows}
 use Rattle.store.specs.declared.Lengths.{Lengths}
 use Rattle.curator.specs.Calls.{hashesOfLabels, splittingOf}
 use Rattle.curator.specs.Arguments.{AddCall, SearchCall}
 use Rattle.curator.specs.Searches.{wantedOf}
+use Rattle.runs.specs.Calls.{Change, add, build, Call, change, search, lentBy}
 
 -- the settings and capacities of an accepted `new`
 pub record Setting : Type 0 where
@@ -83,34 +85,33 @@ unfoldable pub modelNodes : Setting → Model → List Node
 unfolding nodesOf rowVectors rowEntries
 modelNodes s m = nodesOf (splittingOf (s .dimension) (s .params)) (rowVectors m) (rowEntries m)
 
+-- ---- the calls that change the index
+
 -- 'Each call is put to the refusals in their order, without 4 and 15'
-unfoldable pub modelAddCheck : Setting → Model → Lengths → AddCall → Check
-unfolding firstOf addRows modelFacts
-modelAddCheck s m lent call = firstOf (addRows (modelFacts s m) lent (call .vector) (call .lengths) (call .bytes))
+unfoldable pub changeRows : Setting → Model → Lengths → Change → List Row
+unfolding addRows buildRows modelFacts nodeCount
+changeRows s m lent (add call) = addRows (modelFacts s m) lent call
+changeRows s m lent build = buildRows (modelFacts s m) lent false (ltb (s .capacities .nodes) (nodeCount s m))
 
-unfoldable pub modelBuildCheck : Setting → Model → Lengths → Check
-unfolding firstOf buildRows modelFacts nodeCount
-modelBuildCheck s m lent = firstOf (buildRows (modelFacts s m) lent false (ltb (s .capacities .nodes) (nodeCount s m)))
-
-unfoldable pub modelSearchCheck : Setting → Model → Lengths → SearchCall → Check
-unfolding firstOf searchRows modelFacts
-modelSearchCheck s m lent call =
-    firstOf (searchRows (modelFacts s m) lent (call .query) (call .k) (length (call .ids)) (length (call .distances)))
+unfoldable pub changeCheck : Setting → Model → Lengths → Change → Check
+unfolding firstOf changeRows
+changeCheck s m lent c = firstOf (changeRows s m lent c)
 
 -- 'document id, normalised vector, each label's hash'
 abbrev pub newRow : AddCall → ModelRow
 newRow call = record { document = call .document; vector = normalized (call .vector); hashes = hashesOfLabels (call .lengths) (call .bytes) }
 
--- 'A refused call leaves the book as it is. Any other add writes a line at the end'
-unfoldable pub addedBy : Check → Model → AddCall → Model
+-- 'Any other add writes a line at the end'; 'Any other build makes it built'
+unfoldable pub carriedOut : Change → Model → Model
 unfolding normalized hashesOfLabels
-addedBy (Refused r) m call = m
-addedBy Fine m call = record { rows = m .rows ++ (newRow call ∷ []); built = m .built }
+carriedOut (add call) m = record { rows = m .rows ++ (newRow call ∷ []); built = m .built }
+carriedOut build m = record { rows = m .rows; built = true }
 
--- 'Any other build makes it built'
-unfoldable pub builtBy : Check → Model → Model
-builtBy (Refused r) m = m
-builtBy Fine m = record { rows = m .rows; built = true }
+-- 'A refused call leaves the book as it is.'
+unfoldable pub changedBy : Check → Change → Model → Model
+unfolding carriedOut
+changedBy (Refused r) c m = m
+changedBy Fine c m = carriedOut c m
 
 -- ---- the search over the rows and their tree: no list of a store occurs in it
 
@@ -162,4 +163,54 @@ treeView s m query wanted =
 -- the defined search: the walk over the rows' tree from the normalised query
 unfoldable pub modelWalk : Setting → Model → SearchCall → State
 unfolding walk treeView normalized wantedOf
-modelWalk s m call = walk (treeView s m (normalized (call .query)) (wantedOf (call .asked))) (s .params .«ef_search»)
+modelWalk s m call = walk (treeView s m (normalized (call .question .query)) (wantedOf (call .question .asked))) (s .params .«ef_search»)
+
+-- ---- every call
+
+-- 'Each call is put to the refusals in their order, without 4 and 15'
+unfoldable pub modelSearchCheck : Setting → Model → Lengths → SearchCall → Check
+unfolding firstOf searchRows modelFacts
+modelSearchCheck s m lent call =
+    firstOf (searchRows (modelFacts s m) lent (askingOf call))
+
+unfoldable pub modelCheck : Setting → Model → Call → Check
+unfolding changeCheck modelSearchCheck
+modelCheck s m (change fronts work c) = changeCheck s m (lentBy fronts work) c
+modelCheck s m (search fronts work call) = modelSearchCheck s m (lentBy fronts work) call
+
+-- What is expected: a number (a refusal's, or 0 for a change that is carried out), or the answer of a search. The defined walk over the rows' tree is
+-- never damaged; a damaged one would be matched by nothing.
+pub data Expected : Type 0 where
+  returns : ℕ → Expected
+  answers : Answer → Expected
+  nothing : Expected
+
+-- 'Any other search is answered': by the defined walk's first k
+unfoldable pub answered : ℕ → State → Expected
+unfolding answer
+answered k damaged = nothing
+answered k (going p) = answers (answer k p)
+
+-- a search that is refused, and one that is not
+unfoldable pub searchedBy : Check → ℕ → State → Expected
+unfolding answered
+searchedBy Fine k walked = answered k walked
+searchedBy (Refused r) k walked = returns (number r)
+
+-- what is expected of a call that is put to a model
+unfoldable pub expected : Setting → Model → Call → Expected
+unfolding changeCheck modelSearchCheck modelWalk searchedBy
+expected s m (change fronts work c) = returns (checkNumber (changeCheck s m (lentBy fronts work) c))
+expected s m (search fronts work call) = searchedBy (modelSearchCheck s m (lentBy fronts work) call) (call .k) (modelWalk s m call)
+
+-- the model after a call: 'Any other search is answered and writes nothing'
+unfoldable pub after : Setting → Model → Call → Model
+unfolding changeCheck changedBy
+after s m (change fronts work c) = changedBy (changeCheck s m (lentBy fronts work) c) c m
+after s m (search fronts work call) = m
+
+-- the model after a list of calls
+unfoldable pub modelFrom : Setting → Model → List Call → Model
+unfolding after
+modelFrom s m [] = m
+modelFrom s m (call ∷ calls) = modelFrom s (after s m call) calls

@@ -23,7 +23,7 @@ use Rattle.runs.specs.Theorem.{about, rowDistance, NoLaterRow, InOrder, 
 
 module _ (call : SearchCall) where
   row-fits : (r : ModelRow) → T (fits binary32 (rowDistance call r))
-  row-fits r = distance-fits (normalized (call .query)) (r .vector)
+  row-fits r = distance-fits (normalized (call .question .query)) (r .vector)
 
   row-trans : (r t u : ModelRow) → NoLaterRow call r t → NoLaterRow call t u → NoLaterRow call r u
   row-trans r t u h k =
@@ -87,4 +87,4 @@ sorted call (r ∷ rows) =
     (p .list, List·Permᴰ·trans (Permᴰ·symm (p .same)) (List·Permᴰ·cons refl (s .1)), p .ordered)
 
 pub reference-exists : (m : Model) (call : SearchCall) → (reference : List ModelRow) × Reference m call reference
-reference-exists m call = let s = sorted call (about (wantedOf (call .asked)) m) in (s .0, record { same = s .1; ordered = s .2 })
+reference-exists m call = let s = sorted call (about (wantedOf (call .question .asked)) m) in (s .0, record { same = s .1; ordered = s .2 })

@@ -1,4 +1,4 @@
--- Document 01, 'Runs'.
+-- Document 01, 'Runs': how a call ends, and runs.
 use Prim.Native.Nat.{ℕ}
 use mathlib.Core.List.{List, [], _∷_, _++_}
 use mathlib.Core.Path.{_≡_}
@@ -8,21 +8,10 @@ use Rattle.curator.specs.declared.CuratorIndex.{CuratorIndex}
 use Rattle.curator.specs.declared.Changed.{Changed}
 use Rattle.curator.specs.declared.Changed.the-variants.{Index, Refused}
 use Rattle.curator.specs.Changes.{created, Adds, Builds}
-use Rattle.curator.specs.Arguments.{AddCall, SearchCall}
 use Rattle.curator.specs.Searches.{SearchEnd, Searches}
+use Rattle.curator.specs.Arguments.{SearchCall}
+use Rattle.runs.specs.Calls.{Fronts, Change, add, build, Call, change, search, Typed}
 use Rattle.runs.specs.Model.{Setting}
-
--- 'A call may be lent only the front of a list': how much of each of the three lists is lent
-pub record Fronts : Type 0 where
-  pub floats : ℕ
-  pub numbers : ℕ
-  pub hashes : ℕ
-
--- 'Its calls are add, build, filtered search and search'. 'Work and answer lists may be others at each call, of any length and content.'
-pub data Call : Type 0 where
-  add : Fronts → AddCall → Call
-  build : Fronts → List ℕ → Call
-  search : Fronts → List ℕ → SearchCall → Call
 
 -- what a call ended with: the answer; a search also with its answer lists
 pub data Ended : Type 0 where
@@ -49,21 +38,14 @@ unfoldable pub nextIndex : CuratorIndex → Changed → CuratorIndex
 nextIndex index (Index index′) = index′
 nextIndex index (Refused r) = index
 
+-- A change on an index and the lists that it is lent: exactly the entry point's own relation, state and lists at entry, then at exit.
+abbrev pub Changes : Change → CuratorIndex → Store → List ℕ → Changed → Store → List ℕ → Type 0
+Changes (add call) index store work answer store′ work′ = Adds index store call answer store′
+Changes build index store work answer store′ work′ = Builds index store work answer store′ work′
+
 -- One call on an index and its lists: each list is a front, which is lent, and a rest, which 'stays as it was'; the step is the entry point's own
 -- relation on the fronts.
-pub record AddStep (index : CuratorIndex) (store : Store) (fronts : Fronts) (call : AddCall) (end : Ended) (index′ : CuratorIndex) (store′ : Store) : Type 0 where
-  pub front : Store
-  pub rest : Store
-  pub front′ : Store
-  pub answer : Changed
-  pub whole : store ≡ joinStores front rest
-  pub lent : Lent fronts front
-  pub adds : Adds index front call answer front′
-  pub ended : end ≡ changed answer
-  pub index-next : index′ ≡ nextIndex index answer
-  pub store-next : store′ ≡ joinStores front′ rest
-
-pub record BuildStep (index : CuratorIndex) (store : Store) (fronts : Fronts) (work : List ℕ) (end : Ended) (index′ : CuratorIndex) (store′ : Store) : Type 0 where
+pub record ChangeStep (index : CuratorIndex) (store : Store) (fronts : Fronts) (work : List ℕ) (c : Change) (end : Ended) (index′ : CuratorIndex) (store′ : Store) : Type 0 where
   pub front : Store
   pub rest : Store
   pub front′ : Store
@@ -71,7 +53,9 @@ pub record BuildStep (index : CuratorIndex) (store : Store) (fronts : Fronts) (w
   pub answer : Changed
   pub whole : store ≡ joinStores front rest
   pub lent : Lent fronts front
-  pub builds : Builds index front work answer front′ work′
+  -- the arguments have their types in the call: this is no assumption beyond 01, since every value of the type is allowed
+  pub typed : Typed c
+  pub changes : Changes c index front work answer front′ work′
   pub ended : end ≡ changed answer
   pub index-next : index′ ≡ nextIndex index answer
   pub store-next : store′ ≡ joinStores front′ rest
@@ -88,8 +72,7 @@ pub record SearchStep (index : CuratorIndex) (store : Store) (fronts : Fronts) (
   pub store-next : store′ ≡ store
 
 unfoldable pub Step : CuratorIndex → Store → Call → Ended → CuratorIndex → Store → Type 0
-Step index store (add fronts call) end index′ store′ = AddStep index store fronts call end index′ store′
-Step index store (build fronts work) end index′ store′ = BuildStep index store fronts work end index′ store′
+Step index store (change fronts work c) end index′ store′ = ChangeStep index store fronts work c end index′ store′
 Step index store (search fronts work call) end index′ store′ = SearchStep index store fronts work call end index′ store′
 
 -- 'Each gets the state last returned and the lists as the last call left them; nobody else writes them meanwhile.'

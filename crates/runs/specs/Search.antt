@@ -20,9 +20,10 @@ use Rattle.curator.specs.declared.Check.the-variants as Check′
 use Rattle.curator.specs.Outcome.{foundNumber}
 use Rattle.curator.specs.Searches.{wantedOf, Searches, SearchesBy, WalkedTo}
 use Rattle.curator.specs.Arguments.{SearchCall}
-use Rattle.runs.specs.Model.{Setting, Model, rowHashes, nodeCount, settingShape, modelSearchCheck, modelWalk, treeView}
-use Rattle.runs.specs.Run.{Fronts, search, Ended, found, joinStores, SearchStep}
-use Rattle.runs.specs.Theorem.{lentBy, answered, searchedBy, Matches}
+use Rattle.runs.specs.Calls.{Fronts, search, lentBy}
+use Rattle.runs.specs.Model.{Setting, Model, rowHashes, nodeCount, settingShape, modelSearchCheck, answered, searchedBy, modelWalk, treeView}
+use Rattle.runs.specs.Run.{Ended, found, joinStores, SearchStep}
+use Rattle.runs.specs.Theorem.{Matches}
 use Rattle.runs.specs.State.{Allowed, Within, stateOf, nodesHeld}
 use Rattle.runs.specs.Held.{Held}
 use Rattle.runs.specs.Refusals.{search-refused, search-room, SearchRoom}
@@ -33,15 +34,15 @@ use Rattle.runs.specs.Invariant.{Invariant, long-store, long-lists, held
 
 -- the defined walk
 pub walk-is : (s : Setting) (m : Model) (call : SearchCall)
-    → modelWalk s m call ≡ walk (treeView s m (normalized (call .query)) (wantedOf (call .asked))) (s .params .«ef_search»)
+    → modelWalk s m call ≡ walk (treeView s m (normalized (call .question .query)) (wantedOf (call .question .asked))) (s .params .«ef_search»)
 unfolding modelWalk
 walk-is s m call = refl
 
 -- it is never damaged
 pub walk-goes : (s : Setting) (m : Model) → Allowed s → Within s m → (call : SearchCall) → (p : Progress) × (modelWalk s m call ≡ going p)
 walk-goes s m a w call =
-    let query = normalized (call .query) in
-    let wanted = wantedOf (call .asked) in
+    let query = normalized (call .question .query) in
+    let wanted = wantedOf (call .question .asked) in
     let r = sound-goes (treeView s m query wanted) (dueBelow s m query wanted) (sizeAt s m) (IsNode s m) (sound-tree s m a w query wanted) (s .params .«ef_search») in
     (r .0, walk-is s m call ∙ r .1)
 
@@ -53,21 +54,21 @@ built-counts false s m e = absurd (false≢true e)
 module _ (s : Setting) (allowed : Allowed s) (m : Model) (index : CuratorIndex) (store : Store) (inv : Invariant s m index store) (fronts : Fronts)
     (work : List ℕ) (call : SearchCall)
     (end : Ended) (index′ : CuratorIndex) (store′ : Store) (st : SearchStep index store fronts work call end index′ store′) where
-  store-walk : SearchRoom s m (lentBy fronts work) call → (query : List Float) → query ≡ normalized (call .query)
-      → walk (storeView (settingShape s) (stateOf s m .counts) (st .front) query (wantedOf (call .asked))) (s .params .«ef_search») ≡ modelWalk s m call
+  store-walk : SearchRoom s m (lentBy fronts work) call → (query : List Float) → query ≡ normalized (call .question .query)
+      → walk (storeView (settingShape s) (stateOf s m .counts) (st .front) query (wantedOf (call .question .asked))) (s .params .«ef_search») ≡ modelWalk s m call
   store-walk room query q =
-      let wanted = wantedOf (call .asked) in
+      let wanted = wantedOf (call .question .asked) in
       let ef = s .params .«ef_search» in
       let w = inv .within in
       let counts : stateOf s m .counts ≡ builtCounts s m =
       λ i. record { vectors = length (m .rows); entries = length (rowHashes m); nodes = built-counts (m .built) s m (room .built) i } in
       let facts : NodeFacts s m = node-facts s m allowed w (w .nodes (room .built)) in
       let wide : LongStore s (st .front) = long-store s fronts (st .front) work (st .lent) (room .long) in
-      let held : Held s m (st .front) = held-front s m store (st .front) (st .rest) w (st .whole) wide (inv .held) in
+      let held : Held s m (st .front) = held-front s m (st .front) (st .rest) w wide (subst (Held s m) (st .whole) (inv .held)) in
       let laid : Laid s m (st .front) =
       laid-same s m (joinStores (st .front) (st .rest)) (st .front) facts (long-lists s (st .front) (st .rest) wide) (subst (Laid s m) (st .whole) (inv .laid (room .built))) in
       ap₂ (λ (c : Counts) (v : List Float). walk (storeView (settingShape s) c (st .front) v wanted) ef) counts q
-      ∙ same-walks s m (st .front) allowed w facts held laid (normalized (call .query)) wanted ef (w .nodes (room .built))
+      ∙ same-walks s m (st .front) allowed w facts held laid (normalized (call .question .query)) wanted ef (w .nodes (room .built))
       ∙ sym (walk-is s m call)
 
   walked-holds : (state : State) → modelWalk s m call ≡ state → WalkedTo state (stateOf s m) work call (st .search-end)
@@ -76,7 +77,7 @@ module _ (s : Setting) (allowed : Allowed s) (m : Model) (index : CuratorIndex) 
   walked-holds damaged e by =
       let r = walk-goes s m allowed (inv .within) call in
       absurd (let z : damaged ≡ going (r .0) = sym e ∙ r .1 in let n : _≡_ {A = ℕ} 0 1 = cc in omega arith)
-  walked-holds (going p) e by = record { answer = by .answer; ids = by .ids; distances = by .distances }
+  walked-holds (going p) e by = (by .answer, by .ids, by .distances)
 
   ends : (c : Check) → modelSearchCheck s m (lentBy fronts work) call ≡ c → SearchesBy c (stateOf s m) (st .front) work call (st .search-end)
       → Matches (searchedBy c (call .k) (modelWalk s m call)) (search fronts work call) (found (st .search-end))
@@ -85,7 +86,7 @@ module _ (s : Setting) (allowed : Allowed s) (m : Model) (index : CuratorIndex) 
   ends Check′.Fine e by =
       let room : SearchRoom s m (lentBy fronts work) call = search-room s m (lentBy fronts work) call e in
       walked-holds (modelWalk s m call) refl
-      (subst (λ (x : State). WalkedTo x (stateOf s m) work call (st .search-end)) (store-walk room (by .query) (normalized-is (call .query) (by .query) (by .normalized))) (by .walked))
+      (subst (λ (x : State). WalkedTo x (stateOf s m) work call (st .search-end)) (store-walk room (by .query) (normalized-is (call .question .query) (by .query) (by .normalized))) (by .walked))
 
   pub search-step : Matches (searchedBy (modelSearchCheck s m (lentBy fronts work) call) (call .k) (modelWalk s m call)) (search fronts work call) end × Invariant s m index′ store′
   unfolding Searches

@@ -35,9 +35,9 @@ use Rattle.lists.specs.Tests.{allPass}
 use Rattle.walk.specs.StoreViewLaws.{store-shown, store-children-below}
 use Rattle.curator.specs.Calls.{splittingOf}
 use Rattle.runs.specs.Model.{Setting, Model, noRow, noNode, rowHashes, rowVectors, rowEntries, nodeCount, modelNodes, settingShape, rowHit, leafHits, nodeGives, nodeDenies, mostRows, treeView}
+use Rattle.runs.specs.ListLaws.{all-pass}
 use Rattle.runs.specs.State.{Allowed, Within, limits, some-nodes}
 use Rattle.runs.specs.Held.{Held, owner-below, owners-length, length-vectors}
-use Rattle.runs.specs.Refusals.{all-pass}
 use Rattle.runs.specs.Built.{Laid, NodeFacts}
 
 -- the counts of a built model

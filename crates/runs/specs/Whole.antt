@@ -1,12 +1,12 @@
 -- (b) A whole answer's ranks are, in order, those of the rows that the search is about; so are any reference list's; and a list in order is the only one
 -- with its elements. The document ids and distances are read off the ranks. With as many openings as nodes no node waits at the end.
-use Prim.Native.Nat.{ℕ, zero, suc, _/_, _%_, _^_, _≤_, _<_}
+use Prim.Native.Nat.{ℕ, _/_, _%_, _^_, _≤_, _<_}
 use native.Mathlib.Omega.{arith}
-use mathlib.Core.Bool.{Bool, true}
+use mathlib.Core.Bool.{true}
 use mathlib.Core.List.{List, [], _∷_, map, map-map, List·Memᴰ, List·Memᴰ·head, List·Memᴰ·tail, List·Permᴰ·trans, Permᴰ·symm, Permᴰ·map}
 use mathlib.Core.Path.{_≡_, refl, sym, ap, ap₂, _∙_, subst}
 use lib.Ieee.{Float}
-use lib.ListN.{length, take, length-map}
+use lib.ListN.{length, take, length-map, length-take}
 use Rattle.lists.specs.Maps.{map-on}
 use Rattle.lists.specs.Parts.{part-sets-same}
 use Rattle.lists.specs.Partition.{perm-Memᴰ, perm-of-eq}
@@ -20,26 +20,24 @@ use Rattle.distance.specs.Normalized.{normalized}
 use Rattle.walk.specs.Walk.{Progress, going, walk, whole}
 use Rattle.walk.specs.Answer.{documentOf, distanceOf, ranked}
 use Rattle.walk.specs.SoundWalk.{sound-enough}
-use Rattle.curator.specs.Searches.{SearchEnd, wantedOf}
+use Rattle.curator.specs.Outcome.{checkNumber}
+use Rattle.curator.specs.Searches.{wantedOf}
 use Rattle.curator.specs.Arguments.{SearchCall}
-use Rattle.runs.specs.Model.{Setting, Model, ModelRow}
-use Rattle.runs.specs.Run.{Call, add, build, search, Ended, changed, found}
-use Rattle.runs.specs.Theorem.{lentBy, expected, Matches, Distinct, rowDistance, NoLaterRow, InOrder, Reference, FirstOf, WholeIsFirst, Marked}
-use Rattle.runs.specs.State.{Allowed, Within}
+use Rattle.runs.specs.Calls.{Call, change, search, lentBy}
+use Rattle.runs.specs.Model.{Setting, Model, ModelRow, changeCheck, expected}
+use Rattle.runs.specs.Run.{Ended}
+use Rattle.runs.specs.Theorem.{Reply, Matches, Distinct, rowDistance, NoLaterRow, InOrder, Reference, FirstOf, WholeIsFirst, Marked}
+use Rattle.runs.specs.ListLaws.{map-take, take-Memᴰ}
+use Rattle.runs.specs.State.{Allowed, Within, Small}
 use Rattle.runs.specs.Refusals.{search-room, SearchRoom}
 use Rattle.runs.specs.Search.{walk-is}
-use Rattle.runs.specs.Reached.{Small, Finds, answered-finds, no-found-add, no-found-build}
+use Rattle.runs.specs.Reached.{Finds, answered-finds, not-answered}
 use Rattle.runs.specs.Due.{dueBelow, sizeAt, IsNode, sound-tree, root-size}
 use Rattle.runs.specs.Eligible.{ranks-about, rowRank, hitRank}
 use Rattle.runs.specs.Hits.{searchView, hitsAbout, about-rows, rank-document, rank-distance, hit-distance, found-ranked, found-whole}
-use Rattle.runs.specs.Larger.{length-take, take-Memᴰ, Listed, listed}
+use Rattle.runs.specs.Larger.{Listed, listed}
 
 -- ---- lists in order
-
-map-take : {A B : Type 0} (f : A → B) (k : ℕ) (l : List A) → map f (take k l) ≡ take k (map f l)
-map-take f zero l = refl
-map-take f (suc k) [] = refl
-map-take {B = B} f (suc k) (x ∷ xs) = ap (λ (r : List B). f x ∷ r) (map-take f k xs)
 
 -- ranks of hits in order are in order
 least-ranks : (x : ℕ) (l : List ℕ) → Least x l → Least (hitRank x) (map hitRank l)
@@ -53,7 +51,7 @@ sorted-ranks (x ∷ xs) h = (least-ranks x xs (h .0), sorted-ranks xs (h .1))
 -- ranks of rows in order are in order
 rank-le : (call : SearchCall) (r t : ModelRow) → r .document < 2 ^ 32 → NoLaterRow call r t → rowRank call r ≤ rowRank call t
 rank-le call r t low h =
-    let query = normalized (call .query) in
+    let query = normalized (call .question .query) in
     let fr = distance-fits query (r .vector) in
     let ft = distance-fits query (t .vector) in
     let x = keyOf (rowDistance call r) in
@@ -79,13 +77,13 @@ sorted-rows call (r ∷ l) low h = (least-rows call r l (low r (List·Memᴰ·he
 module _ (s : Setting) (m : Model) (a : Allowed s) (w : Within s m) (d : Distinct m) (small : Small m) (call : SearchCall) (reference : List ModelRow)
     (ref : Reference m call reference) where
   low : (r : ModelRow) → List·Memᴰ r reference → r .document < 2 ^ 32
-  low r k = small r (about-rows m (wantedOf (call .asked)) r (perm-Memᴰ (ref .same) k))
+  low r k = small r (about-rows m (wantedOf (call .question .asked)) r (perm-Memᴰ (ref .same) k))
 
   module _ (b : ℕ) (p : Progress) (e : walk (searchView s m call) b ≡ going p) (f : whole p ≡ true) where
     -- the ranks of a whole walk's hits are those of the reference list
     ranks-same : map hitRank (ranked p) ≡ map (rowRank call) reference
     ranks-same =
-        let wanted = wantedOf (call .asked) in
+        let wanted = wantedOf (call .question .asked) in
         let all : ranked p ≡ sort (hitsAbout m call) = found-ranked s m a w d small call b p e ∙ found-whole s m a w d small call b p e f in
         ap (map hitRank) all
         ∙ sorted-unique (sorted-ranks (sort (hitsAbout m call)) (sort-sorted (hitsAbout m call))) (sorted-rows call reference low (ref .ordered))
@@ -114,10 +112,9 @@ module _ (s : Setting) (m : Model) (a : Allowed s) (w : Within s m) (d : Distinc
         ∙ map-map (λ n. ofKey (n / 2 ^ 32)) (rowRank call) rows
         ∙ map-on (λ r. ofKey (rowRank call r / 2 ^ 32)) (rowDistance call) rows (λ r k. rank-distance call r (first-low r k))
 
-    pub first-of : (end : SearchEnd) (hits : ℕ) (complete : Bool) → Listed call p end hits complete → call .k ≤ length (call .ids)
-        → call .k ≤ length (call .distances)
-        → FirstOf call reference end hits
-    first-of end hits complete l ids distances =
+    pub first-of : (reply : Reply) → Listed (call .k) (call .ids) (call .distances) p reply → call .k ≤ length (call .ids) → call .k ≤ length (call .distances)
+        → FirstOf call reference reply
+    first-of reply l ids distances =
         let hs = take (call .k) (ranked p) in
         let n : length hs ≡ length (take (call .k) reference) =
         sym (length-map hs hitRank) ∙ ap length first-ranks ∙ length-map (take (call .k) reference) (rowRank call) in
@@ -127,10 +124,10 @@ module _ (s : Setting) (m : Model) (a : Allowed s) (w : Within s m) (d : Distinc
         record {
           count = l .count ∙ n;
           ids =
-              ap₂ (λ (k : ℕ) (x : List ℕ). take k x) (l .count ∙ sym i) (l .ids)
+              ap₂ (λ (k : ℕ) (x : List ℕ). take k x) (l .count ∙ sym i) (l .ids-are)
               ∙ part-sets-same (call .ids) 0 (map documentOf hs) (omega (arith, i, most, ids)) ∙ first-documents;
           distances =
-              ap₂ (λ (k : ℕ) (x : List Float). take k x) (l .count ∙ sym j) (l .distances)
+              ap₂ (λ (k : ℕ) (x : List Float). take k x) (l .count ∙ sym j) (l .distances-are)
               ∙ part-sets-same (call .distances) 0 (map distanceOf hs) (omega (arith, j, most, distances)) ∙ first-distances;
         }
 
@@ -138,24 +135,20 @@ module _ (s : Setting) (m : Model) (a : Allowed s) (w : Within s m) (d : Distinc
 
 module _ (s : Setting) (a : Allowed s) (m : Model) (w : Within s m) where
   pub call-whole : Distinct m → Small m → (call : Call) (end : Ended) → Matches (expected s m call) call end → WholeIsFirst m call end
-  call-whole d small (add fronts call) end h = tt
-  call-whole d small (build fronts work) end h = tt
-  call-whole d small (search fronts work call) (changed answer) h = tt
-  call-whole d small (search fronts work call) (found end) h = λ hits opened e reference ref.
-      (let x : Finds s m fronts work call end = answered-finds s m fronts work call end h hits opened true e in
-      let l : Listed call (x .progress) end hits true = listed call (x .progress) end hits opened true (x .holds) e in
+  call-whole d small (change fronts work c) end h = tt
+  call-whole d small (search fronts work call) end h = λ reply g e reference ref.
+      (let x : Finds s m fronts work call reply = answered-finds s m fronts work call end reply h g in
+      let l = listed call (x .progress) reply (x .is) in
       let room : SearchRoom s m (lentBy fronts work) call = search-room s m (lentBy fronts work) call (x .check) in
-      first-of s m a w d small call reference ref (s .params .«ef_search») (x .progress) (sym (walk-is s m call) ∙ x .walked) (sym (l .whole-is)) end hits true l (room .ids) (room .distances))
+      first-of s m a w d small call reference ref (s .params .«ef_search») (x .progress) (sym (walk-is s m call) ∙ x .walked) (sym (l .whole-is) ∙ e) reply l (room .ids) (room .distances))
 
   pub call-marked : (call : Call) (end : Ended) → Matches (expected s m call) call end → Marked s m end
-  call-marked call (changed answer) h = tt
-  call-marked (add fronts call) (found end) h = absurd (no-found-add s m fronts call end h)
-  call-marked (build fronts work) (found end) h = absurd (no-found-build s m fronts work end h)
-  call-marked (search fronts work call) (found end) h = λ enough hits opened complete e.
-      (let x : Finds s m fronts work call end = answered-finds s m fronts work call end h hits opened complete e in
-      let l : Listed call (x .progress) end hits complete = listed call (x .progress) end hits opened complete (x .holds) e in
-      let query = normalized (call .query) in
-      let wanted = wantedOf (call .asked) in
-      l .whole-is
+  unfolding expected
+  call-marked (change fronts work c) end h = λ enough reply g. absurd (not-answered fronts work c (checkNumber (changeCheck s m (lentBy fronts work) c)) end reply h g)
+  call-marked (search fronts work call) end h = λ enough reply g.
+      (let x : Finds s m fronts work call reply = answered-finds s m fronts work call end reply h g in
+      let query = normalized (call .question .query) in
+      let wanted = wantedOf (call .question .asked) in
+      listed call (x .progress) reply (x .is) .whole-is
       ∙ sound-enough (searchView s m call) (dueBelow s m query wanted) (sizeAt s m) (IsNode s m) (sound-tree s m a w query wanted) (s .params .«ef_search») (x .progress)
       (subst (λ (n : ℕ). n ≤ s .params .«ef_search») (sym (root-size s m a w)) enough) (sym (walk-is s m call) ∙ x .walked))

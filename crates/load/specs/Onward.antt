@@ -1,9 +1,10 @@
--- Where a step leaves a file: every record that it goes on after has bytes, so a loop over steps ends.
+-- Where a step leaves a file: every record that it goes on after has bytes, so a loop over steps ends. What it printed stands in the text.
 use Prim.Native.Nat.{ℕ, _-_, _≤_, _<_}
 use native.Mathlib.Omega.{arith}
 use mathlib.Core.Bool.{Bool, true, false, cond}
 use mathlib.Core.List.{List}
 use mathlib.Core.Path.{_≡_, refl, sym, subst}
+use borrow.Author.Tests.{ltb-false}
 use lib.Dec.{ltb, leb}
 use lib.ListN.{length, drop}
 use Rattle.curator.specs.declared.CuratorIndex.{CuratorIndex}
@@ -18,24 +19,19 @@ use Rattle.curator.specs.Changes.{created}
 use Rattle.curator.specs.Arguments.{SearchCall}
 use Rattle.echo_file.specs.Format.{Record, settings, vector, filtered, unfiltered}
 use Rattle.echo_file.specs.Decode.{Decoded, none, found, decode}
 use Rattle.load.specs.declared.Loading.{Loading}
 use Rattle.load.specs.declared.Loading.the-variants.{Unset, Running}
 use Rattle.load.specs.declared.carry.Carried.{Carried}
 use Rattle.load.specs.declared.carry.Carried.the-variants.{End, Refused, Silent, Answered}
 use Rattle.load.specs.declared.Step.{Step}
 use Rattle.load.specs.declared.Step.the-variants.{Ended, Next}
 use Rattle.load.specs.File.{capacities, paramsOf}
-use Rattle.load.specs.Step.{Lent, known, openedBy, addedBy, foundBy, SearchesBuilt, AfterBuild, CarriesOut, CarriesRead, CarriesAt, Steps, stepOf}
+use Rattle.load.specs.Step.{Lent, known, openedBy, addedBy, foundBy, SearchesBuilt, AfterBuild, CarriesOut, CarriesRead, CarriesAt, Steps, stepOf, printedOf}
 
--- the bytes that a step wrote
-abbrev pub printedOf : Step → ℕ
-printedOf (Ended n) = n
-printedOf (Next loading at n) = n
-
--- the file goes on at a place behind the record, within the file
+-- the file goes on at a place behind the record, within a file that is not too long
 abbrev pub Onward : List ℕ → ℕ → Step → Type 0
 Onward file at (Ended n) = Unit {0}
-Onward file at (Next loading next n) = (at < next) × (next ≤ length file)
+Onward file at (Next loading next n) = (at < next) × (next ≤ length file) × (length file ≤ 65536)
 
 -- fewer bytes are left
 pub fewer-left : (file : List ℕ) (at : ℕ) {step : Step} {loading : Loading} {next n : ℕ} → step ≡ Next loading next n → Onward file at step
@@ -44,11 +40,12 @@ fewer-left file at {step} {loading} {next} {n} e h =
     let onward : Onward file at (Next loading next n) = subst (λ (s : Step). Onward file at s) e h in
     omega arith
 
-printed-of : (carried : Carried) (n : ℕ) → n ≡ printedOf (stepOf carried n)
-printed-of End n = refl
-printed-of (Refused r) n = refl
-printed-of (Silent loading next) n = refl
-printed-of (Answered index next count opened complete) n = refl
+-- how many bytes a step says that it wrote
+pub printed-step : (carried : Carried) (n : ℕ) → printedOf (stepOf carried n) ≡ n
+printed-step End n = refl
+printed-step (Refused r) n = refl
+printed-step (Silent loading next) n = refl
+printed-step (Answered index next count opened complete) n = refl
 
 -- ---- every step goes onward
 
@@ -58,10 +55,10 @@ Goes file at carried = (n : ℕ) → Onward file at (stepOf carried n)
 goes-as : (file : List ℕ) (at : ℕ) {a b : Carried} → a ≡ b → Goes file at b → Goes file at a
 goes-as file at e h = subst (λ (c : Carried). Goes file at c) (sym e) h
 
-module _ (file : List ℕ) (at next : ℕ) (further : at < next) (within : next ≤ length file) where
+module _ (file : List ℕ) (at next : ℕ) (short : length file ≤ 65536) (further : at < next) (within : next ≤ length file) where
   opened-or : (b : Bool) (r : Refusal) (index : CuratorIndex) → Goes file at (cond b (Refused r) (Silent (Running index) next))
   opened-or true r index n = tt
-  opened-or false r index n = (further, within)
+  opened-or false r index n = (further, within, short)
 
   opened-goes : (x : Changed) (d : ℕ) → Goes file at (openedBy x d next)
   opened-goes (Changed′.Refused r) d n = tt
@@ -69,11 +66,11 @@ module _ (file : List ℕ) (at next : ℕ) (further : at < next) (within : next 
 
   added-goes : (x : Changed) → Goes file at (addedBy x next)
   added-goes (Changed′.Refused r) n = tt
-  added-goes (Changed′.Index index) n = (further, within)
+  added-goes (Changed′.Index index) n = (further, within, short)
 
   found-goes : (index : CuratorIndex) (x : Found) → Goes file at (foundBy index x next)
   found-goes index (Found′.Refused r) n = tt
-  found-goes index (Found′.Hits count opened complete) n = (further, within)
+  found-goes index (Found′.Hits count opened complete) n = (further, within, short)
 
   after-goes : (x : Changed) (work : List ℕ) (call : Lent → SearchCall) (lent : Lent) (carried : Carried) (lent′ : Lent)
       → AfterBuild x work call next lent carried lent′ → Goes file at carried
@@ -96,26 +93,27 @@ module _ (file : List ℕ) (at next : ℕ) (further : at < next) (within : next 
   out-goes (Running index) (filtered k label patterns) lent carried lent′ h = built-goes h
   out-goes (Running index) (unfiltered k patterns) lent carried lent′ h = built-goes h
 
-read-goes : (d : Decoded Record) (file : List ℕ) (at : ℕ) (loading : Loading) (lent : Lent) (carried : Carried) (lent′ : Lent)
+read-goes : (d : Decoded Record) (file : List ℕ) (at : ℕ) → length file ≤ 65536 → (loading : Loading) (lent : Lent) (carried : Carried) (lent′ : Lent)
     → CarriesRead d file at loading lent carried lent′ → Goes file at carried
-read-goes none file at loading lent carried lent′ h = goes-as file at (h .0) (λ n. tt)
-read-goes (found r rest) file at loading lent carried lent′ h = out-goes file at (h .0) (h .2) (h .3) loading r lent carried lent′ (h .4)
+read-goes none file at short loading lent carried lent′ h = goes-as file at (h .0) (λ n. tt)
+read-goes (found r rest) file at short loading lent carried lent′ h = out-goes file at (h .0) short (h .2) (h .3) loading r lent carried lent′ (h .4)
 
-at-goes : (long ended : Bool) (file : List ℕ) (at : ℕ) (loading : Loading) (lent : Lent) (carried : Carried) (lent′ : Lent)
+at-goes : (long ended : Bool) (file : List ℕ) (at : ℕ) → ltb 65536 (length file) ≡ long → (loading : Loading) (lent : Lent) (carried : Carried) (lent′ : Lent)
     → CarriesAt long ended file at loading lent carried lent′ → Goes file at carried
-at-goes true ended file at loading lent carried lent′ h = goes-as file at (h .0) (λ n. tt)
-at-goes false true file at loading lent carried lent′ h = goes-as file at (h .0) (λ n. tt)
-at-goes false false file at loading lent carried lent′ h = read-goes (decode (known loading) (drop at file)) file at loading lent carried lent′ h
+at-goes true ended file at e loading lent carried lent′ h = goes-as file at (h .0) (λ n. tt)
+at-goes false true file at e loading lent carried lent′ h = goes-as file at (h .0) (λ n. tt)
+at-goes false false file at e loading lent carried lent′ h =
+    read-goes (decode (known loading) (drop at file)) file at (ltb-false 65536 (length file) e) loading lent carried lent′ h
 
 module _ {file : List ℕ} {at : ℕ} {loading : Loading} {lent lent′ : Lent} {text text′ : List ℕ} {step : Step}
     (st : Steps file at loading lent text step lent′ text′) where
   pub steps-onward : Onward file at step
   steps-onward =
       subst (λ (s : Step). Onward file at s) (sym (st .comes))
-      (at-goes (ltb 65536 (length file)) (leb (length file) at) file at loading lent (st .carried) lent′ (st .carries) (st .printed))
+      (at-goes (ltb 65536 (length file)) (leb (length file) at) file at refl loading lent (st .carried) lent′ (st .carries) (st .printed))
 
   -- what a step printed stands in the text
   pub steps-printed : printedOf step ≤ length text′
   steps-printed =
       subst (λ (s : Step). printedOf s ≤ length text′) (sym (st .comes))
-      (subst (λ (n : ℕ). n ≤ length text′) (printed-of (st .carried) (st .printed)) (st .writes .within))
+      (subst (λ (n : ℕ). n ≤ length text′) (sym (printed-step (st .carried) (st .printed))) (st .writes .within))
