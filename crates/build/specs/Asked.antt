@@ -6,7 +6,8 @@ use mathlib.Core.Path.{_≡_}
 use lib.Dec.{ltb}
 use lib.ListN.{length, getD}
 use Rattle.lists.specs.Lists.{part}
-use Rattle.store.specs.Store.{Store, ownersAt, floatsSize, numbersSize, hashesSize, workSize}
+use Rattle.store.specs.Store.{Store, ownersAt, workSize}
+use Rattle.store.specs.Lent.{Long, lengthsOf}
 use Rattle.lists.specs.Tests.{allPass}
 use Rattle.curator.specs.declared.Check.{Check}
 use Rattle.curator.specs.declared.Check.the-variants.{Fine}
@@ -25,10 +26,10 @@ ownersBad index numbers =
     not (allPass (λ owner. ltb owner (index .counts .vectors)) (part (ownersAt (indexShape index)) (index .counts .entries) numbers))
 
 -- the rows of a build with row 13 left open: its case is that of the tree, which is not made yet
-unfoldable pub buildChecked : CuratorIndex → Lengths → List ℕ → Check
+unfoldable pub buildChecked : CuratorIndex → Lengths → ℕ → List ℕ → Check
 unfolding firstOf stateSound buildRows ownersBad
-buildChecked index lent numbers =
-    firstOf (stateRow (stateSound index) ∷ buildRows (factsOf index) lent (ownersBad index numbers) false)
+buildChecked index lent work numbers =
+    firstOf (stateRow (stateSound index) ∷ buildRows (factsOf index) lent work (ownersBad index numbers) false)
 
 -- What the making of the tree relies on, as plain facts: the index is not built, and no row's case but perhaps row 13's holds.
 pub record Ready (index : CuratorIndex) (store : Store) (work : List ℕ) : Type 0 where
@@ -36,8 +37,6 @@ pub record Ready (index : CuratorIndex) (store : Store) (work : List ℕ) : Type
   pub unbuilt : index .built ≡ false
   pub sound : Sound index
   pub some : 1 ≤ index .counts .vectors
-  pub floats : floatsSize (indexShape index) ≤ length (store .floats)
-  pub numbers : numbersSize (indexShape index) ≤ length (store .numbers)
-  pub hashes : hashesSize (indexShape index) ≤ length (store .hashes)
+  pub long : Long (indexShape index) (lengthsOf store)
   pub work-room : workSize (indexShape index) ≤ length work
   pub owned : (k : ℕ) → k < index .counts .entries → getD (store .numbers) (ownersAt (indexShape index) + k) 0 < index .counts .vectors

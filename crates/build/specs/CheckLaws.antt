@@ -11,8 +11,8 @@ use lib.ListN.{length, getD}
 use Rattle.lists.specs.Lists.{part}
 use Rattle.lists.specs.Parts.{length-part, getD-part, part-cons, sets-self}
 use Rattle.store.specs.declared.Shape.{Shape}
-use Rattle.store.specs.Store.{Store, ownersAt, floatsSize, numbersSize, hashesSize, workSize}
-use Rattle.lists.specs.Tests.{allPass, and-both}
+use Rattle.store.specs.Store.{Store, ownersAt, workSize}
+use Rattle.lists.specs.Tests.{allPass, and-both, and-false}
 use Rattle.curator.specs.declared.Check.{Check}
 use Rattle.curator.specs.declared.Check.the-variants.{Fine, Refused}
 use Rattle.curator.specs.declared.CuratorIndex.{CuratorIndex}
@@ -30,6 +30,7 @@ use Rattle.curator.specs.StateLaws.{Sound, sound-facts}
 use Rattle.curator.specs.Calls.{heldEntries}
 use Rattle.curator.specs.Changes.{Part, workPart, Freed, freeOf, Left, ownersDamaged, tooManyNodes, buildCheck}
 use Rattle.build.specs.Asked.{ownersBad, buildChecked, Ready}
+use Rattle.store.specs.LentLaws.{lists-long}
 
 -- ---- rows with another last one
 
@@ -59,9 +60,9 @@ last-decides rows last other f = by (firstOf rows) refl
 -- ---- the rows of a build
 
 -- those before row 13
-abbrev pub earlyRows : CuratorIndex → Lengths → List ℕ → List Row
-earlyRows index lent numbers =
-    stateRow (stateSound index) ∷ row (listsShort (indexShape index) lent) (Refusal′.Store ListTooShort)
+abbrev pub earlyRows : CuratorIndex → Lengths → ℕ → List ℕ → List Row
+earlyRows index lent work numbers =
+    stateRow (stateSound index) ∷ row (listsShort (indexShape index) lent work) (Refusal′.Store ListTooShort)
     ∷ row (not (index .built) && eqb (index .counts .vectors) 0) (Refusal′.State EmptyIndex)
     ∷ row (not (index .built) && ownersBad index numbers) (Refusal′.Store Damaged)
     ∷ []
@@ -69,20 +70,16 @@ earlyRows index lent numbers =
 abbrev pub fullRow : CuratorIndex → Bool → Row
 fullRow index tooMany = row (not (index .built) && tooMany) (Refusal′.Store NodesFull)
 
-pub checked-rows : (index : CuratorIndex) (lent : Lengths) (numbers : List ℕ)
-    → buildChecked index lent numbers ≡ firstOf (earlyRows index lent numbers ++ (fullRow index false ∷ []))
+pub checked-rows : (index : CuratorIndex) (lent : Lengths) (work : ℕ) (numbers : List ℕ)
+    → buildChecked index lent work numbers ≡ firstOf (earlyRows index lent work numbers ++ (fullRow index false ∷ []))
 unfolding buildChecked buildRows
-checked-rows index lent numbers = refl
+checked-rows index lent work numbers = refl
 
 pub check-rows : (index : CuratorIndex) (store : Store) (work : List ℕ)
     → buildCheck index store work
     ≡ firstOf (earlyRows index (lengthsOf store) (length work) (store .numbers) ++ (fullRow index (tooManyNodes index store) ∷ []))
 unfolding buildCheck buildRows ownersDamaged ownersBad heldEntries
 check-rows index store work = refl
-
-pub and-false : (b : Bool) → b && false ≡ false
-and-false true = refl
-and-false false = refl
 
 -- a refusal by the check is the refusal of the call
 pub check-refused : (index : CuratorIndex) (store : Store) (work : List ℕ) (r : Refusal)
@@ -122,19 +119,6 @@ check-fine index store work f b t =
     ∙ no-rows
 
 -- ---- plain facts
-
-or-none : (a b : Bool) → a || b ≡ false → (a ≡ false) × (b ≡ false)
-or-none false b h = (refl, h)
-or-none true b h = let z : _≡_ {A = ℕ} 0 1 = cc in absurd (omega arith)
-
-pub lists-long : (s : Shape) (lent : Lengths) → listsShort s lent ≡ false
-    → (floatsSize s ≤ lent .floats) × (numbersSize s ≤ lent .numbers) × (hashesSize s ≤ lent .hashes) × (workSize s ≤ lent .work)
-unfolding listsShort storeShort
-lists-long s lent h =
-    let (a, b) = or-none (storeShort s lent) (not (leb (workSize s) (lent .work))) h in
-    let (f, rest) = and-both (leb (floatsSize s) (lent .floats)) _ (not-false _ a) in
-    let (n, k) = and-both (leb (numbersSize s) (lent .numbers)) (leb (hashesSize s) (lent .hashes)) rest in
-    (leb-true _ _ f, leb-true _ _ n, leb-true _ _ k, leb-true _ _ (not-false _ b))
 
 pub all-pass-at : (test : ℕ → Bool) (l : List ℕ) (k : ℕ) → allPass test l ≡ true → k < length l → test (getD l k 0) ≡ true
 unfolding allPass
@@ -188,11 +172,11 @@ owners-below index numbers h room k b =
 pub ready : (index : CuratorIndex) (store : Store) (work : List ℕ) → buildChecked index (lengthsOf store) (length work) (store .numbers) ≡ Fine
     → index .built ≡ false → Ready index store work
 ready index store work f b =
-    let lent = lengthsOf store work in
+    let lent = lengthsOf store in
     let (sound, (short, (empty, (damaged, _)))) =
-    fine-none (earlyRows index lent (store .numbers) ++ (fullRow index false ∷ [])) (sym (checked-rows index lent (store .numbers)) ∙ f) in
+    fine-none (earlyRows index lent (length work) (store .numbers) ++ (fullRow index false ∷ [])) (sym (checked-rows index lent (length work) (store .numbers)) ∙ f) in
     let s = sound-facts index (not-false _ sound) in
-    let (fl, nu, ha, wo) = lists-long (indexShape index) lent short in
+    let long = lists-long (indexShape index) lent (length work) short in
     let unempty = eqb-false (index .counts .vectors) 0 (ap (λ (t : Bool). not t && eqb (index .counts .vectors) 0) (sym b) ∙ empty) in
     let owners = ap (λ (t : Bool). not t && ownersBad index (store .numbers)) (sym b) ∙ damaged in
     record {
@@ -200,11 +184,9 @@ ready index store work f b =
       unbuilt = b;
       sound = s;
       some = omega arith;
-      floats = fl;
-      numbers = nu;
-      hashes = ha;
-      work-room = wo;
-      owned = owners-below index (store .numbers) owners (omega (arith, s .entries));
+      long = long .0;
+      work-room = long .1;
+      owned = owners-below index (store .numbers) owners (omega (arith, s .entries, long .0 .numbers));
     }
 
 -- ---- what a refusal by the check leaves
@@ -244,7 +226,7 @@ left-alone index store work r f =
         subst (λ (q : Refusal). Left (indexShape index) q store work store work) (same-refusal e) (left-state (indexShape index) EmptyIndex store work)
     by (suc (suc (suc zero)), (_, (short, _)), e) =
         subst (λ (q : Refusal). Left (indexShape index) q store work store work) (same-refusal e)
-        (left-damaged (indexShape index) store work (lists-long (indexShape index) (lengthsOf store) (length work) short .3))
+        (left-damaged (indexShape index) store work (lists-long (indexShape index) (lengthsOf store) (length work) short .1))
     by (suc (suc (suc (suc zero))), (_, (_, (_, (_, last)))), e) =
         let z : false ≡ true = sym (and-false (not (index .built))) ∙ last in
         absurd (false-not-true z)

@@ -21,7 +21,7 @@ use Rattle.tree.specs.Subtrees.{nodesOf-four, nodesOf-wide}
 use Rattle.tree.specs.Layout.{sixFrom, numbersOf, hashesOf, floatsOf}
 use Rattle.tree.specs.LayoutLaws.{nodesOf-fit, length-blocks, length-sixFrom, numbers-order, numbers-six, numbers-links, numbers-entries, floats-centroids}
 use Rattle.store.specs.declared.Counts.{Counts}
-use Rattle.lists.specs.Tests.{allPass}
+use Rattle.lists.specs.Tests.{allPass, and-false}
 use Rattle.curator.specs.declared.Changed.{Changed}
 use Rattle.curator.specs.declared.Changed.the-variants as Changed′
 use Rattle.curator.specs.declared.Check.{Check}
@@ -37,7 +37,7 @@ use Rattle.curator.specs.Limits.{stateSound, indexShape}
 use Rattle.curator.specs.RowLaws.{none-fine, fine-none}
 use Rattle.curator.specs.Rows.{row, firstOf, stateRow, buildRows}
 use Rattle.build.specs.Asked.{Ready}
-use Rattle.build.specs.CheckLaws.{earlyRows, fullRow, check-rows, checked-rows, and-false, ready}
+use Rattle.build.specs.CheckLaws.{earlyRows, fullRow, check-rows, checked-rows, ready}
 use Rattle.build.specs.BuildLaws.{builds-accepted}
 use Rattle.build.specs.MakeLaws.{held-vectors}
 
@@ -181,7 +181,7 @@ module _ (index : CuratorIndex) (store : Store) (work : List ℕ) (r : Ready ind
   owners-length : length (heldEntries index store .owners) ≡ index .counts .entries
   unfolding heldEntries
   owners-length =
-      length-part (ownersAt (indexShape index)) (index .counts .entries) (store .numbers) (let e = r .sound .entries in omega (arith, r .numbers))
+      length-part (ownersAt (indexShape index)) (index .counts .entries) (store .numbers) (let e = r .sound .entries in omega (arith, r .long .numbers))
 
   owners-below : (k : ℕ) → k < length (heldEntries index store .owners) → getD (heldEntries index store .owners) k 0 < length (heldVectors index store)
   unfolding heldEntries
@@ -215,28 +215,28 @@ module _ (index : CuratorIndex) (store : Store) (work : List ℕ) (r : Ready ind
             part-of (centroidsAt s) (length nodes * s .dimension) (joined (λ node. node .centroid) nodes) _ (store′ .floats)
             (length-blocks (λ node. node .centroid) (s .dimension) nodes (nodesOf-wide splitting v e))
             (laid .floats)
-            (floats-centroids s nodes (laid .centres) (store .floats) (nodesOf-wide splitting v e) (fit .nodes-fit) (r .floats));
+            (floats-centroids s nodes (laid .centres) (store .floats) (nodesOf-wide splitting v e) (fit .nodes-fit) (r .long .floats));
         order =
             part-of (orderAt s) (index .counts .vectors) (joined (λ node. node .ids) nodes) _ (store′ .numbers)
             (length-ids splitting v e b ∙ n)
             (laid .numbers)
-            (numbers-order s nodes (store .numbers) fit (r .numbers));
+            (numbers-order s nodes (store .numbers) fit (r .long .numbers));
         six =
             part-of (nodesAt s) (6 * length nodes) (sixFrom 0 0 0 nodes) _ (store′ .numbers) (length-sixFrom 0 0 0 nodes) (laid .numbers)
-            (numbers-six s nodes (store .numbers) fit (r .numbers));
+            (numbers-six s nodes (store .numbers) fit (r .long .numbers));
         links =
             part-of (linksAt s) (length nodes - 1) (joined (λ node. node .children) nodes) _ (store′ .numbers)
             (length-links splitting v e ∙ ap (λ (k : ℕ). k - 1) (sym (length-nodesOf splitting v e)))
             (laid .numbers)
-            (numbers-links s nodes (store .numbers) fit (r .numbers));
+            (numbers-links s nodes (store .numbers) fit (r .long .numbers));
         entry-order =
             part-of (entryOrderAt s) (index .counts .entries) (joined (λ node. node .entries) nodes) _ (store′ .numbers)
             (length-entries splitting v e b owners-below ∙ o)
             (laid .numbers)
-            (numbers-entries s nodes (store .numbers) fit (r .numbers));
+            (numbers-entries s nodes (store .numbers) fit (r .long .numbers));
         filters =
             part-of (filtersAt s) (length nodes * 4) (joined (λ node. node .filter) nodes) _ (store′ .hashes) four (laid .hashes)
-            (part-sets-same (store .hashes) (filtersAt s) (joined (λ node. node .filter) nodes) (omega (arith, four, fit .nodes-fit, r .hashes)));
+            (part-sets-same (store .hashes) (filtersAt s) (joined (λ node. node .filter) nodes) (omega (arith, four, fit .nodes-fit, r .long .hashes)));
       }
 
 -- equal contents at the same places

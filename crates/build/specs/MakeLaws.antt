@@ -107,7 +107,7 @@ left-full index store work numbers′ floats′ work′ made r o =
     let n = o .numbers-free in
     let same : length numbers′ ≡ length (store .numbers) =
     ap length (n .written) ∙ length-sets (sets (store .numbers) (orderAt s) (n .new)) (nodesAt s) (n .new′) ∙ length-sets (store .numbers) (orderAt s) (n .new) in
-    let room = r .numbers in
+    let room = r .long .numbers in
     record {
       floats = (f .new, f .size-is, (f .new′, f .size-is′, f .written));
       numbers = (
@@ -131,7 +131,7 @@ left-full index store work numbers′ floats′ work′ made r o =
       );
       hashes = (
         part (filtersAt s) (4 * s .nodes) (store .hashes),
-        length-part (filtersAt s) (4 * s .nodes) (store .hashes) (r .hashes),
+        length-part (filtersAt s) (4 * s .nodes) (store .hashes) (r .long .hashes),
         sym (sets-self (store .hashes) (filtersAt s) (4 * s .nodes)),
       );
       work = (o .work-free .new, o .work-free .size-is, o .work-free .written);
@@ -216,7 +216,7 @@ module _
         let count : length all ≡ nodes = length-nodesOf _ _ entries ∙ sym e in
         let size-six : length (madeFrom 0 all) ≡ 6 * nodes = length-madeFrom 0 all ∙ ap (λ (k : ℕ). 6 * k) count in
         let few = r .sound .vectors in
-        let room = r .numbers in
+        let room = r .long .numbers in
         let ordered = length-sets (store .numbers) (orderAt s) ids in
         record {
           splitting = splittingOf (index .dimension) (index .params);
@@ -243,8 +243,8 @@ module _
           vectors-fit = r .sound .vectors;
           entries-fit = r .sound .entries;
           nodes-fit = omega (arith, e, fits);
-          numbers-long = subst (λ (n : ℕ). numbersSize (indexShape index) ≤ n) (sym numbers-length) (r .numbers);
-          hashes-long = r .hashes;
+          numbers-long = subst (λ (n : ℕ). numbersSize (indexShape index) ≤ n) (sym numbers-length) (r .long .numbers);
+          hashes-long = r .long .hashes;
           work-long = subst (λ (n : ℕ). workSize (indexShape index) ≤ n) (sym work-length) (r .work-room);
         }
 
@@ -368,8 +368,8 @@ tree-asked index store work e r =
       limits = r .sound .limits;
       some = r .some;
       held = r .sound .vectors;
-      floats-room = r .floats;
-      numbers-room = r .numbers;
+      floats-room = r .long .floats;
+      numbers-room = r .long .numbers;
       work-room = r .work-room;
     })
 

@@ -6,7 +6,6 @@ ghost use lib.Dec.{ltb};
 ghost use lib.ListN.{length};
 ghost use Rattle.lists.specs.Lists.{part};
 ghost use Rattle.lists.specs.Tests.{allPass};
-ghost use Rattle.curator.specs.Lent.{lengths};
 ghost use Rattle.build.specs.Asked.{buildChecked};
 use curator::Check;
 use curator::CuratorIndex;
@@ -14,13 +13,8 @@ use curator::limits;
 use curator::refusal::Refusal;
 use curator::refusal::StateRefusal;
 use curator::refusal::StoreRefusal;
-
-// A number of a list as a size.
-fn wide(x: u32) -> usize
-    ensures { λ r. ⌜ r ≡ x ⌝ }
-{
-    x as usize
-}
+use store::Lengths;
+use store::wide;
 
 // Whether the owners from a place on are all below n.
 fn owners_sound(numbers: &[u32], at: usize, count: usize, n: usize) -> bool
@@ -38,20 +32,15 @@ fn owners_sound(numbers: &[u32], at: usize, count: usize, n: usize) -> bool
 }
 
 // The first refusal whose case holds, row 13 apart.
-pub fn build_check(
-    index: CuratorIndex,
-    floats: usize,
-    numbers: &[u32],
-    hashes: usize,
-    work: usize,
-) -> Check
-    ensures { λ r. ⌜ r ≡ buildChecked index (lengths floats (length (now (numbers .entry))) hashes work) (now (numbers .entry)) ⌝ }
+pub fn build_check(index: CuratorIndex, lent: Lengths, work: usize, numbers: &[u32]) -> Check
+    requires { ⌜ lent .numbers ≡ length (now numbers) ⌝ }
+    ensures { λ r. ⌜ r ≡ buildChecked index lent work (now (numbers .entry)) ⌝ }
 {
     if !limits::state_sound(index) {
         return Check::Refused(Refusal::State(StateRefusal::InvalidState));
     }
     let shape = limits::shape_of(index);
-    if limits::lists_short(shape, floats, numbers.len(), hashes, work) {
+    if shape.lists_short(lent, work) {
         return Check::Refused(Refusal::Store(StoreRefusal::ListTooShort));
     }
     if index.built {

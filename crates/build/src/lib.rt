@@ -9,6 +9,7 @@ mod make;
 use curator::Changed;
 use curator::Check;
 use curator::CuratorIndex;
+use store::Lengths;
 
 // Makes the tree of what is held, once: a built index stays as it is.
 pub fn build(
@@ -22,7 +23,12 @@ pub fn build(
         r
         (lent (floats .exit) (numbers .exit) (hashes .exit)) (now (work .exit)) ⌝ }
 {
-    let check = check::build_check(index, floats.len(), numbers, hashes.len(), work.len());
+    let lent = Lengths {
+        floats: floats.len(),
+        numbers: numbers.len(),
+        hashes: hashes.len(),
+    };
+    let check = check::build_check(index, lent, work.len(), numbers);
     match check {
         Check::Refused(refusal) => Changed::Refused(refusal),
         Check::Fine => {

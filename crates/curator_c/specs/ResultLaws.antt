@@ -43,7 +43,7 @@ long-answer answer call h = rw (le-ltb (length answer) 3 h) refl
 unfoldable pub noRoom : CuratorIndex → Store → List ℕ → SearchCall → Check
 unfolding firstOf stateSound searchRows
 noRoom index store work call =
-    firstOf (stateRow (stateSound index) ∷ searchRows (factsOf index) (lengthsOf store) (length work) (call .question .query) 1 0 0)
+    firstOf (stateRow (stateSound index) ∷ searchRows (factsOf index) (lengthsOf store) (length work) (record { query = call .question .query; k = 1; ids = 0; distances = 0 }))
 
 -- without room for three numbers, these are the rows of the search
 asking-rows : (index : CuratorIndex) (store : Store) (work answer : List ℕ) (call : SearchCall)
@@ -56,7 +56,7 @@ no-room-refused : (index : CuratorIndex) (store : Store) (work : List ℕ) (call
 unfolding noRoom searchRows
 no-room-refused index store work call f =
     let (_, (_, (_, (_, (_, (room, _)))))) =
-    fine-none (stateRow (stateSound index) ∷ searchRows (factsOf index) (lengthsOf store) (length work) (call .question .query) 1 0 0) f in
+    fine-none (stateRow (stateSound index) ∷ searchRows (factsOf index) (lengthsOf store) (length work) (record { query = call .question .query; k = 1; ids = 0; distances = 0 })) f in
     let z : _≡_ {A = ℕ} 0 1 = cc in
     omega arith
 

@@ -84,7 +84,7 @@ hitsAsked answer ids k = cond (ltb answer 3) (ids + 1) k
 
 abbrev pub withHits : ℕ → SearchCall → SearchCall
 withHits hits call =
-    record { query = call .question .query; asked = call .question .asked; k = hits; ids = call .ids; distances = call .distances }
+    record { question = call .question; k = hits; ids = call .ids; distances = call .distances }
 
 abbrev pub asking : List ℕ → SearchCall → SearchCall
 asking answer call = withHits (hitsAsked (length answer) (length (call .ids)) (call .k)) call

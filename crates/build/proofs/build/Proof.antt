@@ -10,6 +10,7 @@ use borrow.Author.Needs.{needs}
 use denote.Ref.{now}
 use Rattle.build.proofs.build.Statement.{statement}
 use Rattle.build.proofs.build.Tie as tie
+use lib.ListN.{length}
 
 -- the function's entry, from the place where the check is known to be `Fine`
 abbrev entry : tie.After-enum-told → tie.Start

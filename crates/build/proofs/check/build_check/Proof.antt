@@ -19,9 +19,10 @@ use Rattle.curator.specs.Rows.{Row, firstOf}
 use Rattle.store.specs.declared.Lengths.{Lengths}
 use Rattle.store.specs.Lent.{listsShort}
 use Rattle.curator.specs.StateLaws.{Sound, sound-facts}
-use Rattle.curator.specs.Lent.{lengths}
 use Rattle.build.specs.Asked.{ownersBad}
-use Rattle.build.specs.CheckLaws.{earlyRows, fullRow, checked-rows, and-false, lists-long}
+use Rattle.build.specs.CheckLaws.{earlyRows, fullRow, checked-rows}
+use Rattle.lists.specs.Tests.{and-false}
+use Rattle.store.specs.LentLaws.{lists-long}
 use Rattle.build.proofs.check.build_check.Statement.{statement}
 use Rattle.build.proofs.check.build_check.Tie as tie
 
@@ -39,18 +40,20 @@ abbrev start-4 : tie.Else4 → tie.Start
 start-4 c = start-3 (c .before .before)
 
 abbrev lens : tie.Start → Lengths
-lens s = lengths (s .args .floats) (length (now (s .args .numbers))) (s .args .hashes) (s .args .work)
+lens s = s .args .lent
 
 abbrev rows : tie.Start → List Row
-rows s = earlyRows (s .args .index) (lens s) (now (s .args .numbers)) ++ (fullRow (s .args .index) false ∷ [])
+rows s = earlyRows (s .args .index) (lens s) (s .args .work) (now (s .args .numbers)) ++ (fullRow (s .args .index) false ∷ [])
 
 sound : (c : tie.Else1) → Sound (start-1 c .args .index)
 sound c = sound-facts _ (sym (c .before .state-sound .ensures) ∙ not-false _ (c .if1 .left))
 
 -- what the second row asks, by the shape that was made
 short : (c : tie.After-lists-short)
-    → c .lists-short .result ≡ listsShort (indexShape (start-1 (c .before .before) .args .index)) (lens (start-1 (c .before .before)))
-short c = c .lists-short .ensures ∙ ap (λ (s : Shape). listsShort s (lens (start-1 (c .before .before)))) (c .before .shape-of .ensures)
+    → c .lists-short .result ≡ listsShort (indexShape (start-1 (c .before .before) .args .index)) (lens (start-1 (c .before .before))) (start-1 (c .before .before) .args .work)
+short c =
+    let start = start-1 (c .before .before) in
+    c .lists-short .ensures ∙ ap (λ (s : Shape). listsShort s (lens start) (start .args .work)) (c .before .shape-of .ensures)
 
 -- where the owners start
 owners-start : (c : tie.After-owners-at) → c .owners-at .result ≡ ownersAt (indexShape (start-4 (c .before) .args .index))
@@ -92,7 +95,7 @@ state-sound-requires : tie.Need-state-sound-requires
 state-sound-requires c κs = search needs
 
 returns : tie.Need-returns
-returns c = sym (checked-rows _ _ _ ∙ row-stops _ _ (ap not (sym (c .before .state-sound .ensures)) ∙ c .if1 .taken))
+returns c = sym (checked-rows _ _ _ _ ∙ row-stops _ _ (ap not (sym (c .before .state-sound .ensures)) ∙ c .if1 .taken))
 
 shape-of-requires : tie.Need-shape-of-requires
 shape-of-requires c κs = search needs
@@ -101,14 +104,14 @@ lists-short-requires : tie.Need-lists-short-requires
 lists-short-requires c κs = subst (λ (s : Shape). Limits s) (sym (c .shape-of .ensures)) (sound (c .before) .limits)
 
 returns-2 : tie.Need-returns-2
-returns-2 c = sym (checked-rows _ _ _ ∙ after-1 (c .before .before .before) ∙ row-stops _ _ (sym (short (c .before)) ∙ c .if2 .taken))
+returns-2 c = sym (checked-rows _ _ _ _ ∙ after-1 (c .before .before .before) ∙ row-stops _ _ (sym (short (c .before)) ∙ c .if2 .taken))
 
 returns-3 : tie.Need-returns-3
 returns-3 c =
     let args = start-2 (c .before) .args in
     let built : (rest : Bool) → not (args .index .built) && rest ≡ false = λ rest. ap (λ (t : Bool). not t && rest) (c .if3 .taken) in
     sym
-    (checked-rows _ _ _ ∙ after-2 (c .before) ∙ row-passes _ _ (built (eqb (args .index .counts .vectors) 0))
+    (checked-rows _ _ _ _ ∙ after-2 (c .before) ∙ row-passes _ _ (built (eqb (args .index .counts .vectors) 0))
     ∙ row-passes _ _ (built (ownersBad (args .index) (now (args .numbers))))
     ∙ row-passes _ _ (built false)
     ∙ no-rows)
@@ -117,7 +120,7 @@ returns-4 : tie.Need-returns-4
 returns-4 c =
     let index = start-3 (c .before .before) .args .index in
     sym
-    (checked-rows _ _ _ ∙ after-2 (c .before .before .before)
+    (checked-rows _ _ _ _ ∙ after-2 (c .before .before .before)
     ∙ row-stops _ _ (ap (λ (t : Bool). not t && eqb (index .counts .vectors) 0) (c .before .before .if3 .left) ∙ eq-eqb _ _ (c .if4 .taken)))
 
 owners-at-requires : tie.Need-owners-at-requires
@@ -129,18 +132,18 @@ owners-sound-requires c κs =
     let second = c .before .before .before .before in
     let args = start-2 second .args in
     let at = owners-start c in
-    let long = lists-long (indexShape (args .index)) (lens (start-2 second)) (sym (short (second .before)) ∙ second .if2 .left) .1 in
+    let long = lists-long (indexShape (args .index)) (lens (start-2 second)) (args .work) (sym (short (second .before)) ∙ second .if2 .left) .0 .numbers in
     let few = sound (second .before .before .before) .entries in
-    subst (λ (a : ℕ). a + args .index .counts .entries ≤ length (now (args .numbers))) (sym at) (omega (arith, long, few))
+    subst (λ (a : ℕ). a + args .index .counts .entries ≤ length (now (args .numbers))) (sym at) (omega (arith, long, few, start-2 second .pre))
 
 returns-5 : tie.Need-returns-5
-returns-5 c = sym (checked-rows _ _ _ ∙ after-3 (c .before .before .before) ∙ row-stops _ _ (fourth (c .before) ∙ c .if5 .taken))
+returns-5 c = sym (checked-rows _ _ _ _ ∙ after-3 (c .before .before .before) ∙ row-stops _ _ (fourth (c .before) ∙ c .if5 .taken))
 
 returns-6 : tie.Need-returns-6
 returns-6 c =
     let index = start-4 (c .before .before .before) .args .index in
     sym
-    (checked-rows _ _ _ ∙ after-3 (c .before .before .before) ∙ row-passes _ _ (fourth (c .before) ∙ c .if5 .left)
+    (checked-rows _ _ _ _ ∙ after-3 (c .before .before .before) ∙ row-passes _ _ (fourth (c .before) ∙ c .if5 .left)
     ∙ row-passes (fullRow index false) [] (and-false (not (index .built)))
     ∙ no-rows)
 
