@@ -21,7 +21,7 @@ use Rattle.curator.specs.RowLaws.{row-stops}
 use Rattle.curator.specs.Calls.{factsOf}
 use Rattle.store.specs.Lent.{lengthsOf}
 use Rattle.curator.specs.Changes.{AddsBy, addCheck, Adds, ownersDamaged, tooManyNodes, BuildsBy, buildCheck, Builds, Freed, freeOf}
-use Rattle.curator.specs.Arguments.{AddCall, SearchCall}
+use Rattle.curator.specs.Arguments.{AddCall, SearchCall, askingOf}
 use Rattle.curator.specs.Searches.{Untouched, SearchesBy, searchCheck, Searches}
 use Rattle.curator_c.specs.declared.state.Held.{Held}
 use Rattle.curator_c.specs.declared.state.Held.the-variants.{State, Nothing}
