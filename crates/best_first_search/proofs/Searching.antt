@@ -83,13 +83,16 @@ module _ (s : Shape) (c : Counts) (hit : ℕ → ℕ) where
     ended-first floats numbers vectors ids distances a b =
         let long : length heap ≡ 3 * max (s .vectors) (s .entries) = ap length is ∙ length-part (hitsAt s) (3 * max (s .vectors) (s .entries)) work size in
         record {
-          vectors = record { lent = vectors; measure = record {
-            queue = heap-none 3 heap;
-            held = ap (allPass (λ x. ltb x (c .vectors))) ended-numbers ∙ ended-few view ef (walk view ef) found opened complete work refl w .1;
-            inside = omega (arith, few, long, at, limits .vectors-low);
-            apart = omega (arith, few, at, limits .vectors-low);
-            room = omega (arith, few, long);
-          } };
+          vectors = record {
+            lent = vectors;
+            measure = record {
+              queue = heap-none 3 heap;
+              held = ap (allPass (λ x. ltb x (c .vectors))) ended-numbers ∙ ended-few view ef (walk view ef) found opened complete work refl w .1;
+              inside = omega (arith, few, long, at, limits .vectors-low);
+              apart = omega (arith, few, at, limits .vectors-low);
+              room = omega (arith, few, long);
+            };
+          };
           ids-room = a;
           distances-room = b;
         }

@@ -14,7 +14,7 @@ use Rattle.lists.specs.Counting.{getD-Memᴰ}
 use Rattle.lists.specs.Parts.{length-part, getD-part, part-append-parts}
 use Rattle.order.specs.Records.{records, Heap}
 use Rattle.distance.specs.Distance.{distance}
-use Rattle.distance.specs.TotalOrder.{keyOf}
+use Rattle.total_order.specs.TotalOrder.{keyOf}
 use Rattle.store.specs.declared.Shape.{Shape}
 use Rattle.store.specs.Store.{vectorAt}
 use Rattle.lists.specs.Tests.{allPass, and-left, and-right, allPass-Memᴰ, allPass-append}

@@ -23,7 +23,7 @@ use Rattle.order.specs.Queue.{Pushed, Popped}
 use Rattle.store.specs.declared.Shape.{Shape}
 use Rattle.store.specs.Store.{Limits, vectorAt, marksAt, workSize}
 use Rattle.distance.specs.Distance.{distance}
-use Rattle.distance.specs.TotalOrder.{keyOf}
+use Rattle.total_order.specs.TotalOrder.{keyOf}
 use Rattle.walk.specs.StoreView.{storeView}
 use Rattle.lists.specs.Tests.{allPass, allPass-nil, allPass-append}
 use Rattle.walk.specs.declared.Wanted.{Wanted}

@@ -13,7 +13,7 @@ use Rattle.store.specs.declared.Shape.{Shape}
 use Rattle.store.specs.Lent.{storeOf}
 use Rattle.store.specs.Store.{Store, Limits, CountsWithin, vectorAt, floatsSize, workSize, marksAt, hitsAt}
 use Rattle.distance.specs.Distance.{distance}
-use Rattle.distance.specs.TotalOrder.{keyOf}
+use Rattle.total_order.specs.TotalOrder.{keyOf}
 use Rattle.walk.specs.declared.Wanted.{Wanted}
 use Rattle.store.specs.declared.Counts.{Counts}
 use Rattle.best_first_walk.specs.declared.Walked.{Walked}

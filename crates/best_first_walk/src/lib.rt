@@ -1,6 +1,5 @@
 // The best-first walk over a lent store, whatever numbers stand in it (document 01, 'Search').
 use distance::places::distances_at;
-use distance::total::key;
 use hit_queue::gather::Added;
 use hit_queue::gather::add_hits;
 use hit_queue::vectors::distance_key;
@@ -10,6 +9,7 @@ use order::push;
 use store::Counts;
 use store::Shape;
 use store::wide;
+use total_order::key;
 use walk::Wanted;
 use walk::look::Look;
 use walk::look::look_at;

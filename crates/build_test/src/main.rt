@@ -140,7 +140,7 @@ fn same_floats(a: &[f32], b: &[f32], from: usize, to: usize) -> bool {
     let mut i = 0;
     while i < a.len() {
         if i < b.len() {
-            let changed = distance::bits::to_bits(a[i]) != distance::bits::to_bits(b[i]);
+            let changed = float_bits::to_bits(a[i]) != float_bits::to_bits(b[i]);
             if changed & ((i < from) | (to <= i)) {
                 return false;
             }
@@ -182,7 +182,7 @@ fn print_floats(list: &[f32], from: usize, to: usize) {
     while i < to {
         if i < list.len() {
             io::write_all(STDOUT_FILENO, b" ");
-            io::print_hex(STDOUT_FILENO, distance::bits::to_bits(list[i]) as u64, 8);
+            io::print_hex(STDOUT_FILENO, float_bits::to_bits(list[i]) as u64, 8);
         }
         i += 1;
     }

@@ -108,7 +108,7 @@ fn print_floats(list: &[f32], from: usize, count: usize) {
     let end = forward(list.len(), from, count);
     let mut i = from;
     while i < end {
-        print_number(distance::bits::to_bits(list[i]) as u64);
+        print_number(float_bits::to_bits(list[i]) as u64);
         i += 1;
     }
     line_end();
@@ -123,7 +123,7 @@ fn print_refusal(refusal: Refusal) {
 fn float_at(s: &[u8], at: usize, i: usize) -> f32
     requires { ⌜ i < 8 ⌝ }
 {
-    distance::bits::from_bits(number_at(s, forward(s.len(), at, 4 * i)))
+    float_bits::from_bits(number_at(s, forward(s.len(), at, 4 * i)))
 }
 
 fn vector_at(s: &[u8], at: usize) -> [f32; 8] {

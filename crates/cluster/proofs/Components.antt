@@ -9,7 +9,7 @@ use lib.Ieee.{Float, nan, binary32, add, div}
 use Rattle.lists.specs.Maps.{getD-map}
 use Rattle.lists.specs.Lists.{part}
 use Rattle.lists.specs.Parts.{length-part, getD-part}
-use Rattle.distance.specs.Vector.{zero32}
+use Rattle.vector.specs.Vector.{zero32}
 use Rattle.cluster.specs.Clusters.{addVectors}
 use Rattle.cluster.specs.Laws.{length-addVectors, getD-addVectors}
 use Rattle.lists.specs.Writes.{write-turn, unwritten, before-written}

@@ -11,7 +11,7 @@ use lib.Dec.{T, le→leb}
 use lib.Ieee.{Float, binary32, div, ofInt, inFloat}
 use Rattle.lists.specs.Lists.{part}
 use Rattle.lists.specs.Parts.{length-part, part-sets-same, part-sets-before, sets-sets-same, sets-self, take-sets}
-use Rattle.distance.specs.Vector.{zero32}
+use Rattle.vector.specs.Vector.{zero32}
 use Rattle.cluster.specs.Clusters.{vectorOf, addVectors, sumFrom, meanOf}
 use Rattle.cluster.specs.Lent.{vectorsIn, Room}
 use Rattle.cluster.specs.Vectors.{vectorOf-vectorsIn, vectorsIn-front, row-end}

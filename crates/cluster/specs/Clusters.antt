@@ -7,7 +7,7 @@ use lib.ListN.{length, getD, replicate}
 use lib.Dec.{eqb}
 use lib.Ieee.{Float, inf, binary32, add, div, lt, ofInt}
 use Rattle.lists.specs.Lists.{keep, countFrom}
-use Rattle.distance.specs.Vector.{zero32}
+use Rattle.vector.specs.Vector.{zero32}
 use Rattle.distance.specs.Distance.{distance}
 
 -- the vector with an id

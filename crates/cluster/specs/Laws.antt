@@ -12,7 +12,7 @@ use lib.Ieee.{Float, nan, inf, binary32, add, div, lt, ofInt}
 use Rattle.lists.specs.Maps.{getD-map}
 use Rattle.lists.specs.Lists.{keep, countFrom}
 use Rattle.lists.specs.Counting.{length-countFrom, getD-countFrom}
-use Rattle.distance.specs.Vector.{zero32}
+use Rattle.vector.specs.Vector.{zero32}
 use Rattle.distance.specs.Distance.{distance}
 use Rattle.cluster.specs.Clusters.{vectorOf, addVectors, sumFrom, meanOf, nearestFrom, nearest, members, recentred, recentreFrom, recentre, firstCentres, clusterCount, lastCentres}
 use Rattle.cluster.specs.Lent.{assignment, withMark}

@@ -7,7 +7,7 @@ ghost use lib.ListN.{length, replicate};
 ghost use lib.Seq.{sets};
 ghost use lib.Ieee.{binary32, div};
 ghost use Rattle.lists.specs.Lists.{part};
-ghost use Rattle.distance.specs.Vector.{zero32};
+ghost use Rattle.vector.specs.Vector.{zero32};
 ghost use Rattle.cluster.specs.Clusters.{addVectors};
 
 // Sets every component at `to` to +0.0.
@@ -55,7 +55,7 @@ pub fn divide(floats: &mut [f32], to: usize, dimension: usize, by: f32)
 {
     let mut i = 0;
     while i < dimension {
-        floats[to + i] = distance::nan::canonical(floats[to + i] / by);
+        floats[to + i] = float_bits::canonical(floats[to + i] / by);
         i += 1;
     }
 }

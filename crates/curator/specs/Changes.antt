@@ -7,7 +7,7 @@ use lib.Dec.{ltb}
 use lib.Ieee.{Float}
 use lib.ListN.{length, set, replicate}
 use lib.Seq.{sets}
-use Rattle.distance.specs.Vector.{dot, Normalized}
+use Rattle.vector.specs.Vector.{dot, Normalized}
 use Rattle.store.specs.declared.Shape.{Shape}
 use Rattle.store.specs.Store.{Store, centroidsAt, centresAt, ownersAt, orderAt, nodesAt, linksAt, entryOrderAt, filtersAt, workSize}
 use Rattle.tree.specs.Tree.{treeOf, size}

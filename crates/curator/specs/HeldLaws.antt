@@ -8,7 +8,7 @@ use native.Mathlib.Omega.{arith}
 use lib.Ieee.{Float}
 use lib.ListN.{length, take, set, replicate, length-set, length-replicate}
 use lib.Seq.{sets, take-suc-set}
-use Rattle.distance.specs.Normalized.{normalized, normalized-is, normalized-holds}
+use Rattle.vector.specs.Normalized.{normalized, normalized-is, normalized-holds}
 use Rattle.lists.specs.Counting.{countFrom-snoc}
 use Rattle.lists.specs.Lists.{part, countFrom}
 use Rattle.lists.specs.Parts.{part-append-parts, part-set-before, part-sets-before, part-sets-same}

@@ -6,7 +6,7 @@ use lib.Ieee.{Float}
 use lib.ListN.{length}
 use lib.Seq.{sets}
 use denote.Ref.{RefT, now}
-use Rattle.distance.specs.Vector.{dot, Normalized}
+use Rattle.vector.specs.Vector.{dot, Normalized}
 use Rattle.lists.specs.Lists.{total}
 use Rattle.store.specs.declared.Lengths.{Lengths}
 use Rattle.store.specs.Store.{Store, Limits}

@@ -8,7 +8,7 @@ use lib.Dec.{ltb, eqb}
 use lib.Ieee.{Float}
 use lib.ListN.{length}
 use Rattle.lists.specs.Lists.{total}
-use Rattle.distance.specs.Vector.{allFinite}
+use Rattle.vector.specs.Vector.{allFinite}
 use Rattle.store.specs.declared.Shape.{Shape}
 use Rattle.store.specs.declared.Lengths.{Lengths}
 use Rattle.store.specs.Lent.{storeShort, listsShort}

@@ -8,8 +8,8 @@ use native.Mathlib.Omega.{arith}
 use borrow.Author.Tests.{not-false, ltb-true}
 use lib.Dec.{eqb, ltb}
 use lib.ListN.{length}
-use Rattle.distance.specs.Normalized.{normalized, normalized-is}
-use Rattle.distance.specs.Vector.{allFinite}
+use Rattle.vector.specs.Normalized.{normalized, normalized-is}
+use Rattle.vector.specs.Vector.{allFinite}
 use Rattle.store.specs.Store.{Store}
 use Rattle.walk.specs.HeldLaws.{SameHeld, same-held}
 use Rattle.walk.specs.Walk.{State, damaged, going}

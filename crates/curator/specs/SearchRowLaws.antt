@@ -10,8 +10,8 @@ use borrow.Author.Tests.{eqb-true, eqb-false, eq-eqb, ne-eqb, ltb-true, ltb-fals
 use lib.Dec.{eqb, ltb}
 use lib.Ieee.{Float}
 use lib.ListN.{length, getD}
-use Rattle.distance.specs.Normalized.{normalized, normalized-is}
-use Rattle.distance.specs.Vector.{allFinite}
+use Rattle.vector.specs.Normalized.{normalized, normalized-is}
+use Rattle.vector.specs.Vector.{allFinite}
 use Rattle.store.specs.Store.{Store}
 use Rattle.walk.specs.StoreView.{storeView}
 use Rattle.walk.specs.Walk.{State, damaged, going, walk}

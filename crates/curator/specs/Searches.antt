@@ -5,7 +5,7 @@ use mathlib.Core.Path.{_≡_}
 use lib.Ieee.{Float}
 use lib.ListN.{length}
 use lib.Seq.{sets}
-use Rattle.distance.specs.Vector.{dot, Normalized}
+use Rattle.vector.specs.Vector.{dot, Normalized}
 use Rattle.label.specs.Fnv.{fnv}
 use Rattle.store.specs.Store.{Store}
 use Rattle.walk.specs.declared.Wanted.{Wanted}

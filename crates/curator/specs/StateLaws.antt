@@ -8,8 +8,8 @@ use borrow.Author.Tests.{not-false, leb-true, le-leb}
 use lib.Dec.{leb, leb·zero}
 use lib.Ieee.{Float}
 use lib.ListN.{length}
-use Rattle.distance.specs.Vector.{Normalized}
-use Rattle.distance.specs.VectorLaws.{length-dividedBy}
+use Rattle.vector.specs.Vector.{Normalized}
+use Rattle.vector.specs.VectorLaws.{length-dividedBy}
 use Rattle.store.specs.Store.{Limits}
 use Rattle.curator.specs.declared.Capacities.{Capacities}
 use Rattle.curator.specs.declared.Changed.the-variants as Changed′

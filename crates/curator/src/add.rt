@@ -66,7 +66,7 @@ pub fn add_check(
     if vector.len() != index.dimension {
         return Check::Refused(Refusal::Input(InputRefusal::DimensionMismatch));
     }
-    if !distance::vector::all_finite(vector) {
+    if !vector::all_finite(vector) {
         return Check::Refused(Refusal::Input(InputRefusal::NonFiniteInput));
     }
     if !sums_to(lengths, bytes.len()) {
@@ -87,8 +87,8 @@ fn write_vector(floats: &mut [f32], place: usize, vector: &[f32])
     ensures { λ _. ⌜ VectorAt (now (floats .entry)) place (now (vector .entry)) (now (floats .exit)) ⌝ }
 {
     let end = place + vector.len();
-    let squares = distance::vector::dot(vector, vector);
-    distance::vector::normalize(vector, squares, &mut floats[place..end]);
+    let squares = vector::dot(vector, vector);
+    vector::normalize(vector, squares, &mut floats[place..end]);
 }
 
 // Writes one number at some places.

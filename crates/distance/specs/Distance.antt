@@ -4,7 +4,7 @@ use mathlib.Core.List.{List}
 use lib.ListN.{length}
 use lib.Dec.{eqb}
 use lib.Ieee.{Float, inf, binary32, ofBits, sub}
-use Rattle.distance.specs.Vector.{dot}
+use Rattle.vector.specs.Vector.{dot}
 
 -- 1.0
 unfoldable pub one32 : Float

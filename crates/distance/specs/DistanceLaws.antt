@@ -13,7 +13,7 @@ use lib.ListN.{length}
 use lib.Pow.{pow-lt}
 use lib.Ieee.{Float, nan, inf, fin, binary32, up, down, ofBits, round, sum, add, sub, mul, fits}
 use lib.Ieee.Fits.{cond-fits, inf-fits, mul-fits, sub-fits, up-pos}
-use Rattle.distance.specs.Vector.{dotFrom, zero32, dot}
+use Rattle.vector.specs.Vector.{dotFrom, zero32, dot}
 use Rattle.distance.specs.Distance.{one32, distance}
 
 -- by cases of the lengths

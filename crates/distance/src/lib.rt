@@ -1,26 +1,22 @@
-// Vectors, their distances and the order of distances, by IEEE 754's binary32: each operation
-// rounded once.
+// The distance of two vectors, and of one from four, by IEEE 754's binary32: each operation rounded once.
+use float_bits::canonical;
+use vector::dot;
 ghost use mathlib.Core.Path.{_≡_};
 ghost use mathlib.Core.Bool.{_&&_};
 ghost use lib.Dec.{eqb};
 ghost use Prim.Native.Nat.{_<_};
 ghost use lib.ListN.{length, drop};
 ghost use lib.Ieee.{binary32, sub};
-ghost use Rattle.distance.specs.Vector.{dot, dotFrom, dotStep};
+ghost use Rattle.vector.specs.Vector.{dot, dotFrom, dotStep};
 ghost use Rattle.distance.specs.Distance.{one32, distance};
 
-pub mod bits;
-pub mod nan;
 pub mod places;
-pub mod root;
-pub mod total;
-pub mod vector;
 
 // 1.0 minus a sum. A NaN is stored as 7FC00000.
 fn from_one(sum: f32) -> f32
     ensures { λ r. ⌜ r ≡ sub binary32 one32 sum ⌝ }
 {
-    nan::canonical(1.0 - sum)
+    canonical(1.0 - sum)
 }
 
 // 1.0 minus the sum of products; infinity where the lengths differ.
@@ -30,7 +26,7 @@ pub fn cosine_distance_normalized(a: &[f32], b: &[f32]) -> f32
     if a.len() != b.len() {
         return f32::from_bits(0x7F80_0000);
     }
-    from_one(vector::dot(a, b))
+    from_one(dot(a, b))
 }
 
 // One value for each of four vectors.

@@ -7,14 +7,14 @@ ghost use lib.Ieee.{binary32, ofBits};
 ghost use Rattle.lists.specs.Lists.{part};
 ghost use Rattle.echo_file.specs.Decode.{value, numbers};
 use crate::number;
-use distance::bits;
+use float_bits::from_bits;
 
 // The float at a place.
 fn float_at(file: &[u8], at: usize) -> f32
     requires { ⌜ at + 4 ≤ length (now file) ⌝ }
     ensures { λ r. ⌜ r ≡ ofBits binary32 (value (part at 4 (now (file .entry)))) ⌝ }
 {
-    bits::from_bits(number::u32_at(file, at) as u32)
+    from_bits(number::u32_at(file, at) as u32)
 }
 
 // Fills a lent list with the floats that start at a place.

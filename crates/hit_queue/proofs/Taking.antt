@@ -14,7 +14,7 @@ use Rattle.order.specs.SortedLaws.{sort-nil}
 use Rattle.order.specs.Records.{value, records, Heap}
 use Rattle.order.specs.RecordsLaws.{value-is, records-zero}
 use Rattle.order.specs.Queue.{Popped}
-use Rattle.distance.specs.TotalOrder.{ofKey}
+use Rattle.total_order.specs.TotalOrder.{ofKey}
 use Rattle.walk.specs.Answer.{documentOf, distanceOf, dropAfter}
 use Rattle.walk.specs.AnswerLaws.{drop-nil, drop-same, drop-other}
 use Rattle.hit_queue.specs.Hits.{rankedQueue, Takes}

@@ -1,6 +1,6 @@
 // The hits of an answer are taken out of the queue.
-use distance::total::from_key;
 use order::pop;
+use total_order::from_key;
 ghost use mathlib.Core.Path.{_≡_};
 ghost use Prim.Native.Nat.{_+_, _<_};
 ghost use lib.ListN.{length};

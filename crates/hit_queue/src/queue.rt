@@ -1,12 +1,12 @@
 // The hits of the vectors found are measured and put into a queue.
 use distance::places::distance_at;
 use distance::places::distances_at;
-use distance::total::key;
 use order::Record;
 use order::push;
 use store::Counts;
 use store::Shape;
 use store::wide;
+use total_order::key;
 ghost use mathlib.Core.Path.{_≡_};
 ghost use mathlib.Core.List.{[], _∷_};
 ghost use Prim.Native.Nat.{_+_, _*_, _<_};

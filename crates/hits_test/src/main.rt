@@ -27,11 +27,7 @@ fn fill(hits: [Hit; 8], ids: &[u32], distances: &[f32], count: usize) -> Filled
 fn print_record(hit: Hit) {
     io::print_decimal(STDOUT_FILENO, hit.id as u64);
     io::write_all(STDOUT_FILENO, b" ");
-    io::print_hex(
-        STDOUT_FILENO,
-        distance::bits::to_bits(hit.distance) as u64,
-        8,
-    );
+    io::print_hex(STDOUT_FILENO, float_bits::to_bits(hit.distance) as u64, 8);
     io::write_all(STDOUT_FILENO, b"\n");
 }
 

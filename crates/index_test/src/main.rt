@@ -16,7 +16,7 @@ fn print_number(n: u64) {
 // The bits of an f32, and a space.
 fn print_bits(x: f32) {
     let mut word = [b' '; 9];
-    text::write_hex(&mut word, 0, distance::bits::to_bits(x));
+    text::write_hex(&mut word, 0, float_bits::to_bits(x));
     io::write_all(1, &word);
 }
 

@@ -9,7 +9,7 @@ use mathlib.Core.List.{List, List·Memᴰ·not-nil, List·Memᴰ·cases-cons, Li
 use mathlib.Core.Path.{_≡_, refl, sym, ap, _∙_, subst}
 use lib.ListN.{length, set, replicate, length-append, length-set}
 use lib.Seq.{sets, length-sets}
-use Rattle.distance.specs.Normalized.{normalized, normalized-holds}
+use Rattle.vector.specs.Normalized.{normalized, normalized-holds}
 use Rattle.lists.specs.Tests.{either}
 use Rattle.store.specs.Store.{Store, ownersAt}
 use Rattle.curator.specs.declared.CuratorIndex.{CuratorIndex}

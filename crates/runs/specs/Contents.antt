@@ -3,7 +3,7 @@
 use Prim.Native.Nat.{ℕ}
 use mathlib.Core.List.{List, [], _∷_}
 use mathlib.Core.Path.{_≡_, refl, ap}
-use Rattle.distance.specs.Normalized.{normalized}
+use Rattle.vector.specs.Normalized.{normalized}
 use Rattle.walk.specs.Walk.{walk}
 use Rattle.curator.specs.declared.Check.{Check}
 use Rattle.curator.specs.Outcome.{checkNumber}

@@ -15,8 +15,8 @@ use Rattle.lists.specs.Lists.{joined, keep, countFrom, isIn}
 use Rattle.lists.specs.Counting.{isIn-nil, isIn-later, keep-map, keep-pass, keep-fail, keep-nil, Memᴰ-keep}
 use Rattle.lists.specs.Tests.{which, either}
 use Rattle.lists.specs.Partition.{hit}
-use Rattle.distance.specs.TotalOrder.{keyOf}
-use Rattle.distance.specs.Normalized.{normalized}
+use Rattle.total_order.specs.TotalOrder.{keyOf}
+use Rattle.vector.specs.Normalized.{normalized}
 use Rattle.walk.specs.declared.Wanted.{Wanted}
 use Rattle.walk.specs.declared.Wanted.the-variants.{Everything, Label}
 use Rattle.walk.specs.WalkLaws.{Different, different-nil, different-cons}

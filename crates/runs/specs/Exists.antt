@@ -7,7 +7,7 @@ use mathlib.Core.Path.{_≡_, refl, sym, ap, _∙_, subst}
 use lib.Ieee.{nan}
 use lib.ListN.{length, take, drop, replicate, length-replicate, length-append, take-append-drop}
 use lib.Seq.{sets, length-take-le}
-use Rattle.distance.specs.Normalized.{normalized, normalized-holds}
+use Rattle.vector.specs.Normalized.{normalized, normalized-holds}
 use Rattle.store.specs.Store.{Store}
 use Rattle.walk.specs.Walk.{State, damaged, going, walk}
 use Rattle.walk.specs.Answer.{answer}

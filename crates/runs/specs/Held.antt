@@ -12,7 +12,7 @@ use Rattle.lists.specs.Maps.{map-on}
 use Rattle.lists.specs.Lists.{part, countFrom, joined, pieces}
 use Rattle.lists.specs.Counting.{countFrom-snoc, Memᴰ-countFrom, joined-snoc, getD-Memᴰ}
 use Rattle.lists.specs.Parts.{part-sets-same, part-sets-before, part-set-before, part-append-parts}
-use Rattle.distance.specs.Normalized.{normalized, normalized-is, length-normalized}
+use Rattle.vector.specs.Normalized.{normalized, normalized-is, length-normalized}
 use Rattle.lists.specs.Tests.{either}
 use Rattle.store.specs.Store.{Store, vectorAt, centroidsAt, orderAt, filtersAt}
 use Rattle.curator.specs.Calls.{hashesOfLabels, heldVectors, heldEntries}

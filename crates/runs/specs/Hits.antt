@@ -11,9 +11,9 @@ use Rattle.lists.specs.Counting.{sumOf, sumOf-map, getD-Memᴰ, Memᴰ-keep}
 use Rattle.lists.specs.Partition.{hit, count, count-Memᴰ, Memᴰ-count}
 use Rattle.order.specs.Sorted.{sort}
 use Rattle.distance.specs.DistanceLaws.{distance-fits}
-use Rattle.distance.specs.TotalOrder.{keyOf, ofKey}
-use Rattle.distance.specs.OrderLaws.{ofKey-keyOf}
-use Rattle.distance.specs.Normalized.{normalized}
+use Rattle.total_order.specs.TotalOrder.{keyOf, ofKey}
+use Rattle.total_order.specs.OrderLaws.{ofKey-keyOf}
+use Rattle.vector.specs.Normalized.{normalized}
 use Rattle.walk.specs.declared.Wanted.{Wanted}
 use Rattle.walk.specs.Walk.{View, Progress, going, walk, whole}
 use Rattle.walk.specs.Answer.{documentOf, distanceOf, ranked}

@@ -15,9 +15,9 @@ use Rattle.lists.specs.Parts.{getD-sets-in}
 use Rattle.order.specs.Sorted.{sort}
 use Rattle.order.specs.SortedLaws.{sort-mem, no-later-length}
 use Rattle.distance.specs.DistanceLaws.{distance-fits}
-use Rattle.distance.specs.TotalOrder.{totalOrder, keyOf}
-use Rattle.distance.specs.OrderLaws.{totalOrder-key}
-use Rattle.distance.specs.Normalized.{normalized}
+use Rattle.total_order.specs.TotalOrder.{totalOrder, keyOf}
+use Rattle.total_order.specs.OrderLaws.{totalOrder-key}
+use Rattle.vector.specs.Normalized.{normalized}
 use Rattle.walk.specs.Walk.{Progress, going, walk, whole}
 use Rattle.walk.specs.WalkLaws.{larger-later}
 use Rattle.walk.specs.Answer.{answer, documentOf, distanceOf, ranked}

@@ -8,8 +8,8 @@ use lib.Ieee.{Float}
 use lib.ListN.{length, getD, replicate}
 use Rattle.lists.specs.Lists.{joined, keep}
 use Rattle.distance.specs.Distance.{distance}
-use Rattle.distance.specs.TotalOrder.{keyOf}
-use Rattle.distance.specs.Normalized.{normalized}
+use Rattle.total_order.specs.TotalOrder.{keyOf}
+use Rattle.vector.specs.Normalized.{normalized}
 use Rattle.label.specs.Filter.{mayContain}
 use Rattle.store.specs.declared.Shape.{Shape}
 use Rattle.tree.specs.Tree.{treeOf, size}

@@ -11,9 +11,9 @@ use Rattle.lists.specs.Partition.{perm-Memᴰ}
 use Rattle.order.specs.SortedLaws.{le-or-lt}
 use Rattle.lists.specs.Tests.{either}
 use Rattle.distance.specs.DistanceLaws.{distance-fits}
-use Rattle.distance.specs.TotalOrder.{totalOrder}
-use Rattle.distance.specs.OrderLaws.{totalOrder-refl, totalOrder-antisym, totalOrder-trans, totalOrder-total}
-use Rattle.distance.specs.Normalized.{normalized}
+use Rattle.total_order.specs.TotalOrder.{totalOrder}
+use Rattle.total_order.specs.OrderLaws.{totalOrder-refl, totalOrder-antisym, totalOrder-trans, totalOrder-total}
+use Rattle.vector.specs.Normalized.{normalized}
 use Rattle.curator.specs.Searches.{wantedOf}
 use Rattle.curator.specs.Arguments.{SearchCall}
 use Rattle.runs.specs.Model.{Model, ModelRow}

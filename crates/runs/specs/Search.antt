@@ -7,7 +7,7 @@ use mathlib.Core.List.{List}
 use mathlib.Core.Path.{_≡_, refl, sym, ap, ap₂, _∙_, subst}
 use lib.Ieee.{Float}
 use lib.ListN.{length}
-use Rattle.distance.specs.Normalized.{normalized, normalized-is}
+use Rattle.vector.specs.Normalized.{normalized, normalized-is}
 use Rattle.store.specs.Store.{Store}
 use Rattle.store.specs.declared.Counts.{Counts}
 use Rattle.walk.specs.Walk.{State, Progress, damaged, going, walk}

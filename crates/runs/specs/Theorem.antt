@@ -11,8 +11,8 @@ use lib.ListN.{length, getD, take}
 use lib.Seq.{sets}
 use Rattle.lists.specs.Lists.{keep}
 use Rattle.distance.specs.Distance.{distance}
-use Rattle.distance.specs.TotalOrder.{totalOrder}
-use Rattle.distance.specs.Normalized.{normalized}
+use Rattle.total_order.specs.TotalOrder.{totalOrder}
+use Rattle.vector.specs.Normalized.{normalized}
 use Rattle.walk.specs.declared.Wanted.{Wanted}
 use Rattle.walk.specs.declared.Wanted.the-variants.{Everything, Label}
 use Rattle.walk.specs.Answer.{Answer}

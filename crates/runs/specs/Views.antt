@@ -15,7 +15,7 @@ use Rattle.lists.specs.Lists.{part, joined, keep, countFrom}
 use Rattle.lists.specs.Counting.{getD-Memᴰ, keep-congr, Memᴰ-keep, getD-countFrom, length-countFrom}
 use Rattle.lists.specs.Parts.{getD-part, part-part}
 use Rattle.distance.specs.Distance.{distance}
-use Rattle.distance.specs.TotalOrder.{keyOf}
+use Rattle.total_order.specs.TotalOrder.{keyOf}
 use Rattle.label.specs.Filter.{mayContain}
 use Rattle.store.specs.Store.{Store, vectorAt, orderAt, nodesAt, linksAt, entryOrderAt, filtersAt}
 use Rattle.tree.specs.Tree.{treeOf}

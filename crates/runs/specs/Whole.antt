@@ -14,9 +14,9 @@ use Rattle.order.specs.Sorted.{sort, Sorted, Least}
 use Rattle.order.specs.SortedLaws.{le-or-lt, sort-sorted, sort-perm, sorted-unique}
 use Rattle.lists.specs.Tests.{either}
 use Rattle.distance.specs.DistanceLaws.{distance-fits}
-use Rattle.distance.specs.TotalOrder.{keyOf, ofKey}
-use Rattle.distance.specs.OrderLaws.{totalOrder-le, keyOf-injective}
-use Rattle.distance.specs.Normalized.{normalized}
+use Rattle.total_order.specs.TotalOrder.{keyOf, ofKey}
+use Rattle.total_order.specs.OrderLaws.{totalOrder-le, keyOf-injective}
+use Rattle.vector.specs.Normalized.{normalized}
 use Rattle.walk.specs.Walk.{Progress, going, walk, whole}
 use Rattle.walk.specs.Answer.{documentOf, distanceOf, ranked}
 use Rattle.walk.specs.SoundWalk.{sound-enough}

@@ -9,7 +9,7 @@ use lib.Dec.{leb, ltb, eqb}
 use lib.Ieee.{Float}
 use lib.ListN.{length, drop}
 use lib.Seq.{sets}
-use Rattle.distance.specs.Vector.{dot, Normalized}
+use Rattle.vector.specs.Vector.{dot, Normalized}
 use Rattle.lists.specs.Lists.{part}
 use Rattle.lists.specs.Parts.{length-part, sets-part}
 use Rattle.store.specs.declared.Shape.{Shape}

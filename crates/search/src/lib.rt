@@ -39,7 +39,7 @@ fn search_check(
     if query.len() != index.dimension {
         return Check::Refused(Refusal::Input(InputRefusal::DimensionMismatch));
     }
-    if !distance::vector::all_finite(query) {
+    if !vector::all_finite(query) {
         return Check::Refused(Refusal::Input(InputRefusal::NonFiniteInput));
     }
     if (ids < k) | (distances < k) {
@@ -86,9 +86,9 @@ fn walk_from(
 {
     let start = 0;
     let end = query.len();
-    let squares = distance::vector::dot(query, query);
+    let squares = vector::dot(query, query);
     let mut normalized: [f32; 128] = [0.0; 128];
-    distance::vector::normalize(query, squares, &mut normalized[start..end]);
+    vector::normalize(query, squares, &mut normalized[start..end]);
     let counts = index.counts;
     found(best_first_search::best_first_search(
         limits::shape_of(index),

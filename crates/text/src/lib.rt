@@ -42,7 +42,7 @@ pub fn write_hits(out: &mut [u8], at: usize, ids: &[u32], distances: &[f32], cou
     let mut place = at;
     let mut i = 0;
     while i < count {
-        place = write_hit(out, place, ids[i], distance::bits::to_bits(distances[i]));
+        place = write_hit(out, place, ids[i], float_bits::to_bits(distances[i]));
         i += 1;
     }
     place

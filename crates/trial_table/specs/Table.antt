@@ -4,12 +4,12 @@ use mathlib.Core.Bool.{true, false}
 use mathlib.Core.List.{List, [], _∷_, _++_, map}
 use mathlib.Core.Path.{_≡_, refl, subst}
 use lib.Ieee.{Float, binary32, ofBits, toBits, fits}
-use Rattle.distance.specs.Root.{Root}
-use Rattle.distance.specs.RootForms.{rootOf, rootOf-root}
-use Rattle.distance.specs.Vector.{dot, dividedBy, Normalized}
-use Rattle.distance.specs.Normalized.{normalized, normalized-holds}
+use Rattle.square_root.specs.Root.{Root}
+use Rattle.square_root.specs.RootForms.{rootOf, rootOf-root}
+use Rattle.vector.specs.Vector.{dot, dividedBy, Normalized}
+use Rattle.vector.specs.Normalized.{normalized, normalized-holds}
 use Rattle.distance.specs.Distance.{distance}
-use Rattle.distance.specs.TotalOrder.{totalOrder}
+use Rattle.total_order.specs.TotalOrder.{totalOrder}
 use Rattle.label.specs.Fnv.{fnv, fnvFrom, fnvStep}
 use Rattle.label.specs.Filter.{firstBit, secondBit}
 use Rattle.tree.specs.Tree.{treeOf, size, sizes}

@@ -1,7 +1,7 @@
 // Prints what the leaves give for the records on standard input, a line each. A record has 40 bytes: what is asked, a count, two bytes unused, and nine
 // numbers of four bytes, low byte first. The records and the lines that they must give are made by tools/trials.c.
-use distance::bits::from_bits;
-use distance::bits::to_bits;
+use float_bits::from_bits;
+use float_bits::to_bits;
 use libc::STDIN_FILENO;
 use libc::STDOUT_FILENO;
 ghost use Prim.Native.Nat.{_+_, _*_, _≤_, _<_};
@@ -65,7 +65,7 @@ fn print_float(x: f32) {
 fn root(r: &[u8])
     requires { ⌜ length (now r) ≡ 40 ⌝ }
 {
-    print_float(distance::root::sqrt(from_bits(number(r, 0))));
+    print_float(square_root::sqrt(from_bits(number(r, 0))));
 }
 
 // 2: the norm of a vector of `count` components.
@@ -75,7 +75,7 @@ fn norm(r: &[u8])
     let v = four(r, 0);
     let start = 0;
     let n = count(r, 4);
-    print_float(distance::vector::norm(&v[start..n]));
+    print_float(vector::norm(&v[start..n]));
 }
 
 // 3: what is stored of a vector of four components.
@@ -84,7 +84,7 @@ fn stored(r: &[u8])
 {
     let v = four(r, 0);
     let mut out = [0.0f32; 4];
-    distance::vector::normalize(&v, distance::vector::dot(&v, &v), &mut out);
+    vector::normalize(&v, vector::dot(&v, &v), &mut out);
     print_float(out[0]);
     print_float(out[1]);
     print_float(out[2]);
@@ -106,9 +106,9 @@ fn between(r: &[u8])
 fn keys(r: &[u8])
     requires { ⌜ length (now r) ≡ 40 ⌝ }
 {
-    let key = distance::total::key(from_bits(number(r, 0)));
+    let key = total_order::key(from_bits(number(r, 0)));
     print_number(key);
-    print_float(distance::total::from_key(key));
+    print_float(total_order::from_key(key));
 }
 
 // 6: the hash of the first bytes, as many as the second byte says.

@@ -7,7 +7,7 @@ use lib.Ieee.{Float}
 use lib.ListN.{length, take}
 use Rattle.lists.specs.Lists.{keep}
 use Rattle.order.specs.Sorted.{sort}
-use Rattle.distance.specs.TotalOrder.{keyOf, ofKey}
+use Rattle.total_order.specs.TotalOrder.{keyOf, ofKey}
 use Rattle.walk.specs.Walk.{Progress, walk, none, whole}
 
 -- A hit is one number, so that `<` orders by distance in total order, then document id, then vector number: each of the three is below 2 ^ 32.

@@ -15,7 +15,7 @@ use Rattle.lists.specs.Tests.{which}
 use Rattle.lists.specs.Partition.{List·Permᴰ, Permᴰ·map, count, count-append, perm-count}
 use Rattle.order.specs.Sorted.{sort, NoLater}
 use Rattle.order.specs.SortedLaws.{sort-perm, length-sort, no-later-sort, no-later-take, no-later-at}
-use Rattle.distance.specs.TotalOrder.{keyOf, ofKey}
+use Rattle.total_order.specs.TotalOrder.{keyOf, ofKey}
 use Rattle.walk.specs.Walk.{Progress}
 use Rattle.walk.specs.WalkLaws.{Different, different-head, different-tail}
 use Rattle.walk.specs.Answer.{hitOf, documentOf, distanceOf, dropAfter, dropRepeats, listed, everyHit, ranked}

@@ -17,7 +17,7 @@ use Rattle.lists.specs.Tests.{which, allPass, and-left, and-right, allPass-Mem�
 use Rattle.store.specs.declared.Shape.{Shape}
 use Rattle.store.specs.Store.{Store, vectorAt, orderAt, linksAt, entryOrderAt, filtersAt}
 use Rattle.distance.specs.Distance.{distance}
-use Rattle.distance.specs.TotalOrder.{keyOf}
+use Rattle.total_order.specs.TotalOrder.{keyOf}
 use Rattle.walk.specs.declared.Wanted.{Wanted}
 use Rattle.store.specs.declared.Counts.{Counts}
 use Rattle.walk.specs.declared.Searched.{Searched}

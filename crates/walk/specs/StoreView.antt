@@ -10,7 +10,7 @@ use Rattle.lists.specs.Tests.{allPass}
 use Rattle.store.specs.declared.Shape.{Shape}
 use Rattle.store.specs.Store.{Store, vectorAt, ownersAt, orderAt, nodesAt, linksAt, entryOrderAt, filtersAt}
 use Rattle.distance.specs.Distance.{distance}
-use Rattle.distance.specs.TotalOrder.{keyOf}
+use Rattle.total_order.specs.TotalOrder.{keyOf}
 use Rattle.walk.specs.declared.Wanted.{Wanted}
 use Rattle.store.specs.declared.Counts.{Counts}
 use Rattle.walk.specs.Walk.{View, Shown, children, hits, damage}

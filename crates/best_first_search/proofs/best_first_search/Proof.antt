@@ -149,9 +149,9 @@ first-hits-requires c κs =
     let pre = entry w .pre in
     let lent = pre .lent in
     ended-first (a .shape) (a .counts) (hit (entry w)) (a .wanted) (view (entry w)) (a .ef-search) (a .k) (found h) (opened h) (whole h) (work w) (lentHits w) _ (pre .lent .within .limits)
-            (most-is (entry w)) (pre .lent .within .vectors) (pre .lent .within .entries) (size w) (lent-hits w) (from-is w) (ended h)
-            (a .floats .now) (a .numbers .now) (record { within = lent .within; floats-size = lent .long .floats; numbers-size = lent .long .numbers })
-            (a .ids .now) (a .distances .now) (pre .ids-room) (pre .distances-room)
+    (most-is (entry w)) (pre .lent .within .vectors) (pre .lent .within .entries) (size w) (lent-hits w) (from-is w) (ended h)
+    (a .floats .now) (a .numbers .now) (record { within = lent .within; floats-size = lent .long .floats; numbers-size = lent .long .numbers })
+    (a .ids .now) (a .distances .now) (pre .ids-room) (pre .distances-room)
 
 same-length : tie.Need-same-length
 same-length c = search needs

@@ -570,10 +570,10 @@ push-children-requires c κs =
       floats-size = w .long .floats;
       nodes = record { size = m .holds .size; limits = w .within .limits; room = room k left; queue = m .holds .queue };
       children =
-        record {
-          inside = k .loop .inv .1;
-          held = children-held (e .args .shape) (e .args .counts) (hit e) (view e) (e .args .ef-search) (work p) (w .within .limits) (w .within .nodes) (w .some) (below e) (node p) (children (parent k)) (k .loop .j) (k .loop .work) (turn p .walk .waiting - 1) (turn p .walk .hits) (turn p .walk .opened + 1) (k .loop .inv .2) (all k left);
-        };
+          record {
+            inside = k .loop .inv .1;
+            held = children-held (e .args .shape) (e .args .counts) (hit e) (view e) (e .args .ef-search) (work p) (w .within .limits) (w .within .nodes) (w .some) (below e) (node p) (children (parent k)) (k .loop .j) (k .loop .work) (turn p .walk .waiting - 1) (turn p .walk .hits) (turn p .walk .opened + 1) (k .loop .inv .2) (all k left);
+          };
     }
 
 add-waiting : tie.Need-add-waiting Inv-loop μ-loop Inv-walk μ-walk

@@ -3,7 +3,7 @@ use Rattle.best_first_walk.proofs.Pushing.{child-held, node-is}
 use Rattle.lists.specs.Parts.{four-mapped}
 use Rattle.best_first_walk.specs.Walks.{nodeFor, PushNodes, PushedNodes}
 use Rattle.best_first_walk.specs.WalksLaws.{pushed-append}
-use Rattle.distance.specs.TotalOrder.{keyOf}
+use Rattle.total_order.specs.TotalOrder.{keyOf}
 use Rattle.order.specs.Records.{records, Heap}
 use Rattle.walk.specs.LentLaws.{vector-within}
 use lib.ListN.{length}

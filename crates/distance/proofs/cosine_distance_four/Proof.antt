@@ -8,7 +8,7 @@ use lib.Dec.{T, eqb, eqb→eq}
 use lib.ListN.{length}
 use lib.Ieee.{Float, binary32, sub}
 use lib.Ieee.Fits.{and-l, and-r}
-use Rattle.distance.specs.Vector.{dot}
+use Rattle.vector.specs.Vector.{dot}
 use Rattle.distance.specs.Distance.{one32, distance}
 use Rattle.distance.specs.DistanceLaws.{distance-alike}
 use Rattle.distance.proofs.cosine_distance_four.Statement.{statement}

@@ -5,7 +5,7 @@ use native.Mathlib.Omega.{arith}
 use borrow.Author.Needs.{needs}
 use denote.Ref.{now}
 use lib.ListN.{length}
-use Rattle.distance.specs.Vector.{dot, zero32}
+use Rattle.vector.specs.Vector.{dot, zero32}
 use Rattle.distance.proofs.Steps.{Due, due-four}
 use Rattle.distance.proofs.dot_four.Statement.{statement}
 use Rattle.distance.proofs.dot_four.Tie as tie

@@ -4,7 +4,7 @@ use mathlib.Core.Path.{refl}
 use native.Mathlib.Omega.{arith}
 use borrow.Author.Needs.{needs}
 use lib.ListN.{length, drop}
-use Rattle.distance.specs.Vector.{dotFrom}
+use Rattle.vector.specs.Vector.{dotFrom}
 use Rattle.distance.proofs.Steps.{Due, due-step, due-end}
 use Rattle.distance.proofs.rest_four.Statement.{statement}
 use Rattle.distance.proofs.rest_four.Tie as tie

@@ -4,7 +4,7 @@ use mathlib.Core.Path.{_≡_, refl}
 use native.Mathlib.Omega.{arith}
 use lib.ListN.{length, take, replicate, length-replicate, length-set}
 use lib.Seq.{sets}
-use Rattle.distance.specs.Vector.{zero32}
+use Rattle.vector.specs.Vector.{zero32}
 use Rattle.lists.specs.Writes.{write-end}
 use Rattle.cluster.proofs.Components.{zero-turn}
 use Rattle.cluster.proofs.part.zero.Statement.{statement}

@@ -4,7 +4,7 @@ use mathlib.Core.Path.{subst}
 use native.Mathlib.Omega.{arith}
 use lib.Ieee.{Float}
 use lib.ListN.{length}
-use Rattle.distance.specs.Vector.{Normalized}
+use Rattle.vector.specs.Vector.{Normalized}
 use Rattle.lists.specs.Parts.{lent-part}
 use Rattle.curator.specs.StateLaws.{length-stored}
 use borrow.Author.Needs.{needs}

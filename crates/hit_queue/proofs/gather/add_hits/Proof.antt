@@ -33,7 +33,7 @@ add-entries-requires c κs =
       owners-held = omega (arith, c .before .owners-at .ensures, e .pre .within .entries, e .pre .numbers-size);
       hashes-held = omega (arith, e .pre .within .entries, e .pre .hashes-size);
       hits =
-        subst (λ (w : Wanted). AddHits (a .numbers .now) (a .found .now) (a .before) (most w (a .counts)) (a .block .start) (a .block .count)) (c .before .before .before .wanted .given .1) (e .pre .hits);
+          subst (λ (w : Wanted). AddHits (a .numbers .now) (a .found .now) (a .before) (most w (a .counts)) (a .block .start) (a .block .count)) (c .before .before .before .wanted .given .1) (e .pre .hits);
     }
 
 same-length : tie.Need-same-length

@@ -1,5 +1,5 @@
 -- `distance_key` meets its contract. Assumes nothing.
-use Rattle.distance.specs.TotalOrder.{keyOf}
+use Rattle.total_order.specs.TotalOrder.{keyOf}
 use mathlib.Core.Path.{ap, _∙_}
 use borrow.Author.Needs.{needs}
 use Rattle.hit_queue.proofs.vectors.distance_key.Statement.{statement}

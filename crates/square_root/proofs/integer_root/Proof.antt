@@ -1,0 +1,44 @@
+-- `integer_root` meets its contract. The invariant: s is not below the root. The measure is s, which a step makes less.
+use Prim.Native.Nat.{_+_, _*_, _^_, _<_, _≤_}
+use native.Mathlib.Nat.{div-le-self}
+use native.Mathlib.Omega.{arith}
+use Rattle.square_root.proofs.Newton.{step-positive, step-below, step-above}
+use Rattle.square_root.specs.RootLaws.{square-le}
+use Rattle.square_root.proofs.integer_root.Statement.{statement}
+use Rattle.square_root.proofs.integer_root.Tie as tie
+
+abbrev Inv-loop : tie.InvT-loop
+Inv-loop n s₀ s = (s ≤ 2 ^ 25) × (n < (s + 1) * (s + 1))
+
+abbrev μ-loop : tie.MeasureT-loop
+μ-loop n s₀ s = s
+
+loop-holds : tie.Need-loop-holds Inv-loop μ-loop
+loop-holds c = (omega arith, omega (arith, c .pre))
+
+mul-loop : tie.Need-mul-loop Inv-loop μ-loop
+mul-loop c = omega (arith, square-le (c .loop .inv .0))
+
+div-s : tie.Need-div-s Inv-loop μ-loop
+div-s c = step-positive (c .before .before .args .n) (c .before .loop .s) (c .loop-test .taken)
+
+add-s : tie.Need-add-s Inv-loop μ-loop
+add-s c = omega (arith, c .before .loop .inv .0, c .before .before .pre, div-le-self (c .before .before .args .n) (c .before .loop .s))
+
+loop-less : tie.Need-loop-less Inv-loop μ-loop
+loop-less c = step-below (c .before .before .args .n) (c .before .loop .s) (c .loop-test .taken)
+
+loop-again : tie.Need-loop-again Inv-loop μ-loop
+loop-again c =
+    let n = c .before .before .args .n in
+    let s = c .before .loop .s in
+    let low = step-below n s (c .loop-test .taken) in
+    (omega (arith, low, c .before .loop .inv .0), step-above n s (step-positive n s (c .loop-test .taken)))
+
+returns : tie.Need-returns Inv-loop μ-loop
+returns c = (c .loop-test .left, c .before .loop .inv .1)
+
+pub integer-root-spec : {M : Type 1} → statement M
+integer-root-spec =
+    tie.close
+    (tie.spec Inv-loop μ-loop loop-holds mul-loop div-s add-s loop-less loop-again returns)

@@ -1,0 +1,2 @@
+-- Lemmas of the proofs in `vector`.
+pub mod Steps
