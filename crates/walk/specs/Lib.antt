@@ -10,6 +10,7 @@ pub mod Trials
 pub mod WalkLaws
 pub mod SoundWalk
 pub mod AnswerLaws
+pub mod PackedLaws
 pub mod WantedLaws
 pub mod StoreViewLaws
 pub mod LentLaws
