@@ -29,6 +29,7 @@ use Rattle.curator.specs.Lent.{AddRoom}
 use Rattle.curator.specs.RowLaws.{NoneHolds, fine-none, rowsOfAdd, add-check-rows}
 use Rattle.curator.specs.StateLaws.{Sound, sound-facts, facts-sound}
 use Rattle.lists.specs.Tests.{and-both}
+use Rattle.curator.specs.OutcomeLaws.{carried-is, refused-is}
 
 -- What an accepted add was asked of, as plain facts.
 pub record Accepted (index : CuratorIndex) (store : Store) (call : AddCall) : Type 0 where
@@ -75,8 +76,8 @@ adds-accepted index store call index′ store′ h = by (addCheck index store ca
   where
     by : (check : Check) → addCheck index store call ≡ check → AddsBy check index store call (Changed′.Index index′) store′
         → (addCheck index store call ≡ Fine) × (index′ ≡ grown index (length (call .lengths))) × Wrote index store call store′
-    by Fine e (a, w) = (e, (cc), w)
-    by (Refused r) e (a, w) = let z : _≡_ {A = ℕ} 0 1 = cc in absurd (omega arith)
+    by Fine e (a, w) = let same = carried-is (grown index (length (call .lengths))) (Changed′.Index index′) a in (e, (cc), w)
+    by (Refused r) e (a, w) = let same = refused-is r (Changed′.Index index′) a in let z : _≡_ {A = ℕ} 0 1 = cc in absurd (omega arith)
 
 -- a refused add changes nothing
 pub adds-refused : (index : CuratorIndex) (store : Store) (call : AddCall) (r : Refusal) (store′ : Store)
@@ -86,8 +87,9 @@ adds-refused index store call r store′ h = by (addCheck index store call) refl
   where
     by : (check : Check) → addCheck index store call ≡ check → AddsBy check index store call (Changed′.Refused r) store′
         → (addCheck index store call ≡ Refused r) × (store′ ≡ store)
-    by Fine e (a, w) = let z : _≡_ {A = ℕ} 0 1 = cc in absurd (omega arith)
-    by (Refused q) e (a, w) = (e ∙ (cc), w)
+    by Fine e (a, w) =
+        let same = carried-is (grown index (length (call .lengths))) (Changed′.Refused r) a in let z : _≡_ {A = ℕ} 0 1 = cc in absurd (omega arith)
+    by (Refused q) e (a, w) = let same = refused-is q (Changed′.Refused r) a in (e ∙ (cc), w)
 
 -- ---- soundness
 

@@ -22,7 +22,7 @@ use Rattle.curator.specs.declared.CuratorParams.{CuratorParams}
 use Rattle.curator.specs.declared.refusal.Refusal.the-variants.{Settings}
 use Rattle.curator.specs.declared.refusal.SettingsRefusal.the-variants.{InvalidDimension, InvalidConfig}
 use Rattle.curator.specs.AddLaws.{adds-by}
-use Rattle.curator.specs.Calls.{factsOf, builtWith}
+use Rattle.curator.specs.Calls.{factsOf, builtWith, grown}
 use Rattle.store.specs.Lent.{lengthsOf}
 use Rattle.curator.specs.Changes.{newAnswer, created, addCheck, AddsBy, Adds}
 use Rattle.curator.specs.Arguments.{AddCall, SearchCall, askingOf}
@@ -30,6 +30,7 @@ use Rattle.curator.specs.Changes.{ownersDamaged, tooManyNodes, buildChec
 use Rattle.curator.specs.Limits.{dimensionAllowed, paramsAllowed, capacitiesAllowed, countsAllowed, builtAllowed, stateSound, indexShape}
 use Rattle.curator.specs.Rows.{Row, row, firstOf, stateRow, newRows, addRows, buildRows, searchRows}
 use Rattle.curator.specs.Searches.{SearchEnd, wantedOf, searchCheck, WalkedTo, SearchesBy, Searches}
+use Rattle.curator.specs.OutcomeLaws.{is-carried, carried-is, is-refused, refused-is}
 
 -- the same with another beam width
 abbrev pub paramsWithBeam : ℕ → CuratorParams → CuratorParams
@@ -112,10 +113,10 @@ adds-beam beam index store call answer store′ h g adds =
     by : (check : Check) → AddsBy check index store call answer store′
         → AddsBy check (withBeam beam index) store call (answerWithBeam beam answer) store′
     by Fine (e, w) = (
-      ap (answerWithBeam beam) e,
+      is-carried _ _ (ap (answerWithBeam beam) (carried-is (grown index (length (call .lengths))) answer e)),
       record { stored = w .stored; normalized = w .normalized; floats = w .floats; numbers = w .numbers; hashes = w .hashes },
     )
-    by (Refused r) (e, same) = (ap (answerWithBeam beam) e, same)
+    by (Refused r) (e, same) = (is-refused r _ (ap (answerWithBeam beam) (refused-is r answer e)), same)
 
 -- ---- build
 
@@ -146,10 +147,11 @@ builds-beam beam index store work answer store′ work′ h g builds =
 
     fine : (built : Bool) → BuildsFine built index store work answer store′ work′
         → BuildsFine built (withBeam beam index) store work (answerWithBeam beam answer) store′ work′
-    fine true (e, same, lent) = (ap (answerWithBeam beam) e, same, lent)
+    fine true (e, same, lent) = (is-carried _ _ (ap (answerWithBeam beam) (carried-is index answer e)), same, lent)
     fine false (e, w) = (
-      ap (answerWithBeam beam) e
-          ∙ ap (λ (n : List Node). Changed′.Index (builtWith (withBeam beam index) (length n))) (sym nodes),
+      is-carried _ _
+          (ap (answerWithBeam beam) (carried-is (builtWith index (length (heldNodes index store))) answer e)
+          ∙ ap (λ (n : List Node). Changed′.Index (builtWith (withBeam beam index) (length n))) (sym nodes)),
       record {
         centres = w .centres;
         centres-length = w .centres-length;
@@ -164,7 +166,7 @@ builds-beam beam index store work answer store′ work′ h g builds =
         → BuildsBy check (withBeam beam index) store work (answerWithBeam beam answer) store′ work′
     by Fine w = fine (index .built) w
     by (Refused r) (e, l) =
-        (ap (answerWithBeam beam) e, record { floats = l .floats; numbers = l .numbers; hashes = l .hashes; work = l .work })
+        (is-refused r _ (ap (answerWithBeam beam) (refused-is r answer e)), record { floats = l .floats; numbers = l .numbers; hashes = l .hashes; work = l .work })
 
 -- ---- search
 

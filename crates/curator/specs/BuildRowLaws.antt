@@ -20,7 +20,7 @@ use Rattle.curator.specs.Calls.{factsOf, heldVectors, splittingOf}
 use Rattle.store.specs.Lent.{lengthsOf, listsShort}
 use Rattle.curator.specs.Changes.{ownersDamaged, tooManyNodes, buildCheck, BuildsFine, BuildsBy, Builds}
 use Rattle.curator.specs.Limits.{stateSound, indexShape}
-use Rattle.curator.specs.Outcome.{checkNumber, changedNumber}
+use Rattle.curator.specs.Outcome.{checkNumber, changedNumber, Carried}
 use Rattle.curator.specs.RowLaws.{NoneHolds, FirstAt, numbersOfRows, different, none-fine, fine-none, zero-fine, returned-exactly, test-failed, test-passed}
 use Rattle.curator.specs.Rows.{Row, firstOf, stateRow, buildRows}
 
@@ -66,12 +66,12 @@ module _ (index : CuratorIndex) (store : Store) (work : List ℕ) (answer : Chan
   builds-number = by (buildCheck index store work) builds ∙ ap checkNumber (build-check-rows index store work)
     where
       fine : (built : Bool) → BuildsFine built index store work answer store′ work′ → changedNumber answer ≡ 0
-      fine true (e, same, lent) = ap changedNumber e
-      fine false (e, laid) = ap changedNumber e
+      fine true (e, same, lent) = e .number-is
+      fine false (e, laid) = e .number-is
 
       by : (check : Check) → BuildsBy check index store work answer store′ work′ → changedNumber answer ≡ checkNumber check
       by Fine h = fine (index .built) h
-      by (Refused r) (e, left) = ap changedNumber e
+      by (Refused r) (e, left) = e .number-is
 
   -- each of the numbers exactly if its row's case holds and no earlier row's does
   pub build-returned : (i : ℕ) → i < 5 → (changedNumber answer ≡ getD buildNumbers i 0) ↔ FirstAt (rowsOfBuild index store work) i
@@ -163,7 +163,7 @@ module _ (index : CuratorIndex) (store : Store) (work : List ℕ) (answer : Chan
       )
 
   -- 'a built index then succeeds unchanged'
-  pub build-built : Asked (index .built ≡ true) → (answer ≡ Changed′.Index index) × (store′ ≡ store) × (work′ ≡ work)
+  pub build-built : Asked (index .built ≡ true) → Carried index answer × (store′ ≡ store) × (work′ ≡ work)
   unfolding Builds BuildsBy BuildsFine buildRows
   build-built (sound, (long, built)) =
       subst (λ (b : Bool). BuildsFine b index store work answer store′ work′) built

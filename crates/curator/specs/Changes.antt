@@ -25,6 +25,7 @@ use Rattle.curator.specs.declared.refusal.Refusal.{Refusal}
 use Rattle.curator.specs.declared.refusal.Refusal.the-variants as Refusal′
 use Rattle.curator.specs.declared.refusal.StoreRefusal.{StoreRefusal}
 use Rattle.curator.specs.declared.refusal.StoreRefusal.the-variants.{ListTooShort, VectorsFull, EntriesFull, NodesFull, Damaged}
+use Rattle.curator.specs.Outcome.{Carried, ChangeRefused}
 use Rattle.curator.specs.Limits.{stateSound, indexShape}
 use Rattle.store.specs.Lent.{lengthsOf}
 use Rattle.curator.specs.Arguments.{AddCall}
@@ -92,14 +93,23 @@ pub record Left (s : Shape) (r : Refusal) (store : Store) (lent : List ℕ) (sto
 
 -- ---- new
 
+-- what `new` answers
 unfoldable pub newAnswer : Check → ℕ → CuratorParams → Capacities → Changed
 newAnswer Check′.Fine dimension params capacities = Changed′.Index (fresh dimension params capacities)
 newAnswer (Check′.Refused r) dimension params capacities = Changed′.Refused r
 
--- what `new` answers
 unfoldable pub created : ℕ → CuratorParams → Capacities → Changed
 unfolding newAnswer firstOf newRows
 created dimension params capacities = newAnswer (firstOf (newRows dimension params capacities)) dimension params capacities
+
+unfoldable pub NewBy : Check → ℕ → CuratorParams → Capacities → Changed → Type 0
+NewBy Check′.Fine dimension params capacities answer = Carried (fresh dimension params capacities) answer
+NewBy (Check′.Refused r) dimension params capacities answer = ChangeRefused r answer
+
+-- the whole result of `new`
+unfoldable pub Creates : ℕ → CuratorParams → Capacities → Changed → Type 0
+unfolding NewBy firstOf newRows
+Creates dimension params capacities answer = NewBy (firstOf (newRows dimension params capacities)) dimension params capacities answer
 
 -- ---- add
 
@@ -121,8 +131,8 @@ pub record Wrote (index : CuratorIndex) (store : Store) (call : AddCall) (store�
 
 unfoldable pub AddsBy : Check → CuratorIndex → Store → AddCall → Changed → Store → Type 0
 AddsBy Check′.Fine index store call answer store′ =
-    (answer ≡ Changed′.Index (grown index (length (call .lengths)))) × Wrote index store call store′
-AddsBy (Check′.Refused r) index store call answer store′ = (answer ≡ Changed′.Refused r) × (store′ ≡ store)
+    Carried (grown index (length (call .lengths))) answer × Wrote index store call store′
+AddsBy (Check′.Refused r) index store call answer store′ = ChangeRefused r answer × (store′ ≡ store)
 
 -- the whole result of an add: state, store and call at entry; answer and store at exit
 unfoldable pub Adds : CuratorIndex → Store → AddCall → Changed → Store → Type 0
@@ -163,15 +173,15 @@ pub record LaidOut (index : CuratorIndex) (store : Store) (lent : List ℕ) (sto
   pub work : Freed (workPart (indexShape index) ∷ []) lent lent′
 
 unfoldable pub BuildsFine : Bool → CuratorIndex → Store → List ℕ → Changed → Store → List ℕ → Type 0
-BuildsFine true index store work answer store′ work′ = (answer ≡ Changed′.Index index) × (store′ ≡ store) × (work′ ≡ work)
+BuildsFine true index store work answer store′ work′ = Carried index answer × (store′ ≡ store) × (work′ ≡ work)
 BuildsFine false index store work answer store′ work′ =
-    (answer ≡ Changed′.Index (builtWith index (length (heldNodes index store)))) × LaidOut index store work store′ work′
+    Carried (builtWith index (length (heldNodes index store))) answer × LaidOut index store work store′ work′
 
 unfoldable pub BuildsBy : Check → CuratorIndex → Store → List ℕ → Changed → Store → List ℕ → Type 0
 unfolding BuildsFine
 BuildsBy Check′.Fine index store work answer store′ work′ = BuildsFine (index .built) index store work answer store′ work′
 BuildsBy (Check′.Refused r) index store work answer store′ work′ =
-    (answer ≡ Changed′.Refused r) × Left (indexShape index) r store work store′ work′
+    ChangeRefused r answer × Left (indexShape index) r store work store′ work′
 
 -- the whole result of a build: state, store and work at entry; answer, store and work at exit
 unfoldable pub Builds : CuratorIndex → Store → List ℕ → Changed → Store → List ℕ → Type 0

@@ -30,6 +30,7 @@ use Rattle.curator.specs.Limits.{stateSound, indexShape}
 use Rattle.curator.specs.Rows.{firstOf, stateRow, addRows}
 use Rattle.store.specs.declared.Lengths.{Lengths}
 use Rattle.curator.specs.StateLaws.{length-stored}
+use Rattle.curator.specs.OutcomeLaws.{carried-is, is-carried, refused-is, is-refused}
 
 -- ---- lists
 
@@ -187,8 +188,8 @@ adds-is index store call answer store′ h = by (addCheck index store call) h
   where
     by : (check : Check) → AddsBy check index store call answer store′
         → (answer ≡ addedAnswer check index call) × (store′ ≡ addedStore check index store call)
-    by Fine (e, w) = (e, wrote-added index store call store′ w)
-    by (Refused r) h = h
+    by Fine (e, w) = (carried-is (grown index (length (call .lengths))) answer e, wrote-added index store call store′ w)
+    by (Refused r) (e, same) = (refused-is r answer e, same)
 
 -- every call has a result
 pub adds-has : (index : CuratorIndex) (store : Store) (call : AddCall)
@@ -197,8 +198,8 @@ unfolding Adds AddsBy
 adds-has index store call = by (addCheck index store call)
   where
     by : (check : Check) → AddsBy check index store call (addedAnswer check index call) (addedStore check index store call)
-    by Fine = (refl, added-wrote index store call)
-    by (Refused r) = (refl, refl)
+    by Fine = (is-carried (grown index (length (call .lengths))) (addedAnswer Fine index call) refl, added-wrote index store call)
+    by (Refused r) = (is-refused r (Changed′.Refused r) refl, refl)
 
 -- ---- 'Parts past the counts held are never read'
 

@@ -28,9 +28,10 @@ use Rattle.curator.specs.declared.refusal.StoreRefusal.the-variants.{Lis
 use Rattle.curator.specs.Outcome.{number, checkNumber, changedNumber}
 use Rattle.curator.specs.Limits.{stateSound}
 use Rattle.curator.specs.Rows.{Row, firstOf, newRows, stateRow, addRows}
-use Rattle.curator.specs.Calls.{factsOf}
+use Rattle.curator.specs.Calls.{factsOf, fresh}
 use Rattle.store.specs.Lent.{lengthsOf}
-use Rattle.curator.specs.Changes.{created, newAnswer, addCheck, AddsBy, Adds}
+use Rattle.curator.specs.Changes.{created, newAnswer, addCheck, AddsBy, Adds, Creates, NewBy}
+use Rattle.curator.specs.OutcomeLaws.{carried-is, is-carried, refused-is, is-refused}
 use Rattle.curator.specs.Arguments.{AddCall}
 
 -- ---- one row
@@ -247,13 +248,32 @@ created-number dimension params capacities = by (firstOf (newRows dimension para
     by Fine = refl
     by (Refused r) = refl
 
+-- the answer of `new`, as its relation says it, and the other way round
+pub creates-is : (dimension : ℕ) (params : CuratorParams) (capacities : Capacities) (answer : Changed) → Creates dimension params capacities answer
+    → answer ≡ created dimension params capacities
+unfolding Creates NewBy created newAnswer
+creates-is dimension params capacities answer h = by (firstOf (newRows dimension params capacities)) h
+  where
+    by : (check : Check) → NewBy check dimension params capacities answer → answer ≡ newAnswer check dimension params capacities
+    by Fine c = carried-is (fresh dimension params capacities) answer c
+    by (Refused r) c = refused-is r answer c
+
+pub is-created : (dimension : ℕ) (params : CuratorParams) (capacities : Capacities) (answer : Changed) → answer ≡ created dimension params capacities
+    → Creates dimension params capacities answer
+unfolding Creates NewBy created newAnswer
+is-created dimension params capacities answer e = by (firstOf (newRows dimension params capacities)) e
+  where
+    by : (check : Check) → answer ≡ newAnswer check dimension params capacities → NewBy check dimension params capacities answer
+    by Fine c = is-carried (fresh dimension params capacities) answer c
+    by (Refused r) c = is-refused r answer c
+
 -- each of the numbers 1 and 2 exactly if its row's case holds and no earlier row's does
-pub new-returned : (dimension : ℕ) (params : CuratorParams) (capacities : Capacities) (i : ℕ) → i < 2
-    → (changedNumber (created dimension params capacities) ≡ getD (1 ∷ 2 ∷ []) i 0) ↔ FirstAt (newRows dimension params capacities) i
+pub new-returned : (dimension : ℕ) (params : CuratorParams) (capacities : Capacities) (answer : Changed) → Creates dimension params capacities answer
+    → (i : ℕ) → i < 2 → (changedNumber answer ≡ getD (1 ∷ 2 ∷ []) i 0) ↔ FirstAt (newRows dimension params capacities) i
 unfolding different
-new-returned dimension params capacities i h =
+new-returned dimension params capacities answer new i h =
     returned-exactly (newRows dimension params capacities) (1 ∷ 2 ∷ []) (new-order dimension params capacities) refl _
-    (created-number dimension params capacities)
+    (ap changedNumber (creates-is dimension params capacities answer new) ∙ created-number dimension params capacities)
     i
     h
 
@@ -280,8 +300,8 @@ unfolding Adds AddsBy
 adds-number index store call answer store′ h = by (addCheck index store call) h
   where
     by : (check : Check) → AddsBy check index store call answer store′ → changedNumber answer ≡ checkNumber check
-    by Fine (e, wrote) = ap changedNumber e
-    by (Refused r) (e, same) = ap changedNumber e
+    by Fine (e, wrote) = e .number-is
+    by (Refused r) (e, same) = e .number-is
 
 -- each of the numbers exactly if its row's case holds and no earlier row's does
 pub add-returned : (index : CuratorIndex) (store : Store) (call : AddCall) (answer : Changed) (store′ : Store)

@@ -29,6 +29,7 @@ use Rattle.curator.specs.Searches.{SearchEnd, wantedOf, searchCheck, Wal
 use Rattle.curator.specs.Arguments.{SearchCall}
 use Rattle.curator.specs.StateLaws.{sound-facts}
 use Rattle.lists.specs.Tests.{and-both}
+use Rattle.curator.specs.OutcomeLaws.{search-refused-is, found-is}
 
 -- two ends of a search with the same answer and the same answer lists; the work lists are free
 pub record SameEnd (a b : SearchEnd) : Type 0 where
@@ -68,8 +69,8 @@ some-node index store work call f =
 module _ (index : CuratorIndex) (call : SearchCall) (work other : List ℕ) (a b : SearchEnd) where
   ended : (state : State) → WalkedTo state index work call a → WalkedTo state index other call b → SameEnd a b
   unfolding WalkedTo
-  ended damaged x y = record { answer = x .answer ∙ sym (y .answer); ids = x .ids ∙ sym (y .ids); distances = x .distances ∙ sym (y .distances) }
-  ended (going p) x y = record { answer = x .answer ∙ sym (y .answer); ids = x .ids ∙ sym (y .ids); distances = x .distances ∙ sym (y .distances) }
+  ended damaged x y = record { answer = search-refused-is _ _ (x .answer) ∙ sym (search-refused-is _ _ (y .answer)); ids = x .ids ∙ sym (y .ids); distances = x .distances ∙ sym (y .distances) }
+  ended (going p) x y = record { answer = found-is _ _ _ _ (x .answer) ∙ sym (found-is _ _ _ _ (y .answer)); ids = x .ids ∙ sym (y .ids); distances = x .distances ∙ sym (y .distances) }
 
   -- by the walk for the normalised query
   walked-of : (store : Store) (work : List ℕ) (end : SearchEnd) → Walked index store work call end → WalkedTo (walkOf index store call) index work call end
@@ -91,4 +92,4 @@ module _ (index : CuratorIndex) (call : SearchCall) (work other : List ℕ) (a b
           ended (walkOf index s call) (walked-of s work a w)
           (subst (λ (state : State). WalkedTo state index other call b) (sym walks) (walked-of t other b v))
       by (Refused r) f u v =
-          record { answer = u .answer ∙ sym (v .answer); ids = u .ids ∙ sym (v .ids); distances = u .distances ∙ sym (v .distances) }
+          record { answer = search-refused-is _ _ (u .answer) ∙ sym (search-refused-is _ _ (v .answer)); ids = u .ids ∙ sym (v .ids); distances = u .distances ∙ sym (v .distances) }

@@ -114,8 +114,8 @@ module _ (index : CuratorIndex) (store : Store) (work : List ℕ) (call : Search
 
       walked : (state : State) → walkOf index store call ≡ state → WalkedTo state index work call end
           → foundNumber (end .answer) ≡ checkNumber (firstOf (last ∷ []))
-      walked damaged e w = ap foundNumber (w .answer) ∙ ap checkNumber (sym (row-stops last [] (ap isDamaged e)))
-      walked (going p) e w = ap foundNumber (w .answer) ∙ ap checkNumber (sym (row-passes last [] (ap isDamaged e) ∙ no-rows))
+      walked damaged e w = w .answer .number-is ∙ ap checkNumber (sym (row-stops last [] (ap isDamaged e)))
+      walked (going p) e w = w .answer .number-is ∙ ap checkNumber (sym (row-passes last [] (ap isDamaged e) ∙ no-rows))
 
       by : (check : Check) → firstOf (earlyRows index store work call) ≡ check → SearchesBy check index store work call end
           → foundNumber (end .answer) ≡ checkNumber (firstOf (rowsOfSearch index store work call))
@@ -123,7 +123,7 @@ module _ (index : CuratorIndex) (store : Store) (work : List ℕ) (call : Search
           let same = ap (λ (query : List Float). walkFor index store call query) (normalized-is (call .question .query) (w .query) (w .normalized)) in
           walked (walkFor index store call (w .query)) (sym same) (w .walked)
           ∙ ap checkNumber (sym (rows-then (earlyRows index store work call) (last ∷ []) Fine e))
-      by (Refused r) e u = ap foundNumber (u .answer) ∙ ap checkNumber (sym (rows-then (earlyRows index store work call) (last ∷ []) (Refused r) e))
+      by (Refused r) e u = u .answer .number-is ∙ ap checkNumber (sym (rows-then (earlyRows index store work call) (last ∷ []) (Refused r) e))
 
   -- each of the numbers exactly if its row's case holds and no earlier row's does
   pub search-returned : (i : ℕ) → i < 7 → (foundNumber (end .answer) ≡ getD searchNumbers i 0) ↔ FirstAt (rowsOfSearch index store work call) i

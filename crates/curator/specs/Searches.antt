@@ -17,9 +17,10 @@ use Rattle.curator.specs.declared.CuratorIndex.{CuratorIndex}
 use Rattle.curator.specs.declared.Check.{Check}
 use Rattle.curator.specs.declared.Check.the-variants as Check′
 use Rattle.curator.specs.declared.Found.{Found}
-use Rattle.curator.specs.declared.Found.the-variants as Found′
+use Rattle.curator.specs.declared.refusal.Refusal.{Refusal}
 use Rattle.curator.specs.declared.refusal.Refusal.the-variants as Refusal′
 use Rattle.curator.specs.declared.refusal.StoreRefusal.the-variants as StoreRefusal′
+use Rattle.curator.specs.Outcome.{SearchFound, SearchRefused}
 use Rattle.curator.specs.Limits.{stateSound, indexShape}
 use Rattle.curator.specs.Arguments.{Asked, everything, labelled, SearchCall, askingOf}
 use Rattle.curator.specs.Rows.{firstOf, stateRow, searchRows}
@@ -46,23 +47,23 @@ searchCheck index store work call =
     (stateRow (stateSound index)
     ∷ searchRows (factsOf index) (lengthsOf store) (length work) (askingOf call))
 
--- nothing but the answer
-pub record Untouched (lent : List ℕ) (call : SearchCall) (found : Found) (end : SearchEnd) : Type 0 where
-  pub answer : end .answer ≡ found
+-- refused, and nothing else
+pub record Untouched (lent : List ℕ) (call : SearchCall) (r : Refusal) (end : SearchEnd) : Type 0 where
+  pub answer : SearchRefused r (end .answer)
   pub work : end .work ≡ lent
   pub ids : end .ids ≡ call .ids
   pub distances : end .distances ≡ call .distances
 
 -- row 15: the answer lists as they were, the work part free
 pub record Broken (index : CuratorIndex) (lent : List ℕ) (call : SearchCall) (end : SearchEnd) : Type 0 where
-  pub answer : end .answer ≡ Found′.Refused (Refusal′.Store StoreRefusal′.Damaged)
+  pub answer : SearchRefused (Refusal′.Store StoreRefusal′.Damaged) (end .answer)
   pub work : Freed (workPart (indexShape index) ∷ []) lent (end .work)
   pub ids : end .ids ≡ call .ids
   pub distances : end .distances ≡ call .distances
 
 -- 'The answer carries the hit count, the nodes opened, and whole or cut'; 'Answer places from the hit count on keep what they held'
 pub record Answered (index : CuratorIndex) (lent : List ℕ) (call : SearchCall) (a : Answer) (end : SearchEnd) : Type 0 where
-  pub answer : end .answer ≡ Found′.Hits (length (a .ids)) (a .opened) (a .complete)
+  pub answer : SearchFound (length (a .ids)) (a .opened) (a .complete) (end .answer)
   pub work : Freed (workPart (indexShape index) ∷ []) lent (end .work)
   pub ids : end .ids ≡ sets (call .ids) 0 (a .ids)
   pub distances : end .distances ≡ sets (call .distances) 0 (a .distances)
@@ -86,7 +87,7 @@ pub record Walked (index : CuratorIndex) (store : Store) (work : List ℕ) (call
 
 unfoldable pub SearchesBy : Check → CuratorIndex → Store → List ℕ → SearchCall → SearchEnd → Type 0
 SearchesBy Check′.Fine index store work call end = Walked index store work call end
-SearchesBy (Check′.Refused r) index store work call end = Untouched work call (Found′.Refused r) end
+SearchesBy (Check′.Refused r) index store work call end = Untouched work call r end
 
 -- the whole result of a search: state, store, work and call at entry; answer, work and answer lists at exit
 unfoldable pub Searches : CuratorIndex → Store → List ℕ → SearchCall → SearchEnd → Type 0

@@ -19,8 +19,8 @@ use Rattle.curator.specs.declared.CuratorIndex.{CuratorIndex}
 use Rattle.curator.specs.declared.CuratorParams.{CuratorParams}
 use Rattle.curator.specs.declared.refusal.Refusal.{Refusal}
 use Rattle.curator.specs.Calls.{fresh}
-use Rattle.curator.specs.Changes.{newAnswer, created}
-use Rattle.curator.specs.RowLaws.{NoneHolds, fine-none, row-passes}
+use Rattle.curator.specs.Changes.{newAnswer, created, Creates}
+use Rattle.curator.specs.RowLaws.{creates-is, NoneHolds, fine-none, row-passes}
 use Rattle.curator.specs.Rows.{Row, firstOf, stateRow, newRows}
 use Rattle.curator.specs.Limits.{every, dimensionAllowed, paramsAllowed, capacitiesAllowed, countsAllowed, builtAllowed, stateSound, indexShape}
 use Rattle.lists.specs.Tests.{and-both}
@@ -173,10 +173,11 @@ facts-sound index s =
 
 -- an accepted `new` returns the fresh state, and no row's case holds
 pub created-accepted : (dimension : ℕ) (params : CuratorParams) (capacities : Capacities) (index : CuratorIndex)
-    → created dimension params capacities ≡ Changed′.Index index
+    → Creates dimension params capacities (Changed′.Index index)
     → (index ≡ fresh dimension params capacities) × NoneHolds (newRows dimension params capacities)
 unfolding created newAnswer
-created-accepted dimension params capacities index e = by (firstOf (newRows dimension params capacities)) refl e
+created-accepted dimension params capacities index h =
+    by (firstOf (newRows dimension params capacities)) refl (sym (creates-is dimension params capacities (Changed′.Index index) h))
   where
     by : (check : Check) → firstOf (newRows dimension params capacities) ≡ check
         → newAnswer check dimension params capacities ≡ Changed′.Index index
@@ -185,9 +186,10 @@ created-accepted dimension params capacities index e = by (firstOf (newRows dime
     by (Check′.Refused r) f g = let z : _≡_ {A = ℕ} 0 1 = cc in absurd (omega arith)
 
 pub created-refused : (dimension : ℕ) (params : CuratorParams) (capacities : Capacities) (r : Refusal)
-    → created dimension params capacities ≡ Changed′.Refused r → firstOf (newRows dimension params capacities) ≡ Check′.Refused r
+    → Creates dimension params capacities (Changed′.Refused r) → firstOf (newRows dimension params capacities) ≡ Check′.Refused r
 unfolding created newAnswer
-created-refused dimension params capacities r e = by (firstOf (newRows dimension params capacities)) e
+created-refused dimension params capacities r h =
+    by (firstOf (newRows dimension params capacities)) (sym (creates-is dimension params capacities (Changed′.Refused r) h))
   where
     by : (check : Check) → newAnswer check dimension params capacities ≡ Changed′.Refused r → check ≡ Check′.Refused r
     by Check′.Fine g = let z : _≡_ {A = ℕ} 0 1 = cc in absurd (omega arith)
@@ -205,7 +207,7 @@ fresh-sound dimension params capacities (d, (s, _)) =
 
 -- 'A state from an accepted `new`' is sound
 pub created-sound : (dimension : ℕ) (params : CuratorParams) (capacities : Capacities) (index : CuratorIndex)
-    → created dimension params capacities ≡ Changed′.Index index → stateSound index ≡ true
+    → Creates dimension params capacities (Changed′.Index index) → stateSound index ≡ true
 created-sound dimension params capacities index e =
     let (f, none) = created-accepted dimension params capacities index e in
     ap stateSound f ∙ fresh-sound dimension params capacities none

@@ -1,7 +1,7 @@
 // The index: settings, state, refusals and the entry points.
 ghost use mathlib.Core.Path.{_≡_};
 ghost use Rattle.curator.specs.Limits.{usual};
-ghost use Rattle.curator.specs.Changes.{created, Adds};
+ghost use Rattle.curator.specs.Changes.{Creates, Adds};
 ghost use Rattle.curator.specs.Lent.{adding};
 ghost use Rattle.store.specs.Lent.{lent};
 
@@ -85,7 +85,7 @@ pub enum Found {
 impl CuratorIndex {
     // An index that holds nothing.
     pub fn new(dimension: usize, params: CuratorParams, capacities: Capacities) -> Changed
-        ensures { λ r. ⌜ r ≡ created dimension params capacities ⌝ }
+        ensures { λ r. ⌜ Creates dimension params capacities r ⌝ }
     {
         if !limits::dimension_allowed(dimension) {
             return Changed::Refused(Refusal::Settings(SettingsRefusal::InvalidDimension));

@@ -12,6 +12,7 @@ use Rattle.store.specs.Lent.{lent}
 use borrow.Author.Needs.{needs}
 use Rattle.curator.proofs.CuratorIndex.add.Statement.{statement}
 use Rattle.curator.proofs.CuratorIndex.add.Tie as tie
+use Rattle.curator.specs.OutcomeLaws.{is-refused, is-carried}
 
 -- the function's entry, from the place where the check is known to be `Fine`
 abbrev entry : tie.After-enum-told → tie.Start
@@ -49,7 +50,7 @@ grown-requires c κs =
 
 returns : tie.Need-returns
 unfolding AddsBy addCheck
-returns c = adds-by _ _ _ _ _ _ (sym (c .before .before .before .add-check .ensures) ∙ c .before .check .given .1) (refl, refl)
+returns c = adds-by _ _ _ _ _ _ (sym (c .before .before .before .add-check .ensures) ∙ c .before .check .given .1) (is-refused _ _ refl, refl)
 
 same-length : tie.Need-same-length
 same-length c = search needs
@@ -64,7 +65,7 @@ returns-2 : tie.Need-returns-2
 unfolding AddsBy
 returns-2 c =
     let wrote = c .before .before .before .before .before .before .before in
-    adds-by _ _ _ _ _ _ (fine (wrote .before .before .before .before)) (ap Index (c .grown .ensures), wrote .write-add .ensures)
+    adds-by _ _ _ _ _ _ (fine (wrote .before .before .before .before)) (is-carried _ _ (ap Index (c .grown .ensures)), wrote .write-add .ensures)
 
 pub add-spec : {M : Type 1} → statement M
 add-spec =

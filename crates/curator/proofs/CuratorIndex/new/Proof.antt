@@ -10,7 +10,7 @@ use Rattle.curator.specs.declared.refusal.Refusal.the-variants.{Settings
 use Rattle.curator.specs.declared.refusal.SettingsRefusal.the-variants.{InvalidDimension, InvalidConfig}
 use Rattle.curator.specs.Changes.{newAnswer, created}
 use Rattle.curator.specs.Limits.{paramsAllowed, capacitiesAllowed}
-use Rattle.curator.specs.RowLaws.{no-rows, row-stops, row-passes}
+use Rattle.curator.specs.RowLaws.{no-rows, row-stops, row-passes, is-created}
 use Rattle.curator.specs.Rows.{Row, firstOf, newRows}
 use Rattle.curator.proofs.CuratorIndex.new.Statement.{statement}
 use Rattle.curator.proofs.CuratorIndex.new.Tie as tie
@@ -63,7 +63,7 @@ dimension-allowed-requires c κs = search needs
 
 returns : tie.Need-returns
 unfolding newAnswer
-returns c = answered (start-1 (c .before)) _ (dimension-stops c)
+returns c = let s = start-1 (c .before) in is-created (s .args .dimension) (s .args .params) (s .args .capacities) _ (answered s _ (dimension-stops c))
 
 params-allowed-requires : tie.Need-params-allowed-requires
 params-allowed-requires c κs = search needs
@@ -73,11 +73,11 @@ capacities-allowed-requires c κs = search needs
 
 returns-2 : tie.Need-returns-2
 unfolding newAnswer
-returns-2 c = answered (start-2 (c .before)) _ (config-stops c)
+returns-2 c = let s = start-2 (c .before) in is-created (s .args .dimension) (s .args .params) (s .args .capacities) _ (answered s _ (config-stops c))
 
 returns-3 : tie.Need-returns-3
 unfolding newAnswer
-returns-3 c = answered (start-2 (c .before)) _ (config-passes c)
+returns-3 c = let s = start-2 (c .before) in is-created (s .args .dimension) (s .args .params) (s .args .capacities) _ (answered s _ (config-passes c))
 
 pub new-spec : {M : Type 1} → statement M
 new-spec =
