@@ -21,6 +21,7 @@ use Rattle.store.specs.Lent.{lengthsOf}
 use Rattle.curator.specs.Changes.{tooManyNodes, buildCheck, heldNodes, LaidOut, BuildsFine, BuildsBy, Builds}
 use Rattle.build.specs.CheckLaws.{earlyRows, fullRow, check-rows}
 use Rattle.build.specs.MakeLaws.{treeSize, too-many-is, length-held}
+use Rattle.curator.specs.OutcomeLaws.{carried-is, refused-is}
 
 -- an accepted build of an unbuilt index leaves the layout of the tree of what is held
 pub builds-accepted : (index : CuratorIndex) (store : Store) (work : List ℕ) (index′ : CuratorIndex) (store′ : Store) (work′ : List ℕ)
@@ -33,8 +34,9 @@ builds-accepted index store work index′ store′ work′ h b = by (buildCheck 
         → (buildCheck index store work ≡ Fine) × (index′ ≡ builtWith index (length (heldNodes index store))) × LaidOut index store work store′ work′
     by Fine e g =
         let (a, l) = subst (λ (t : Bool). BuildsFine t index store work (Changed′.Index index′) store′ work′) b g in
+        let same = carried-is (builtWith index (length (heldNodes index store))) (Changed′.Index index′) a in
         (e, (cc), l)
-    by (Refused r) e (a, l) = let z : _≡_ {A = ℕ} 0 1 = cc in absurd (omega arith)
+    by (Refused r) e (a, l) = let same = refused-is r (Changed′.Index index′) a in let z : _≡_ {A = ℕ} 0 1 = cc in absurd (omega arith)
 
 -- an accepted build of a built index changes nothing
 pub builds-again : (index : CuratorIndex) (store : Store) (work : List ℕ) (index′ : CuratorIndex) (store′ : Store) (work′ : List ℕ)
@@ -45,8 +47,9 @@ builds-again index store work index′ store′ work′ h b = by (buildCheck ind
     by : (check : Check) → BuildsBy check index store work (Changed′.Index index′) store′ work′ → (index′ ≡ index) × (store′ ≡ store) × (work′ ≡ work)
     by Fine g =
         let (a, s, w) = subst (λ (t : Bool). BuildsFine t index store work (Changed′.Index index′) store′ work′) b g in
+        let same = carried-is index (Changed′.Index index′) a in
         ((cc), s, w)
-    by (Refused r) (a, l) = let z : _≡_ {A = ℕ} 0 1 = cc in absurd (omega arith)
+    by (Refused r) (a, l) = let same = refused-is r (Changed′.Index index′) a in let z : _≡_ {A = ℕ} 0 1 = cc in absurd (omega arith)
 
 -- an accepted build of an unbuilt index returns a sound state
 pub builds-sound : (index : CuratorIndex) (store : Store) (work : List ℕ) (index′ : CuratorIndex) (store′ : Store) (work′ : List ℕ)

@@ -40,6 +40,7 @@ use Rattle.build.specs.Asked.{Ready}
 use Rattle.build.specs.CheckLaws.{earlyRows, fullRow, check-rows, checked-rows, ready}
 use Rattle.build.specs.BuildLaws.{builds-accepted}
 use Rattle.build.specs.MakeLaws.{held-vectors}
+use Rattle.curator.specs.OutcomeLaws.{carried-is, refused-is}
 
 -- What a build reads is the same: whether a list is too short, the vectors held, and the owners and hashes of the entries held. Document ids are not
 -- read.
@@ -126,12 +127,12 @@ unfolding Builds BuildsBy BuildsFine answerBy answerFine
 answer-is index store work a store′ work′ h = by (buildCheck index store work) h
   where
     fine : (b : Bool) → BuildsFine b index store work a store′ work′ → a ≡ answerFine b index (heldNodes index store)
-    fine true (e, same, lent) = e
-    fine false (e, laid) = e
+    fine true (e, same, lent) = carried-is index a e
+    fine false (e, laid) = carried-is (builtWith index (length (heldNodes index store))) a e
 
     by : (check : Check) → BuildsBy check index store work a store′ work′ → a ≡ answerBy check index (heldNodes index store)
     by Fine g = fine (index .built) g
-    by (Refused r) (e, left) = e
+    by (Refused r) (e, left) = refused-is r a e
 
 -- ---- what is written
 

@@ -40,6 +40,8 @@ use Rattle.store.specs.Lent.{lengthsOf}
 use Rattle.curator.specs.Changes.{Freed, freeOf, Left, tooManyNodes, buildCheck, heldNodes, LaidOut, BuildsFine, BuildsBy, Builds}
 use Rattle.build.specs.Asked.{buildChecked, Ready}
 use Rattle.build.specs.CheckLaws.{left-alone, check-refused, check-full, check-fine}
+use Rattle.curator.specs.Outcome.{Carried}
+use Rattle.curator.specs.OutcomeLaws.{is-carried, is-refused}
 
 -- ---- what is held, in the words of the crates below
 
@@ -84,7 +86,7 @@ builds-by index store work answer store′ work′ check e h =
     subst (λ (k : Check). BuildsBy k index store work answer store′ work′) (sym e) h
 
 unbuilt-fine : (index : CuratorIndex) (store : Store) (work : List ℕ) (answer : Changed) (store′ : Store) (work′ : List ℕ) → index .built ≡ false
-    → (answer ≡ Changed′.Index (builtWith index (length (heldNodes index store)))) × LaidOut index store work store′ work′
+    → Carried (builtWith index (length (heldNodes index store))) answer × LaidOut index store work store′ work′
     → BuildsFine (index .built) index store work answer store′ work′
 unfolding BuildsFine
 unbuilt-fine index store work answer store′ work′ e h = subst (λ (b : Bool). BuildsFine b index store work answer store′ work′) (sym e) h
@@ -92,7 +94,7 @@ unbuilt-fine index store work answer store′ work′ e h = subst (λ (b : Bool)
 built-fine : (index : CuratorIndex) (store : Store) (work : List ℕ) → index .built ≡ true
     → BuildsFine (index .built) index store work (Changed′.Index index) store work
 unfolding BuildsFine
-built-fine index store work e = subst (λ (b : Bool). BuildsFine b index store work (Changed′.Index index) store work) (sym e) (refl, refl, refl)
+built-fine index store work e = subst (λ (b : Bool). BuildsFine b index store work (Changed′.Index index) store work) (sym e) (is-carried index _ refl, refl, refl)
 
 -- ---- row 13
 
@@ -320,9 +322,9 @@ unfolding BuildsBy
 builds-whole index store work floats′ numbers′ work′ made nodes r a numbers″ hashes″ work″ f =
     let check =
     check-fine index store work (r .passed) (r .unbuilt) (too-many-is index store ∙ le-ltb _ _ (a .fits)) in
-    let laid : (Changed′.Index (builtWith index nodes) ≡ Changed′.Index (builtWith index (length (heldNodes index store))))
+    let laid : Carried (builtWith index (length (heldNodes index store))) (Changed′.Index (builtWith index nodes))
     × LaidOut index store work (record { floats = floats′; numbers = numbers″; hashes = hashes″ }) work″ = (
-      ap (λ (n : ℕ). Changed′.Index (builtWith index n)) (a .count ∙ sym (length-held index store)),
+      is-carried _ _ (ap (λ (n : ℕ). Changed′.Index (builtWith index n)) (a .count ∙ sym (length-held index store))),
       laid-out index store work floats′ numbers′ work′ made r (a .whole) nodes (a .count) (a .fits) numbers″ hashes″ work″ f,
     ) in
     builds-by index store work _ _ _ Fine check (unbuilt-fine index store work _ _ _ (r .unbuilt) laid)
@@ -337,7 +339,7 @@ builds-full index store work floats′ numbers′ work′ made r b e = by (ltb (
         → Builds index store work (Changed′.Refused (Refusal′.Store NodesFull)) (record { floats = floats′; numbers = numbers′; hashes = store .hashes }) work′
     by true h =
         builds-by index store work _ _ _ (Refused (Refusal′.Store NodesFull)) (check-full index store work (r .passed) (r .unbuilt) (too-many-is index store ∙ h))
-        (refl, left-full index store work numbers′ floats′ work′ made r (b .overfull (ltb-true _ _ h)))
+        (is-refused _ _ refl, left-full index store work numbers′ floats′ work′ made r (b .overfull (ltb-true _ _ h)))
     by false h =
         let other : made ≡ Made′.Nodes (treeSize index (store .floats)) = b .whole (ltb-false _ _ h) .answered in
         let z : _≡_ {A = ℕ} 0 1 = cc in
@@ -356,7 +358,7 @@ pub builds-refused : (index : CuratorIndex) (store : Store) (work : List ℕ) (q
     → Builds index store work (Changed′.Refused q) store work
 unfolding BuildsBy
 builds-refused index store work q f =
-    builds-by index store work _ _ _ (Refused q) (check-refused index store work q f) (refl, left-alone index store work q f)
+    builds-by index store work _ _ _ (Refused q) (check-refused index store work q f) (is-refused q _ refl, left-alone index store work q f)
 
 -- ---- the same for a shape that is the index's
 

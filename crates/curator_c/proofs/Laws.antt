@@ -22,6 +22,7 @@ use Rattle.curator_c.specs.declared.state.Held.the-variants.{State, Noth
 use Rattle.curator_c.specs.State.{places, stateList, stateIn}
 use Rattle.curator_c.specs.Results.{invalid, storable, Returns, AddsIn, AddResult, BuildsIn, BuildResult, hitsAsked, withHits, asking, ended, SearchesIn, SearchResult}
 use Rattle.curator_c.specs.ResultLaws.{storable-held}
+use Rattle.curator.specs.OutcomeLaws.{is-refused, is-search-refused}
 
 -- ---- an answer and the state list
 
@@ -51,7 +52,7 @@ unfolding AddsIn
 add-nothing list store call e =
     record {
       answer = Changed′.Refused invalid;
-      adds = subst (λ (held : Held). AddsIn held store call (Changed′.Refused invalid) store) (sym e) (refl, refl);
+      adds = subst (λ (held : Held). AddsIn held store call (Changed′.Refused invalid) store) (sym e) (is-refused invalid _ refl, refl);
       returns = record { number = refl; list = refl };
     }
 
@@ -73,7 +74,7 @@ unfolding BuildsIn
 build-nothing list store work e =
     record {
       answer = Changed′.Refused invalid;
-      builds = subst (λ (held : Held). BuildsIn held store work (Changed′.Refused invalid) store work) (sym e) (refl, refl, refl);
+      builds = subst (λ (held : Held). BuildsIn held store work (Changed′.Refused invalid) store work) (sym e) (is-refused invalid _ refl, refl, refl);
       returns = record { number = refl; list = refl };
     }
 
@@ -99,7 +100,7 @@ search-nothing list store work call values e =
       searches =
           subst (λ (held : Held). SearchesIn held store work (asking values call) (ended (Found′.Refused invalid) work (call .ids) (call .distances)))
           (sym e)
-          (record { answer = refl; work = refl; ids = refl; distances = refl });
+          (record { answer = is-search-refused invalid _ refl; work = refl; ids = refl; distances = refl });
       number = refl;
       values = refl;
     }

@@ -15,7 +15,7 @@ use Rattle.curator.specs.declared.CuratorIndex.{CuratorIndex}
 use Rattle.curator.specs.declared.Found.{Found}
 use Rattle.curator.specs.declared.Found.the-variants as Found′
 use Rattle.curator.specs.Limits.{stateSound}
-use Rattle.curator.specs.Outcome.{foundNumber, foundValues}
+use Rattle.curator.specs.Outcome.{foundNumber, foundValues, ChangeRefused}
 use Rattle.curator.specs.Rows.{stateRow, addRows, buildRows, searchRows}
 use Rattle.curator.specs.RowLaws.{row-stops}
 use Rattle.curator.specs.Calls.{factsOf}
@@ -27,6 +27,7 @@ use Rattle.curator_c.specs.declared.state.Held.{Held}
 use Rattle.curator_c.specs.declared.state.Held.the-variants.{State, Nothing}
 use Rattle.curator_c.specs.State.{stateIn}
 use Rattle.curator_c.specs.Results.{invalid, Returns, AddsIn, AddResult, BuildsIn, BuildResult, asking, ended, SearchesIn, SearchResult}
+use Rattle.curator.specs.OutcomeLaws.{search-refused-is, refused-is}
 
 -- whether a list holds a sound state
 unfoldable pub soundIn : Held → Bool
@@ -66,11 +67,11 @@ pub add-invalid : (state : List ℕ) (store : Store) (call : AddCall) (n : ℕ) 
 unfolding soundIn AddsIn Adds AddsBy
 add-invalid state store call n state′ store′ u result =
     let (refused, kept) = by (stateIn state) u (result .adds) in
-    let (number, list) = refused-invalid (result .answer) state n state′ refused (result .returns) in
+    let (number, list) = refused-invalid (result .answer) state n state′ (refused-is invalid (result .answer) refused) (result .returns) in
     (number, list, kept)
   where
     by : (held : Held) → soundIn held ≡ false → AddsIn held store call (result .answer) store′
-        → (result .answer ≡ Changed′.Refused invalid) × (store′ ≡ store)
+        → ChangeRefused invalid (result .answer) × (store′ ≡ store)
     by Nothing e adds = adds
     by (State index) e adds =
         subst (λ (check : Check). AddsBy check index store call (result .answer) store′) (add-first index store call e) adds
@@ -87,11 +88,11 @@ pub build-invalid : (state : List ℕ) (store : Store) (work : List ℕ) (n : �
 unfolding soundIn BuildsIn Builds BuildsBy Freed freeOf
 build-invalid state store work n state′ store′ work′ u result =
     let (refused, kept, free) = by (stateIn state) u (result .builds) in
-    let (number, list) = refused-invalid (result .answer) state n state′ refused (result .returns) in
+    let (number, list) = refused-invalid (result .answer) state n state′ (refused-is invalid (result .answer) refused) (result .returns) in
     (number, list, kept, free)
   where
     by : (held : Held) → soundIn held ≡ false → BuildsIn held store work (result .answer) store′ work′
-        → (result .answer ≡ Changed′.Refused invalid) × (store′ ≡ store) × (work′ ≡ work)
+        → ChangeRefused invalid (result .answer) × (store′ ≡ store) × (work′ ≡ work)
     by Nothing e builds = builds
     by (State index) e builds =
         let (refused, left) =
@@ -104,15 +105,15 @@ pub search-invalid : (state : List ℕ) (store : Store) (work : List ℕ) (call 
 unfolding soundIn SearchesIn Searches SearchesBy
 search-invalid state store work call answer n work′ ids′ distances′ answer′ u result =
     let left = by (stateIn state) u (result .searches) in (
-      result .number ∙ ap foundNumber (left .answer),
+      result .number ∙ ap foundNumber (search-refused-is invalid _ (left .answer)),
       left .work,
       left .ids,
       left .distances,
-      result .values ∙ ap (λ (f : Found). sets answer 0 (foundValues f)) (left .answer),
+      result .values ∙ ap (λ (f : Found). sets answer 0 (foundValues f)) (search-refused-is invalid _ (left .answer)),
     )
   where
     by : (held : Held) → soundIn held ≡ false → SearchesIn held store work (asking answer call) (ended (result .found) work′ ids′ distances′)
-        → Untouched work (asking answer call) (Found′.Refused invalid) (ended (result .found) work′ ids′ distances′)
+        → Untouched work (asking answer call) invalid (ended (result .found) work′ ids′ distances′)
     by Nothing e searches = searches
     by (State index) e searches =
         subst (λ (check : Check). SearchesBy check index store work (asking answer call) (ended (result .found) work′ ids′ distances′))

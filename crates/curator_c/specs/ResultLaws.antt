@@ -28,6 +28,7 @@ use Rattle.curator_c.specs.declared.state.Held.the-variants.{State}
 use Rattle.curator_c.specs.State.{places, stateIn}
 use Rattle.curator_c.specs.StateLaws.{in-holds}
 use Rattle.curator_c.specs.Results.{storable, asking}
+use Rattle.curator.specs.OutcomeLaws.{search-refused-is}
 
 -- where the list held a state, any answer's state has room
 pub storable-held : (list : List ℕ) (index : CuratorIndex) (answer : Changed) → stateIn list ≡ State index → storable list answer ≡ answer
@@ -63,14 +64,14 @@ no-room-refused index store work call f =
 -- Without room for three numbers: the first of 4, 3, 6, 7 and 8 whose case holds, otherwise 14; all lists are as they were.
 pub short-answer : (index : CuratorIndex) (store : Store) (work answer : List ℕ) (call : SearchCall) (end : SearchEnd)
     → length answer < 3 → Searches index store work (asking answer call) end
-    → (r : Refusal) × (noRoom index store work call ≡ Check′.Refused r) × Untouched work call (Found′.Refused r) end
+    → (r : Refusal) × (noRoom index store work call ≡ Check′.Refused r) × Untouched work call r end
 unfolding Searches SearchesBy
 short-answer index store work answer call end h s =
     by (noRoom index store work call) refl
     (subst (λ (check : Check). SearchesBy check index store work (asking answer call) end) (asking-rows index store work answer call h) s)
   where
     by : (check : Check) → noRoom index store work call ≡ check → SearchesBy check index store work (asking answer call) end
-        → (r : Refusal) × (noRoom index store work call ≡ Check′.Refused r) × Untouched work call (Found′.Refused r) end
+        → (r : Refusal) × (noRoom index store work call ≡ Check′.Refused r) × Untouched work call r end
     by Check′.Fine e g = absurd (no-room-refused index store work call e)
     by (Check′.Refused r) e g = (r, e, record { answer = g .answer; work = g .work; ids = g .ids; distances = g .distances })
 
@@ -86,6 +87,6 @@ values-fit index store work answer call end found e s = by (ltb (length answer) 
     by : (b : Bool) → ltb (length answer) 3 ≡ b → length (foundValues found) ≤ length answer
     by true t =
         let (r, _, untouched) = short-answer index store work answer call end (ltb-true (length answer) 3 t) s in
-        let refused : found ≡ Found′.Refused r = sym e ∙ untouched .answer in
+        let refused : found ≡ Found′.Refused r = sym e ∙ search-refused-is r _ (untouched .answer) in
         rw refused (omega arith)
     by false t = let h = ltb-false (length answer) 3 t in let f = few found in omega (arith, h, f)

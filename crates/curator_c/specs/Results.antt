@@ -17,7 +17,7 @@ use Rattle.curator.specs.declared.Found.the-variants as Found′
 use Rattle.curator.specs.declared.refusal.Refusal.{Refusal}
 use Rattle.curator.specs.declared.refusal.Refusal.the-variants as Refusal′
 use Rattle.curator.specs.declared.refusal.StateRefusal.the-variants.{InvalidState}
-use Rattle.curator.specs.Outcome.{changedNumber, foundNumber, foundValues}
+use Rattle.curator.specs.Outcome.{changedNumber, foundNumber, foundValues, ChangeRefused}
 use Rattle.curator.specs.Changes.{created, Adds, Builds}
 use Rattle.curator.specs.Arguments.{AddCall, SearchCall}
 use Rattle.curator.specs.Searches.{SearchEnd, Untouched, Searches}
@@ -54,7 +54,7 @@ NewResult dimension params capacities state returned state′ = Returns (storabl
 -- an add to the state that a list holds
 unfoldable pub AddsIn : Held → Store → AddCall → Changed → Store → Type 0
 unfolding Adds
-AddsIn Nothing store call answer store′ = (answer ≡ Changed′.Refused invalid) × (store′ ≡ store)
+AddsIn Nothing store call answer store′ = ChangeRefused invalid answer × (store′ ≡ store)
 AddsIn (State index) store call answer store′ = Adds index store call answer store′
 
 -- the whole result of `curator_add`: state list, store and call at entry; what is returned, state list and store at exit
@@ -66,7 +66,7 @@ pub record AddResult (state : List ℕ) (store : Store) (call : AddCall) (return
 -- a build of the state that a list holds
 unfoldable pub BuildsIn : Held → Store → List ℕ → Changed → Store → List ℕ → Type 0
 unfolding Builds
-BuildsIn Nothing store work answer store′ work′ = (answer ≡ Changed′.Refused invalid) × (store′ ≡ store) × (work′ ≡ work)
+BuildsIn Nothing store work answer store′ work′ = ChangeRefused invalid answer × (store′ ≡ store) × (work′ ≡ work)
 BuildsIn (State index) store work answer store′ work′ = Builds index store work answer store′ work′
 
 -- the whole result of `curator_build`
@@ -92,7 +92,7 @@ asking answer call = withHits (hitsAsked (length answer) (length (call .ids)) (c
 -- a search in the state that a list holds
 unfoldable pub SearchesIn : Held → Store → List ℕ → SearchCall → SearchEnd → Type 0
 unfolding Searches
-SearchesIn Nothing store work call end = Untouched work call (Found′.Refused invalid) end
+SearchesIn Nothing store work call end = Untouched work call invalid end
 SearchesIn (State index) store work call end = Searches index store work call end
 
 -- what a search leaves: its answer, the work list and the two lists of hits

@@ -39,6 +39,7 @@ use Rattle.curator.specs.StateLaws.{Sound, sound-facts}
 use Rattle.lists.specs.Tests.{and-both, or-left, or-right}
 use Rattle.search.specs.Lent.{Ready, foundOf}
 use Rattle.store.specs.LentLaws.{lists-long}
+use Rattle.curator.specs.OutcomeLaws.{is-search-refused, is-found}
 
 -- ---- what no row's case gives
 
@@ -107,9 +108,9 @@ pub walked-to : (state : State) (index : CuratorIndex) (work : List ℕ) (call :
     → SearchEnds state (call .k) searched (call .ids) (end .ids) (call .distances) (end .distances) → WalkedTo state index work call end
 unfolding WalkedTo
 walked-to damaged index work call searched end a f h =
-    record { answer = a ∙ ap foundOf (h .is); work = f; ids = h .ids-kept; distances = h .distances-kept }
+    record { answer = is-search-refused _ _ (a ∙ ap foundOf (h .is)); work = f; ids = h .ids-kept; distances = h .distances-kept }
 walked-to (going p) index work call searched end a f h =
-    record { answer = a ∙ ap foundOf (h .is); work = f; ids = h .ids-are; distances = h .distances-are }
+    record { answer = is-found _ _ _ _ (a ∙ ap foundOf (h .is)); work = f; ids = h .ids-are; distances = h .distances-are }
 
 -- ---- a search that is ready
 

@@ -10,6 +10,7 @@ use denote.Ref.{now}
 use borrow.Author.Needs.{needs}
 use Rattle.search.proofs.search_wanted.Statement.{statement}
 use Rattle.search.proofs.search_wanted.Tie as tie
+use Rattle.curator.specs.OutcomeLaws.{is-search-refused}
 
 -- the function's entry, from the place where the check is known to be `Fine`
 abbrev entry : tie.After-enum-told → tie.Start
@@ -41,7 +42,7 @@ returns : tie.Need-returns
 unfolding SearchesBy searchCheck
 returns c =
     λ asked e. searches-by _ _ _ _ _ _ (sym (c .before .before .before .search-check .ensures) ∙ c .before .check .given .1)
-    (record { answer = refl; work = refl; ids = refl; distances = refl })
+    (record { answer = is-search-refused _ _ refl; work = refl; ids = refl; distances = refl })
 
 same-length : tie.Need-same-length
 same-length c = search needs
