@@ -1,6 +1,7 @@
 -- Definitions and laws on lists beyond those of `lib.ListN` and `lib.Seq`, for every element type.
 pub mod Lists
 pub mod Parts
+pub mod Frame
 pub mod Writes
 pub mod Maps
 pub mod Counting
