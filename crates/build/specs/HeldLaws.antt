@@ -13,7 +13,7 @@ use Rattle.lists.specs.Lists.{part, joined}
 use Rattle.lists.specs.Parts.{length-part, getD-part, part-sets-same}
 use Rattle.store.specs.declared.Shape.{Shape}
 use Rattle.store.specs.Store.{Store, centroidsAt, ownersAt, orderAt, nodesAt, linksAt, entryOrderAt, filtersAt}
-use Rattle.cluster.specs.Vectors.{length-vectorsIn}
+use Rattle.cluster.specs.VectorsLaws.{length-vectorsIn}
 use Rattle.tree.specs.Tree.{Splitting, treeOf, size}
 use Rattle.tree.specs.Nodes.{Entries, Node, nodesOf}
 use Rattle.tree.specs.NodeLaws.{length-nodesOf, length-ids, length-links, length-entries}

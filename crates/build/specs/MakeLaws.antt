@@ -13,8 +13,8 @@ use Rattle.lists.specs.Lists.{part, joined}
 use Rattle.lists.specs.Parts.{length-part, getD-part, part-sets-before, part-sets-same, sets-comm, sets-sets-same, sets-self}
 use Rattle.store.specs.declared.Shape.{Shape}
 use Rattle.store.specs.Store.{Store, ownersAt, orderAt, nodesAt, linksAt, entryOrderAt, filtersAt, numbersSize, workSize}
-use Rattle.cluster.specs.Lent.{vectorsIn}
-use Rattle.cluster.specs.Vectors.{length-vectorsIn}
+use Rattle.cluster.specs.Vectors.{vectorsIn}
+use Rattle.cluster.specs.VectorsLaws.{length-vectorsIn}
 use Rattle.tree.specs.Tree.{treeOf, size}
 use Rattle.tree.specs.Nodes.{Entries, Node, nodesOf}
 use Rattle.tree.specs.NodeLaws.{length-nodesOf, length-ids}

@@ -12,7 +12,7 @@ use Rattle.lists.specs.Counting.{length-countFrom}
 use Rattle.lists.specs.Parts.{sets-sets-same}
 use Rattle.store.specs.declared.Shape.{Shape}
 use Rattle.store.specs.Store.{orderAt, nodesAt}
-use Rattle.cluster.specs.Lent.{vectorsIn}
+use Rattle.cluster.specs.Vectors.{vectorsIn}
 use Rattle.build_tree.specs.Waiting.{headed, encoded, groupAt, sixes, leaves}
 use Rattle.build_tree.specs.WaitingLaws.{length-headed}
 use Rattle.build_tree.specs.Lent.{splittingOf, Lent, Waits, Stepped, Built}

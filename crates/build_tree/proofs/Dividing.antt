@@ -14,16 +14,19 @@ use Rattle.lists.specs.Partition.{perm-length}
 use Rattle.store.specs.declared.Shape.{Shape}
 use Rattle.store.specs.Store.{Limits, centresAt}
 use Rattle.cluster.specs.Clusters.{clusters, lastCentres}
-use Rattle.cluster.specs.Lent.{vectorsIn, assignment, Room, AlikeBut, Clustered}
-use Rattle.cluster.specs.Alike.{alike-trans, alike-sets, alike-widen}
-use Rattle.cluster.specs.Groups.{perm-clusters, length-clusters}
+use Rattle.cluster.specs.Vectors.{vectorsIn}
+use Rattle.kmeans.specs.Marks.{assignment}
+use Rattle.cluster.specs.Contracts.{BehindVectors}
+use Rattle.lists.specs.Frame.{AlikeBut, alike-trans, alike-sets, alike-widen}
+use Rattle.kmeans.specs.Contracts.{Clustered}
+use Rattle.cluster.specs.ClustersLaws.{perm-clusters, length-clusters}
 use Rattle.build_tree.specs.Waiting.{nonEmptyList, headed, sorted}
 use Rattle.build_tree.specs.WaitingLaws.{sorted-clusters, length-joined-headed}
 use Rattle.build_tree.specs.Standing.{vectors-end, centres-end}
 use Rattle.build_tree.specs.Lent.{Lent, Splits, Clustering, Divided}
 
 -- fewer centres fit
-pub room-smaller : {floats : List Float} {ids : List ℕ} {d n at : ℕ} (b : ℕ) {k : ℕ} → Room floats ids d n at (d * b) → k ≤ b → Room floats ids d n at (k * d)
+pub room-smaller : {floats : List Float} {ids : List ℕ} {d n at : ℕ} (b : ℕ) {k : ℕ} → BehindVectors floats ids d n at (d * b) → k ≤ b → BehindVectors floats ids d n at (k * d)
 room-smaller {d = d} b {k} r h =
     let a : k * d ≤ b * d = mul-le-mul-right d h in
     let m = mul-comm b d in
@@ -93,7 +96,7 @@ module _ {s : Shape} {n levels start size at : ℕ} {floats : List Float} {numbe
     pub length-lentIds : length lentIds ≡ size
     length-lentIds = ap (λ (l : List ℕ). length l) (lent-by-ends numbers start size) ∙ length-part start size numbers (splits .within)
 
-    pub split-room : Room floats lentIds (s .dimension) n (centresAt s) (s .dimension * s .branching)
+    pub split-room : BehindVectors floats lentIds (s .dimension) n (centresAt s) (s .dimension * s .branching)
     split-room =
         let l = length-lentIds in
         let a = vectors-end (s .dimension) n (s .vectors + s .nodes) (let h = lent .held in omega arith) in

@@ -14,9 +14,10 @@ use Rattle.lists.specs.Parts.{take-sets, part-sets-same, sets-sets-same}
 use Rattle.store.specs.declared.Shape.{Shape}
 use Rattle.store.specs.Store.{centroidsAt, centresAt, orderAt, nodesAt, workSize}
 use Rattle.cluster.specs.Clusters.{clusters, meanOf}
-use Rattle.cluster.specs.Lent.{vectorsIn, Room, AlikeBut}
-use Rattle.cluster.specs.Vectors.{vectorsIn-front}
-use Rattle.cluster.specs.Alike.{alike-refl, alike-widen}
+use Rattle.cluster.specs.Vectors.{vectorsIn}
+use Rattle.cluster.specs.Contracts.{BehindVectors}
+use Rattle.lists.specs.Frame.{AlikeBut, alike-refl, alike-widen}
+use Rattle.cluster.specs.VectorsLaws.{vectorsIn-front}
 use Rattle.tree.specs.Tree.{Splitting}
 use Rattle.tree.specs.Layout.{startOf}
 use Rattle.tree.specs.Steps.{Group, isLeaf, childGroups, childGroups-leaf}
@@ -134,7 +135,7 @@ module _ {s : Shape} {n made done : ℕ} {floats : List Float} {numbers work : L
         end-fits = let a = size-g in let b = waits .within in omega arith
 
         pub mean-room : {cents : ℕ} → cents ≡ centroidsAt s
-            → Room floats (take (start + size - start) (drop start numbers₁)) (s .dimension) n (cents + made * s .dimension) (s .dimension)
+            → BehindVectors floats (take (start + size - start) (drop start numbers₁)) (s .dimension) n (cents + made * s .dimension) (s .dimension)
         mean-room e =
             let a = centroid-within in
             let b = vectors-end (s .dimension) n (s .vectors) (lent .held) in
@@ -142,7 +143,7 @@ module _ {s : Shape} {n made done : ℕ} {floats : List Float} {numbers work : L
             let f = lent .held in
             let v = lent .limits .vectors-high in
             let k = size-g in
-            let here : Room floats (g .ids) (s .dimension) n (centroidsAt s + made * s .dimension) (s .dimension) =
+            let here : BehindVectors floats (g .ids) (s .dimension) n (centroidsAt s + made * s .dimension) (s .dimension) =
             record { below = waits .sound .below; few = omega arith; behind = omega arith; within = omega arith }
             in
             rw (e, lent-there) here

@@ -9,7 +9,8 @@ use Rattle.lists.specs.Lists.{part, keep, joined}
 use Rattle.store.specs.declared.Shape.{Shape}
 use Rattle.store.specs.Store.{Limits, centroidsAt, centresAt, floatsSize, orderAt, nodesAt, numbersSize, workSize}
 use Rattle.cluster.specs.Clusters.{clusters, meanOf}
-use Rattle.cluster.specs.Lent.{vectorsIn, AlikeBut}
+use Rattle.cluster.specs.Vectors.{vectorsIn}
+use Rattle.lists.specs.Frame.{AlikeBut}
 use Rattle.tree.specs.Tree.{Splitting, treeOf, size}
 use Rattle.tree.specs.Nodes.{Entries, nodesOf}
 use Rattle.tree.specs.Layout.{floatsOf}

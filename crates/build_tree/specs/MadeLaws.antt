@@ -13,7 +13,7 @@ use Rattle.lists.specs.Counting.{getD-Memᴰ, Memᴰ-getD, joined-snoc, joined-
 use Rattle.lists.specs.Tests.{which}
 use Rattle.lists.specs.Partition.{perm-length, perm-Memᴰ}
 use Rattle.cluster.specs.Clusters.{meanOf}
-use Rattle.cluster.specs.Laws.{length-meanOf}
+use Rattle.cluster.specs.ClustersLaws.{length-meanOf}
 use Rattle.tree.specs.Tree.{Splitting, groups}
 use Rattle.tree.specs.TreeLaws.{group-some, perm-groups}
 use Rattle.tree.specs.Nodes.{Entries, Node, nodesOf}

@@ -15,10 +15,10 @@ use Rattle.lists.specs.Parts.{length-part, sets-append, sets-comm, take-sets, d
 use Rattle.store.specs.declared.Shape.{Shape}
 use Rattle.store.specs.Store.{centroidsAt, centresAt, orderAt, nodesAt, workSize}
 use Rattle.cluster.specs.Clusters.{meanOf}
-use Rattle.cluster.specs.Laws.{length-meanOf}
-use Rattle.cluster.specs.Lent.{vectorsIn, AlikeBut}
-use Rattle.cluster.specs.Vectors.{row-end, length-vectorsIn, vectorsIn-front}
-use Rattle.cluster.specs.Alike.{alike-refl, alike-trans, alike-sets, alike-widen, alike-vectors, alike-is-sets}
+use Rattle.cluster.specs.ClustersLaws.{length-meanOf}
+use Rattle.cluster.specs.Vectors.{vectorsIn}
+use Rattle.lists.specs.Frame.{AlikeBut, alike-refl, alike-trans, alike-sets, alike-widen, alike-is-sets}
+use Rattle.cluster.specs.VectorsLaws.{row-end, length-vectorsIn, vectorsIn-front, alike-vectors}
 use Rattle.tree.specs.Tree.{Splitting, treeOf, size}
 use Rattle.tree.specs.Nodes.{Entries, nodesOf}
 use Rattle.tree.specs.Layout.{floatsOf}

@@ -8,7 +8,7 @@ use lib.Ieee.{Float}
 use lib.ListN.{length, getD}
 use Rattle.lists.specs.Lists.{part, joined, countFrom}
 use Rattle.cluster.specs.Clusters.{meanOf}
-use Rattle.cluster.specs.Lent.{withMark}
+use Rattle.kmeans.specs.Marks.{withMark}
 use Rattle.tree.specs.Tree.{Splitting}
 use Rattle.tree.specs.Layout.{startOf}
 use Rattle.tree.specs.Steps.{Group, isLeaf, childGroups}

@@ -52,7 +52,7 @@ pub fn make_node(
     let centroid_at = shape.centroids_at() + made * shape.dimension;
     let head = group::take_header(numbers, start);
     let end = start + head.size;
-    cluster::mean::mean_into(
+    mean::mean_into(
         floats,
         &numbers[start..end],
         shape.dimension,

@@ -3,7 +3,7 @@ ghost use Prim.Native.Nat.{_+_, _*_, _≤_, _<_, min};
 ghost use mathlib.Core.Path.{_≡_};
 ghost use lib.ListN.{length};
 ghost use Rattle.store.specs.Store.{Limits, centresAt};
-ghost use Rattle.cluster.specs.Lent.{Room};
+ghost use Rattle.cluster.specs.Contracts.{BehindVectors};
 ghost use Rattle.build_tree.specs.Lent.{Lent, Splits, Clustering, Divided};
 
 // The smaller of two numbers.
@@ -26,7 +26,7 @@ fn split_ids(
     work: &mut [u32],
 ) -> usize
     requires { ⌜ Limits shape ⌝ }
-    requires { ⌜ Room (now floats) (now ids) (shape .dimension) n (centresAt shape) (shape .dimension * shape .branching) ⌝ }
+    requires { ⌜ BehindVectors (now floats) (now ids) (shape .dimension) n (centresAt shape) (shape .dimension * shape .branching) ⌝ }
     requires { ⌜ n ≤ 4096 ⌝ }
     requires { ⌜ 1 ≤ length (now ids) ⌝ }
     requires { ⌜ length (now ids) ≤ 4096 ⌝ }
@@ -35,7 +35,7 @@ fn split_ids(
     ensures { λ r. ⌜ Clustering shape n levels (now (ids .entry)) (now (floats .entry)) (now (floats .exit)) (now (work .entry)) (now (work .exit)) r ⌝ }
 {
     let k = smaller(shape.branching, ids.len());
-    cluster::kmeans::simple_kmeans(floats, ids, work, shape.dimension, n, shape.centres_at(), k);
+    kmeans::simple_kmeans(floats, ids, work, shape.dimension, n, shape.centres_at(), k);
     crate::group::sort_by_mark(ids, work, k, levels)
 }
 

@@ -1,5 +1,5 @@
 -- Document 01, 'Clusters': the groups into which the ids of a node are split. An id is the number of a vector in a list of vectors.
-use Prim.Native.Nat.{ℕ, zero, suc, _*_, _/_, min}
+use Prim.Native.Nat.{ℕ, suc, _*_, _/_, min}
 use mathlib.Core.Bool.{false, cond}
 use mathlib.Core.List.{List, [], _∷_, map}
 use lib.IntN.{pos}

@@ -1,8 +1,7 @@
--- Document 01, 'Clusters'.
+-- Document 01, 'Clusters', and the vectors that a float list holds.
 pub mod Clusters
 pub mod Trials
-pub mod Lent
 pub mod Vectors
-pub mod Laws
-pub mod Alike
-pub mod Groups
+pub mod Contracts
+pub mod VectorsLaws
+pub mod ClustersLaws

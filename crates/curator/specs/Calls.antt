@@ -7,7 +7,7 @@ use Rattle.lists.specs.Lists.{part, pieces}
 use Rattle.label.specs.Fnv.{fnv}
 use Rattle.store.specs.declared.Shape.{Shape}
 use Rattle.store.specs.Store.{Store, ownersAt}
-use Rattle.cluster.specs.Lent.{vectorsIn}
+use Rattle.cluster.specs.Vectors.{vectorsIn}
 use Rattle.tree.specs.Tree.{Splitting}
 use Rattle.tree.specs.Nodes.{Entries}
 use Rattle.curator.specs.declared.CuratorParams.{CuratorParams}

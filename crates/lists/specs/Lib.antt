@@ -2,6 +2,7 @@
 pub mod Lists
 pub mod Tests
 pub mod Parts
+pub mod Frame
 pub mod Writes
 pub mod Maps
 pub mod Counting

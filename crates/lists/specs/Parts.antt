@@ -189,6 +189,9 @@ module _ {ℓ} {A : Type ℓ} where
       ∙ ap (λ (k : ℕ). part k (length vs) (take i l ++ vs ++ drop (i + length vs) l)) (sym n)
       ∙ part-middle (take i l) vs (drop (i + length vs) l)
 
+  pub part-written : (l : List A) (at n : ℕ) (v : List A) → length v ≡ n → at + n ≤ length l → part at n (sets l at v) ≡ v
+  part-written l at n v e h = let k : at + length v ≤ length l = omega arith in rw (← e) (part-sets-same l at v k)
+
   pub part-sets-before : (s c : ℕ) (l : List A) (i : ℕ) (vs : List A) → s + c ≤ i → part s c (sets l i vs) ≡ part s c l
   part-sets-before s c l i vs h =
       part-slice s c (sets l i vs) ∙ ap (λ (r : List A). drop s r) (take-sets (s + c) l i vs h) ∙ sym (part-slice s c l)

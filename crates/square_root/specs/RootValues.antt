@@ -8,8 +8,7 @@ use mathlib.Core.Path.{_≡_, refl, sym, ap, _∙_, subst}
 use lib.IntN.{ℤ}
 use lib.Dec.{T, leb, ltb, eqb, le→leb, lt→ltb, not-T, eqb→eq}
 use lib.Arith.{lt→nleb, le→nltb}
-use lib.Ieee.{Float, nan, inf, fin, binary32, up, down, odd, fits, isNan, ne, ofFields, ofBits, nanBits, toBits}
-use lib.Ieee.Compare.{nan-differs}
+use lib.Ieee.{Float, nan, inf, fin, binary32, up, down, odd, fits, isNan, ofFields, ofBits, nanBits, toBits}
 use lib.Ieee.Bits.{is-true, is-false, cond-no, ofBits-toBits, toBits-lt, toBits-ofBits, ofBits-fits, nanBits-is, nanBits-above}
 use lib.Ieee.Exact.{HasValue, odd-sign}
 use lib.Ieee.Fits.{down-pos}

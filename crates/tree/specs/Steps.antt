@@ -15,7 +15,7 @@ use Rattle.lists.specs.Counting.{joined-append, joined-map}
 use Rattle.lists.specs.Tests.{which}
 use Rattle.lists.specs.Partition.{List·Permᴰ, List·Permᴰ·trans, perm-of-eq, perm-joined}
 use Rattle.cluster.specs.Clusters.{clusters, meanOf}
-use Rattle.cluster.specs.Groups.{perm-clusters}
+use Rattle.cluster.specs.ClustersLaws.{perm-clusters}
 use Rattle.tree.specs.Tree.{Tree, Forest, leaf, inner, none, more, Splitting, groups, forestOf, grow, treeOf, size}
 use Rattle.tree.specs.Nodes.{Entries, Node, nodesOf, filterOf}
 use Rattle.tree.specs.TreeLaws.{of-both, kept-grow, leafIds, forestIds, perm-grow, grow-zero, grow-leaf, grow-inner, joined-groups, group-some}

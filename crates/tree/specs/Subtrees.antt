@@ -21,7 +21,7 @@ use Rattle.cluster.specs.Clusters.{meanOf}
 use Rattle.tree.specs.Tree.{Tree, Forest, leaf, inner, none, more, Splitting, groups, forestOf, grow, treeOf, size, sizes}
 use Rattle.tree.specs.Nodes.{Entries, Node, nodesFrom, forestNodes, nodesOf, roots, entriesOf, filterOf}
 use Rattle.tree.specs.TreeLaws.{of-both, keptIds, leafIds, forestIds, Fair, AllFair}
-use Rattle.cluster.specs.Laws.{length-meanOf}
+use Rattle.cluster.specs.ClustersLaws.{length-meanOf}
 use Rattle.tree.specs.NodeLaws.{entriesOf-nil, length-filterOf, filterOf-nil, unionAll, treesOf, filterOf-children, root-range}
 
 -- ---- the subtrees, parent first

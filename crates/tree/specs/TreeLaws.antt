@@ -17,7 +17,7 @@ use Rattle.lists.specs.Lists.{joined, countFrom}
 use Rattle.lists.specs.Counting.{Memᴰ-keep, length-countFrom, sumOf}
 use Rattle.lists.specs.Partition.{List·Permᴰ, List·Permᴰ·nil, List·Permᴰ·trans, Permᴰ·refl, perm-of-eq, perm-append, perm-length, joined-keep, count, perm-count, count-append, count-countFrom, count-countFrom-not}
 use Rattle.cluster.specs.Clusters.{clusters}
-use Rattle.cluster.specs.Groups.{perm-clusters}
+use Rattle.cluster.specs.ClustersLaws.{perm-clusters}
 use Rattle.tree.specs.Tree.{Tree, Forest, leaf, inner, none, more, Splitting, groups, forestOf, grow, treeOf, size, sizes}
 
 -- a property of both values of a choice

@@ -43,9 +43,10 @@ module _ (d d′ : Float) (a : T (fits binary32 d)) (b : T (fits binary32 d′))
       same : hitOf d document vector < hitOf d′ document′ vector′ → keyOf d′ ≤ keyOf d
           → Before d d′ ((document < document′) ⊎ ((document ≡ document′) × (vector < vector′)))
       same h le =
-          inr
-          (keyOf-injective d d′ a b (omega arith),
-          either (le-or-lt document′ document) (λ l. inr (omega arith, omega arith)) (λ less. inl less))
+          inr (
+            keyOf-injective d d′ a b (omega arith),
+            either (le-or-lt document′ document) (λ l. inr (omega arith, omega arith)) (λ less. inl less),
+          )
 
       back : Before d d′ ((document < document′) ⊎ ((document ≡ document′) × (vector < vector′))) → hitOf d document vector < hitOf d′ document′ vector′
       back (inl f) = let h : keyOf d < keyOf d′ = totalOrder-lt d′ d b a f in omega arith

@@ -2,7 +2,7 @@
 use mathlib.Core.Path.{_≡_, refl, sym, subst}
 use mathlib.Core.Bool.{true}
 use lib.Dec.{T}
-use lib.Ieee.{Float, nan, binary32, ne, toBits}
+use lib.Ieee.{Float, binary32, ne, toBits}
 use lib.Ieee.Compare.{differs-from-itself}
 use Rattle.float_bits.specs.NanLaws.{equal-no-nan}
 use Rattle.float_bits.proofs.to_bits.Statement.{statement}

@@ -1,0 +1,4 @@
+-- What only the proofs of `kmeans` need.
+pub mod Marking
+pub mod Gathering
+pub mod Centring

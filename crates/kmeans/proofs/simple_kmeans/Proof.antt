@@ -1,0 +1,65 @@
+-- `simple_kmeans` meets its contract: every step leaves the vectors, so all rounds are over the same ones.
+use mathlib.Core.Path.{_∙_}
+use native.Mathlib.Omega.{arith}
+use borrow.Author.Needs.{needs}
+use Rattle.kmeans.proofs.Centring.{room-kept, kmeans-end}
+use Rattle.kmeans.proofs.simple_kmeans.Statement.{statement}
+use Rattle.kmeans.proofs.simple_kmeans.Tie as tie
+
+first-centres-requires : tie.Need-first-centres-requires
+first-centres-requires c κs = search needs
+
+round-requires : tie.Need-round-requires
+round-requires c κs =
+    let a = c .before .before .before .before .before .before .before .before .before in (
+      room-kept _ _ _ _ _ _ _ (a .pre .0) (c .before .before .before .before .first-centres .kept .0),
+      (a .pre .1 .0, (omega (arith, a .pre .0 .few, a .pre .1 .1 .0), a .pre .1 .1 .1)),
+    )
+
+round-requires-2 : tie.Need-round-requires-2
+round-requires-2 c κs =
+    let a = c .before .before .before .before .before .before .before .before .before .before .before .before .before .before .before .before in
+    let one = c .before .before .before .before .before .before .round .kept in (
+      room-kept _ _ _ _ _ _ _ (a .pre .0) (one .0 ∙ c .before .before .before .before .before .before .before .before .before .before .before .first-centres .kept .0),
+      (a .pre .1 .0, (omega (arith, a .pre .0 .few, a .pre .1 .1 .0), omega (arith, one .1 .1 .0, a .pre .1 .1 .1))),
+    )
+
+assign-requires : tie.Need-assign-requires
+assign-requires c κs =
+    let a = c .before .before .before .before .before .before .before .before .before .before .before .before .before .before .before .before .before .before .before .before .before .before .before in
+    let one = c .before .before .before .before .before .before .before .before .before .before .before .before .before .round .kept in
+    let two = c .before .before .before .before .before .before .round2 .kept in (
+      room-kept _ _ _ _ _ _ _ (a .pre .0) (two .0 ∙ one .0 ∙ c .before .before .before .before .before .before .before .before .before .before .before .before .before .before .before .before .before .before .first-centres .kept .0),
+      (a .pre .1 .0, (omega (arith, a .pre .0 .few, a .pre .1 .1 .0), omega (arith, one .1 .1 .0, two .1 .1 .0, a .pre .1 .1 .1))),
+    )
+
+same-length : tie.Need-same-length
+same-length c = search needs
+
+same-length-2 : tie.Need-same-length-2
+same-length-2 c = search needs
+
+returns : tie.Need-returns
+returns c =
+    let a = c .before .before .before .before .before .before .before .before .before .before .before .before .before .before .before .before .before .before .before .before .before .before .before .before .before .before in
+    let p = a .args in
+    let first = c .before .before .before .before .before .before .before .before .before .before .before .before .before .before .before .before .before .before .before .before .before .first-centres in
+    let one = c .before .before .before .before .before .before .before .before .before .before .before .before .before .before .before .before .round in
+    let two = c .before .before .before .before .before .before .before .before .before .round2 in
+    let third = c .before .before .assign in
+    kmeans-end (p .dimension) (p .count) (p .centres-at) (p .k) (p .ids .now) (p .floats .now) (first .last .0) (one .last .0) (two .last .0) (p .work .now)
+    (one .last .1 .1 .0) (two .last .1 .1 .0) (third .last .1 .1 .0) (a .pre .0 .behind) (a .pre .1 .1 .0)
+    (omega (arith, one .kept .1 .1 .0, two .kept .1 .1 .0, a .pre .1 .1 .1)) (first .ensures) (one .ensures .0) (one .ensures .1) (two .ensures .0)
+    (two .ensures .1) (third .ensures)
+
+pub simple-kmeans-spec : {M : Type 1} → statement M
+simple-kmeans-spec =
+    tie.close
+    (tie.spec
+    first-centres-requires
+    round-requires
+    round-requires-2
+    assign-requires
+    same-length
+    same-length-2
+    returns)

@@ -1,0 +1,94 @@
+-- `part::add` meets its contract. Invariant: the first i components are sums, and the rest is as it was.
+use Prim.Native.Nat.{_≤_, _-_}
+use mathlib.Core.Path.{_≡_, refl}
+use native.Mathlib.Omega.{arith}
+use lib.ListN.{length, take, length-set}
+use lib.Seq.{sets}
+use Rattle.lists.specs.Lists.{part}
+use Rattle.cluster.specs.Clusters.{addVectors}
+use Rattle.lists.specs.Writes.{write-end}
+use Rattle.mean.proofs.Components.{add-turn, length-sumOf}
+use Rattle.mean.proofs.part.add.Statement.{statement}
+use Rattle.mean.proofs.part.add.Tie as tie
+
+abbrev Inv-loop : tie.InvT-loop
+Inv-loop floats₀ from to dimension i₀ floats i =
+    (i ≤ dimension)
+    × (length floats ≡ length floats₀)
+    × (floats ≡ sets floats₀ to (take i (addVectors (part to dimension floats₀) (part from dimension floats₀))))
+
+abbrev μ-loop : tie.MeasureT-loop
+μ-loop floats₀ from to dimension i₀ floats i = dimension - i
+
+loop-holds : tie.Need-loop-holds Inv-loop μ-loop
+loop-holds c = (omega arith, refl, refl)
+
+add-floats : tie.Need-add-floats Inv-loop μ-loop
+add-floats c = omega arith
+
+mul-floats : tie.Need-mul-floats Inv-loop μ-loop
+mul-floats c = omega arith
+
+slice-read-floats : tie.Need-slice-read-floats Inv-loop μ-loop
+slice-read-floats c = omega arith
+
+add-floats-2 : tie.Need-add-floats-2 Inv-loop μ-loop
+add-floats-2 c = omega arith
+
+mul-floats-2 : tie.Need-mul-floats-2 Inv-loop μ-loop
+mul-floats-2 c = omega arith
+
+slice-read-floats-2 : tie.Need-slice-read-floats-2 Inv-loop μ-loop
+slice-read-floats-2 c = omega arith
+
+add-floats-3 : tie.Need-add-floats-3 Inv-loop μ-loop
+add-floats-3 c = omega arith
+
+mul-floats-3 : tie.Need-mul-floats-3 Inv-loop μ-loop
+mul-floats-3 c = omega arith
+
+slice-write-floats : tie.Need-slice-write-floats Inv-loop μ-loop
+slice-write-floats c = omega arith
+
+add-i : tie.Need-add-i Inv-loop μ-loop
+add-i c = omega arith
+
+loop-less : tie.Need-loop-less Inv-loop μ-loop
+loop-less c = omega arith
+
+loop-again : tie.Need-loop-again Inv-loop μ-loop
+loop-again c = (
+  omega arith,
+  simp length-set (c .before .before .before .loop .inv .1),
+  add-turn _ _ _ _ _ _ (c .before .before .before .loop .inv .2) (c .before .before .before .before .pre .0)
+      (c .before .before .before .before .pre .1) (c .before .before .loop-test .taken),
+)
+
+same-length : tie.Need-same-length Inv-loop μ-loop
+same-length c = c .before .loop .inv .1
+
+returns : tie.Need-returns Inv-loop μ-loop
+returns c =
+    write-end _ _ _ _ _ _ (c .before .loop .inv .2) (length-sumOf _ (c .before .before .args .from) _ _ (c .before .before .pre .1)) (c .loop-test .left)
+
+pub add-spec : {M : Type 1} → statement M
+add-spec =
+    tie.close
+    (tie.spec
+    Inv-loop
+    μ-loop
+    loop-holds
+    add-floats
+    mul-floats
+    slice-read-floats
+    add-floats-2
+    mul-floats-2
+    slice-read-floats-2
+    add-floats-3
+    mul-floats-3
+    slice-write-floats
+    add-i
+    loop-less
+    loop-again
+    same-length
+    returns)

@@ -1,0 +1,2 @@
+-- What only the proofs of `nearest_centre` need.
+pub mod Choice
