@@ -9,8 +9,8 @@ use Rattle.lists.specs.Lists.{part}
 use Rattle.store.specs.Store.{Store, ownersAt, workSize}
 use Rattle.store.specs.Lent.{Long, lengthsOf}
 use Rattle.lists.specs.Tests.{allPass}
-use Rattle.curator.specs.declared.Check.{Check}
-use Rattle.curator.specs.declared.Check.the-variants.{Fine}
+use Rattle.settings.specs.declared.Check.{Check}
+use Rattle.settings.specs.declared.Check.the-variants.{Fine}
 use Rattle.curator.specs.declared.CuratorIndex.{CuratorIndex}
 use Rattle.curator.specs.Limits.{stateSound, indexShape}
 use Rattle.curator.specs.Rows.{firstOf, stateRow, buildRows}

@@ -8,13 +8,14 @@ use borrow.Author.Tests.{not-false, eqb-false, ltb-false, lt-ltb}
 use lib.Dec.{eqb, ltb}
 use lib.ListN.{length}
 use Rattle.tree.specs.TreeLaws.{size-some}
-use Rattle.curator.specs.Limits.{builtAllowed, stateSound}
+use Rattle.curator.specs.Limits.{stateSound}
+use Rattle.settings.specs.Limits.{builtAllowed}
 use Rattle.curator.specs.RowLaws.{fine-none}
 use Rattle.curator.specs.StateLaws.{Sound, sound-facts, facts-sound}
 use Rattle.store.specs.Store.{Store}
 use Rattle.curator.specs.declared.Changed.the-variants as Changed′
-use Rattle.curator.specs.declared.Check.{Check}
-use Rattle.curator.specs.declared.Check.the-variants.{Fine, Refused}
+use Rattle.settings.specs.declared.Check.{Check}
+use Rattle.settings.specs.declared.Check.the-variants.{Fine, Refused}
 use Rattle.curator.specs.declared.CuratorIndex.{CuratorIndex}
 use Rattle.curator.specs.Calls.{builtWith}
 use Rattle.store.specs.Lent.{lengthsOf}

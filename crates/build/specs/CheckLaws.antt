@@ -13,14 +13,14 @@ use Rattle.lists.specs.Parts.{length-part, getD-part, part-cons, sets-self}
 use Rattle.store.specs.declared.Shape.{Shape}
 use Rattle.store.specs.Store.{Store, ownersAt, workSize}
 use Rattle.lists.specs.Tests.{allPass, and-both, and-false}
-use Rattle.curator.specs.declared.Check.{Check}
-use Rattle.curator.specs.declared.Check.the-variants.{Fine, Refused}
+use Rattle.settings.specs.declared.Check.{Check}
+use Rattle.settings.specs.declared.Check.the-variants.{Fine, Refused}
 use Rattle.curator.specs.declared.CuratorIndex.{CuratorIndex}
-use Rattle.curator.specs.declared.refusal.Refusal.{Refusal}
-use Rattle.curator.specs.declared.refusal.Refusal.the-variants as Refusal′
-use Rattle.curator.specs.declared.refusal.StateRefusal.{StateRefusal}
-use Rattle.curator.specs.declared.refusal.StateRefusal.the-variants.{InvalidState, EmptyIndex}
-use Rattle.curator.specs.declared.refusal.StoreRefusal.the-variants.{ListTooShort, NodesFull, Damaged}
+use Rattle.settings.specs.declared.refusal.Refusal.{Refusal}
+use Rattle.settings.specs.declared.refusal.Refusal.the-variants as Refusal′
+use Rattle.settings.specs.declared.refusal.StateRefusal.{StateRefusal}
+use Rattle.settings.specs.declared.refusal.StateRefusal.the-variants.{InvalidState, EmptyIndex}
+use Rattle.settings.specs.declared.refusal.StoreRefusal.the-variants.{ListTooShort, NodesFull, Damaged}
 use Rattle.curator.specs.Limits.{stateSound, indexShape}
 use Rattle.curator.specs.Rows.{Row, row, firstOf, stateRow, buildRows}
 use Rattle.store.specs.declared.Lengths.{Lengths}

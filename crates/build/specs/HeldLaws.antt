@@ -24,12 +24,12 @@ use Rattle.store.specs.declared.Counts.{Counts}
 use Rattle.lists.specs.Tests.{allPass, and-false}
 use Rattle.curator.specs.declared.Changed.{Changed}
 use Rattle.curator.specs.declared.Changed.the-variants as Changed′
-use Rattle.curator.specs.declared.Check.{Check}
-use Rattle.curator.specs.declared.Check.the-variants.{Fine, Refused}
+use Rattle.settings.specs.declared.Check.{Check}
+use Rattle.settings.specs.declared.Check.the-variants.{Fine, Refused}
 use Rattle.curator.specs.declared.CuratorIndex.{CuratorIndex}
-use Rattle.curator.specs.declared.refusal.Refusal.the-variants as Refusal′
-use Rattle.curator.specs.declared.refusal.StateRefusal.the-variants.{EmptyIndex}
-use Rattle.curator.specs.declared.refusal.StoreRefusal.the-variants.{ListTooShort, NodesFull, Damaged}
+use Rattle.settings.specs.declared.refusal.Refusal.the-variants as Refusal′
+use Rattle.settings.specs.declared.refusal.StateRefusal.the-variants.{EmptyIndex}
+use Rattle.settings.specs.declared.refusal.StoreRefusal.the-variants.{ListTooShort, NodesFull, Damaged}
 use Rattle.curator.specs.Calls.{heldVectors, heldEntries, splittingOf, builtWith}
 use Rattle.store.specs.Lent.{lengthsOf, listsShort}
 use Rattle.curator.specs.Changes.{ownersDamaged, tooManyNodes, buildCheck, heldNodes, LaidOut, BuildsFine, BuildsBy, Builds}

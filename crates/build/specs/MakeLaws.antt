@@ -26,14 +26,14 @@ use Rattle.build_tree.specs.declared.Made.the-variants as Made′
 use Rattle.build_tree.specs.Lent.{Lent, Whole, Overfull, Built}
 use Rattle.label_entries.specs.Finish as finish
 use Rattle.label_entries.specs.Finish.{held, AllMade, Finished}
-use Rattle.curator.specs.declared.Check.{Check}
-use Rattle.curator.specs.declared.Check.the-variants.{Fine, Refused}
+use Rattle.settings.specs.declared.Check.{Check}
+use Rattle.settings.specs.declared.Check.the-variants.{Fine, Refused}
 use Rattle.curator.specs.declared.Changed.{Changed}
 use Rattle.curator.specs.declared.Changed.the-variants as Changed′
 use Rattle.curator.specs.declared.CuratorIndex.{CuratorIndex}
-use Rattle.curator.specs.declared.refusal.Refusal.{Refusal}
-use Rattle.curator.specs.declared.refusal.Refusal.the-variants as Refusal′
-use Rattle.curator.specs.declared.refusal.StoreRefusal.the-variants.{NodesFull}
+use Rattle.settings.specs.declared.refusal.Refusal.{Refusal}
+use Rattle.settings.specs.declared.refusal.Refusal.the-variants as Refusal′
+use Rattle.settings.specs.declared.refusal.StoreRefusal.the-variants.{NodesFull}
 use Rattle.curator.specs.Limits.{indexShape}
 use Rattle.curator.specs.Calls.{heldVectors, heldEntries, splittingOf, builtWith}
 use Rattle.store.specs.Lent.{lengthsOf}

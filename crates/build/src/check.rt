@@ -7,12 +7,12 @@ ghost use lib.ListN.{length};
 ghost use Rattle.lists.specs.Lists.{part};
 ghost use Rattle.lists.specs.Tests.{allPass};
 ghost use Rattle.build.specs.Asked.{buildChecked};
-use curator::Check;
 use curator::CuratorIndex;
 use curator::limits;
-use curator::refusal::Refusal;
-use curator::refusal::StateRefusal;
-use curator::refusal::StoreRefusal;
+use settings::Check;
+use settings::refusal::Refusal;
+use settings::refusal::StateRefusal;
+use settings::refusal::StoreRefusal;
 use store::Lengths;
 use store::wide;
 

@@ -7,8 +7,8 @@ mod check;
 mod make;
 
 use curator::Changed;
-use curator::Check;
 use curator::CuratorIndex;
+use settings::Check;
 use store::Lengths;
 
 // Makes the tree of what is held, once: a built index stays as it is.

@@ -9,8 +9,8 @@ use build_tree::Made;
 use curator::Changed;
 use curator::CuratorIndex;
 use curator::limits;
-use curator::refusal::Refusal;
-use curator::refusal::StoreRefusal;
+use settings::refusal::Refusal;
+use settings::refusal::StoreRefusal;
 use store::Counts;
 
 // The state after an accepted build.

@@ -8,11 +8,11 @@
 //
 // The expected lines are reasoned from 01: sizes and limits from 'The store', numbers and their order from 'Refusals and what they leave', what is
 // written from 'Clusters', 'Tree', 'Entries' and 'Filter' by hand. The hashes of `a` and `b` are published FNV-1a values.
-use curator::Capacities;
 use curator::Changed;
 use curator::CuratorIndex;
-use curator::CuratorParams;
 use libc::STDOUT_FILENO;
+use settings::Capacities;
+use settings::CuratorParams;
 use store::Counts;
 ghost use Prim.Native.Nat.{_≤_};
 

@@ -1,12 +1,12 @@
 // Builds the indexes that standard input describes and prints the nodes of each: node count, leaf order of vectors, six numbers per node, child links, leaf
 // order of entries, filters and centroids, or the refusal. The cases and the lines that they must give are made by tools/builds.c.
-use curator::Capacities;
 use curator::Changed;
 use curator::CuratorIndex;
-use curator::CuratorParams;
-use curator::refusal::Refusal;
 use libc::STDIN_FILENO;
 use libc::STDOUT_FILENO;
+use settings::Capacities;
+use settings::CuratorParams;
+use settings::refusal::Refusal;
 ghost use Prim.Native.Nat.{_≤_, _<_, _^_, min};
 ghost use lib.ListN.{length};
 

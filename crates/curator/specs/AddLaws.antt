@@ -14,11 +14,12 @@ use Rattle.store.specs.LentLaws.{store-long}
 use Rattle.store.specs.declared.Counts.{Counts}
 use Rattle.curator.specs.declared.Changed.{Changed}
 use Rattle.curator.specs.declared.Changed.the-variants as Changed′
-use Rattle.curator.specs.declared.Check.{Check}
-use Rattle.curator.specs.declared.Check.the-variants.{Fine, Refused}
+use Rattle.settings.specs.declared.Check.{Check}
+use Rattle.settings.specs.declared.Check.the-variants.{Fine, Refused}
 use Rattle.curator.specs.declared.CuratorIndex.{CuratorIndex}
-use Rattle.curator.specs.declared.refusal.Refusal.{Refusal}
-use Rattle.curator.specs.Limits.{builtAllowed, stateSound, indexShape}
+use Rattle.settings.specs.declared.refusal.Refusal.{Refusal}
+use Rattle.curator.specs.Limits.{stateSound, indexShape}
+use Rattle.settings.specs.Limits.{builtAllowed}
 use Rattle.curator.specs.Rows.{addRows}
 use Rattle.store.specs.declared.Lengths.{Lengths}
 use Rattle.store.specs.Lent.{storeShort, lengthsOf}

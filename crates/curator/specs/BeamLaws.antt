@@ -12,22 +12,23 @@ use Rattle.tree.specs.Layout.{numbersOf, hashesOf, floatsOf}
 use Rattle.tree.specs.Nodes.{Node}
 use Rattle.walk.specs.StoreView.{storeView}
 use Rattle.walk.specs.Walk.{View, State, damaged, going, walk}
-use Rattle.curator.specs.declared.Capacities.{Capacities}
+use Rattle.settings.specs.declared.Capacities.{Capacities}
 use Rattle.curator.specs.declared.Changed.{Changed}
 use Rattle.curator.specs.declared.Changed.the-variants as Changed′
-use Rattle.curator.specs.declared.Check.{Check}
-use Rattle.curator.specs.declared.Check.the-variants.{Fine, Refused}
+use Rattle.settings.specs.declared.Check.{Check}
+use Rattle.settings.specs.declared.Check.the-variants.{Fine, Refused}
 use Rattle.curator.specs.declared.CuratorIndex.{CuratorIndex}
-use Rattle.curator.specs.declared.CuratorParams.{CuratorParams}
-use Rattle.curator.specs.declared.refusal.Refusal.the-variants.{Settings}
-use Rattle.curator.specs.declared.refusal.SettingsRefusal.the-variants.{InvalidDimension, InvalidConfig}
+use Rattle.settings.specs.declared.CuratorParams.{CuratorParams}
+use Rattle.settings.specs.declared.refusal.Refusal.the-variants.{Settings}
+use Rattle.settings.specs.declared.refusal.SettingsRefusal.the-variants.{InvalidDimension, InvalidConfig}
 use Rattle.curator.specs.AddLaws.{adds-by}
 use Rattle.curator.specs.Calls.{factsOf, builtWith, grown}
 use Rattle.store.specs.Lent.{lengthsOf}
 use Rattle.curator.specs.Changes.{newAnswer, created, addCheck, AddsBy, Adds}
 use Rattle.curator.specs.Arguments.{AddCall, SearchCall, askingOf}
 use Rattle.curator.specs.Changes.{ownersDamaged, tooManyNodes, buildCheck, heldNodes, BuildsFine, BuildsBy, Builds}
-use Rattle.curator.specs.Limits.{dimensionAllowed, paramsAllowed, capacitiesAllowed, countsAllowed, builtAllowed, stateSound, indexShape}
+use Rattle.curator.specs.Limits.{stateSound, indexShape}
+use Rattle.settings.specs.Limits.{dimensionAllowed, paramsAllowed, capacitiesAllowed, countsAllowed, builtAllowed}
 use Rattle.curator.specs.Rows.{Row, row, firstOf, stateRow, newRows, addRows, buildRows, searchRows}
 use Rattle.curator.specs.Searches.{SearchEnd, wantedOf, searchCheck, WalkedTo, SearchesBy, Searches}
 use Rattle.curator.specs.OutcomeLaws.{is-carried, carried-is, is-refused, refused-is}

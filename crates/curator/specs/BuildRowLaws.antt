@@ -13,14 +13,15 @@ use Rattle.store.specs.Store.{Store}
 use Rattle.tree.specs.Tree.{treeOf, size}
 use Rattle.curator.specs.declared.Changed.{Changed}
 use Rattle.curator.specs.declared.Changed.the-variants as Changed′
-use Rattle.curator.specs.declared.Check.{Check}
-use Rattle.curator.specs.declared.Check.the-variants.{Fine, Refused}
+use Rattle.settings.specs.declared.Check.{Check}
+use Rattle.settings.specs.declared.Check.the-variants.{Fine, Refused}
 use Rattle.curator.specs.declared.CuratorIndex.{CuratorIndex}
 use Rattle.curator.specs.Calls.{factsOf, heldVectors, splittingOf}
 use Rattle.store.specs.Lent.{lengthsOf, listsShort}
 use Rattle.curator.specs.Changes.{ownersDamaged, tooManyNodes, buildCheck, BuildsFine, BuildsBy, Builds}
 use Rattle.curator.specs.Limits.{stateSound, indexShape}
-use Rattle.curator.specs.Outcome.{checkNumber, changedNumber, Carried}
+use Rattle.curator.specs.Outcome.{changedNumber, Carried}
+use Rattle.settings.specs.Refusals.{checkNumber}
 use Rattle.curator.specs.RowLaws.{NoneHolds, FirstAt, numbersOfRows, different, none-fine, fine-none, zero-fine, returned-exactly, test-failed, test-passed}
 use Rattle.curator.specs.Rows.{Row, firstOf, stateRow, buildRows}
 

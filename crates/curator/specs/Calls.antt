@@ -10,8 +10,8 @@ use Rattle.store.specs.Store.{Store, ownersAt}
 use Rattle.cluster.specs.Vectors.{vectorsIn}
 use Rattle.tree.specs.Tree.{Splitting}
 use Rattle.tree.specs.Nodes.{Entries}
-use Rattle.curator.specs.declared.CuratorParams.{CuratorParams}
-use Rattle.curator.specs.declared.Capacities.{Capacities}
+use Rattle.settings.specs.declared.CuratorParams.{CuratorParams}
+use Rattle.settings.specs.declared.Capacities.{Capacities}
 use Rattle.curator.specs.declared.CuratorIndex.{CuratorIndex}
 use Rattle.curator.specs.Limits.{indexShape}
 use Rattle.curator.specs.Rows.{Facts}

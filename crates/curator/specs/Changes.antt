@@ -14,17 +14,17 @@ use Rattle.tree.specs.Tree.{treeOf, size}
 use Rattle.tree.specs.Nodes.{Node, Entries, nodesOf}
 use Rattle.tree.specs.Layout.{numbersOf, hashesOf, floatsOf}
 use Rattle.lists.specs.Tests.{allPass}
-use Rattle.curator.specs.declared.CuratorParams.{CuratorParams}
-use Rattle.curator.specs.declared.Capacities.{Capacities}
+use Rattle.settings.specs.declared.CuratorParams.{CuratorParams}
+use Rattle.settings.specs.declared.Capacities.{Capacities}
 use Rattle.curator.specs.declared.CuratorIndex.{CuratorIndex}
-use Rattle.curator.specs.declared.Check.{Check}
-use Rattle.curator.specs.declared.Check.the-variants as Check′
+use Rattle.settings.specs.declared.Check.{Check}
+use Rattle.settings.specs.declared.Check.the-variants as Check′
 use Rattle.curator.specs.declared.Changed.{Changed}
 use Rattle.curator.specs.declared.Changed.the-variants as Changed′
-use Rattle.curator.specs.declared.refusal.Refusal.{Refusal}
-use Rattle.curator.specs.declared.refusal.Refusal.the-variants as Refusal′
-use Rattle.curator.specs.declared.refusal.StoreRefusal.{StoreRefusal}
-use Rattle.curator.specs.declared.refusal.StoreRefusal.the-variants.{ListTooShort, VectorsFull, EntriesFull, NodesFull, Damaged}
+use Rattle.settings.specs.declared.refusal.Refusal.{Refusal}
+use Rattle.settings.specs.declared.refusal.Refusal.the-variants as Refusal′
+use Rattle.settings.specs.declared.refusal.StoreRefusal.{StoreRefusal}
+use Rattle.settings.specs.declared.refusal.StoreRefusal.the-variants.{ListTooShort, VectorsFull, EntriesFull, NodesFull, Damaged}
 use Rattle.curator.specs.Outcome.{Carried, ChangeRefused}
 use Rattle.curator.specs.Limits.{stateSound, indexShape}
 use Rattle.store.specs.Lent.{lengthsOf}

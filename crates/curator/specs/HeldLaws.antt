@@ -16,8 +16,8 @@ use Rattle.store.specs.Store.{Store, vectorAt, ownersAt}
 use Rattle.tree.specs.Nodes.{Entries}
 use Rattle.curator.specs.declared.Changed.{Changed}
 use Rattle.curator.specs.declared.Changed.the-variants as Changed′
-use Rattle.curator.specs.declared.Check.{Check}
-use Rattle.curator.specs.declared.Check.the-variants.{Fine, Refused}
+use Rattle.settings.specs.declared.Check.{Check}
+use Rattle.settings.specs.declared.Check.the-variants.{Fine, Refused}
 use Rattle.curator.specs.declared.CuratorIndex.{CuratorIndex}
 use Rattle.curator.specs.AddLaws.{add-facts}
 use Rattle.curator.specs.Calls.{factsOf, hashesOfLabels, heldVectors, heldDocuments, heldEntries, grown}

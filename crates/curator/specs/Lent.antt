@@ -11,7 +11,7 @@ use Rattle.lists.specs.Lists.{total}
 use Rattle.store.specs.declared.Lengths.{Lengths}
 use Rattle.store.specs.Store.{Store, Limits}
 use Rattle.store.specs.Lent.{lengthsOf, Long}
-use Rattle.curator.specs.declared.Check.{Check}
+use Rattle.settings.specs.declared.Check.{Check}
 use Rattle.curator.specs.declared.CuratorIndex.{CuratorIndex}
 use Rattle.curator.specs.Limits.{stateSound, indexShape}
 use Rattle.curator.specs.Rows.{firstOf, stateRow, addRows}

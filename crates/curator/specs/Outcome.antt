@@ -1,62 +1,15 @@
--- Document 01's number for every refusal, and its number and values for every case of every answer: 0 where the call is answered.
+-- 01's number and values for every case of every answer: 0 where the call is answered, otherwise the refusal's.
 use Prim.Native.Nat.{ℕ}
 use mathlib.Core.Bool.{Bool, cond}
 use mathlib.Core.List.{List, [], _∷_}
 use mathlib.Core.Path.{_≡_}
 use Rattle.curator.specs.declared.CuratorIndex.{CuratorIndex}
-use Rattle.curator.specs.declared.Check.{Check}
-use Rattle.curator.specs.declared.Check.the-variants as Check′
 use Rattle.curator.specs.declared.Changed.{Changed}
 use Rattle.curator.specs.declared.Changed.the-variants as Changed′
 use Rattle.curator.specs.declared.Found.{Found}
 use Rattle.curator.specs.declared.Found.the-variants as Found′
-use Rattle.curator.specs.declared.refusal.Refusal.{Refusal}
-use Rattle.curator.specs.declared.refusal.Refusal.the-variants.{Settings, State, Input, Store}
-use Rattle.curator.specs.declared.refusal.SettingsRefusal.{SettingsRefusal}
-use Rattle.curator.specs.declared.refusal.SettingsRefusal.the-variants.{InvalidDimension, InvalidConfig}
-use Rattle.curator.specs.declared.refusal.StateRefusal.{StateRefusal}
-use Rattle.curator.specs.declared.refusal.StateRefusal.the-variants.{InvalidState, AlreadyBuilt, NotBuilt, EmptyIndex}
-use Rattle.curator.specs.declared.refusal.InputRefusal.{InputRefusal}
-use Rattle.curator.specs.declared.refusal.InputRefusal.the-variants.{DimensionMismatch, NonFiniteInput, LabelLengths, AnswerTooShort, BadRecord, SettingsOrder, FileTooLong}
-use Rattle.curator.specs.declared.refusal.StoreRefusal.{StoreRefusal}
-use Rattle.curator.specs.declared.refusal.StoreRefusal.the-variants.{ListTooShort, VectorsFull, EntriesFull, NodesFull, Damaged}
-
-abbrev pub settingsNumber : SettingsRefusal → ℕ
-settingsNumber InvalidDimension = 1
-settingsNumber InvalidConfig = 2
-
-abbrev pub stateNumber : StateRefusal → ℕ
-stateNumber InvalidState = 4
-stateNumber AlreadyBuilt = 5
-stateNumber NotBuilt = 6
-stateNumber EmptyIndex = 12
-
-abbrev pub inputNumber : InputRefusal → ℕ
-inputNumber DimensionMismatch = 7
-inputNumber NonFiniteInput = 8
-inputNumber LabelLengths = 9
-inputNumber AnswerTooShort = 14
-inputNumber BadRecord = 16
-inputNumber SettingsOrder = 17
-inputNumber FileTooLong = 18
-
-abbrev pub storeNumber : StoreRefusal → ℕ
-storeNumber ListTooShort = 3
-storeNumber VectorsFull = 10
-storeNumber EntriesFull = 11
-storeNumber NodesFull = 13
-storeNumber Damaged = 15
-
--- the table's column 'Returned'
-abbrev pub number : Refusal → ℕ
-number (Settings r) = settingsNumber r
-number (State r) = stateNumber r
-number (Input r) = inputNumber r
-number (Store r) = storeNumber r
-
-abbrev pub checkNumber : Check → ℕ
-checkNumber Check′.Fine = 0
-checkNumber (Check′.Refused r) = number r
+use Rattle.settings.specs.declared.refusal.Refusal.{Refusal}
+use Rattle.settings.specs.Refusals.{number}
 
 abbrev pub changedNumber : Changed → ℕ
 changedNumber (Changed′.Index index) = 0

@@ -12,17 +12,17 @@ use Rattle.vector.specs.Vector.{allFinite}
 use Rattle.store.specs.declared.Shape.{Shape}
 use Rattle.store.specs.declared.Lengths.{Lengths}
 use Rattle.store.specs.Lent.{storeShort, listsShort}
-use Rattle.curator.specs.declared.Check.{Check}
-use Rattle.curator.specs.declared.Check.the-variants.{Fine, Refused}
-use Rattle.curator.specs.declared.CuratorParams.{CuratorParams}
-use Rattle.curator.specs.declared.Capacities.{Capacities}
-use Rattle.curator.specs.declared.refusal.Refusal.{Refusal}
-use Rattle.curator.specs.declared.refusal.Refusal.the-variants.{Settings, State, Input, Store}
-use Rattle.curator.specs.declared.refusal.SettingsRefusal.the-variants.{InvalidDimension, InvalidConfig}
-use Rattle.curator.specs.declared.refusal.StateRefusal.the-variants.{InvalidState, AlreadyBuilt, NotBuilt, EmptyIndex}
-use Rattle.curator.specs.declared.refusal.InputRefusal.the-variants.{DimensionMismatch, NonFiniteInput, LabelLengths, AnswerTooShort}
-use Rattle.curator.specs.declared.refusal.StoreRefusal.the-variants.{ListTooShort, VectorsFull, EntriesFull, NodesFull, Damaged}
-use Rattle.curator.specs.Limits.{dimensionAllowed, paramsAllowed, capacitiesAllowed}
+use Rattle.settings.specs.declared.Check.{Check}
+use Rattle.settings.specs.declared.Check.the-variants.{Fine, Refused}
+use Rattle.settings.specs.declared.CuratorParams.{CuratorParams}
+use Rattle.settings.specs.declared.Capacities.{Capacities}
+use Rattle.settings.specs.declared.refusal.Refusal.{Refusal}
+use Rattle.settings.specs.declared.refusal.Refusal.the-variants.{Settings, State, Input, Store}
+use Rattle.settings.specs.declared.refusal.SettingsRefusal.the-variants.{InvalidDimension, InvalidConfig}
+use Rattle.settings.specs.declared.refusal.StateRefusal.the-variants.{InvalidState, AlreadyBuilt, NotBuilt, EmptyIndex}
+use Rattle.settings.specs.declared.refusal.InputRefusal.the-variants.{DimensionMismatch, NonFiniteInput, LabelLengths, AnswerTooShort}
+use Rattle.settings.specs.declared.refusal.StoreRefusal.the-variants.{ListTooShort, VectorsFull, EntriesFull, NodesFull, Damaged}
+use Rattle.settings.specs.Limits.{dimensionAllowed, paramsAllowed, capacitiesAllowed}
 use Rattle.curator.specs.Arguments.{AddCall, Asking}
 
 -- a row: whether its case holds, and what is then returned

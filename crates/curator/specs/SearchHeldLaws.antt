@@ -13,15 +13,16 @@ use Rattle.vector.specs.Vector.{allFinite}
 use Rattle.store.specs.Store.{Store}
 use Rattle.walk.specs.HeldLaws.{SameHeld, same-held}
 use Rattle.walk.specs.Walk.{State, damaged, going}
-use Rattle.curator.specs.declared.Check.{Check}
-use Rattle.curator.specs.declared.Check.the-variants.{Fine, Refused}
+use Rattle.settings.specs.declared.Check.{Check}
+use Rattle.settings.specs.declared.Check.the-variants.{Fine, Refused}
 use Rattle.curator.specs.declared.CuratorIndex.{CuratorIndex}
-use Rattle.curator.specs.declared.refusal.Refusal.the-variants as Refusal′
-use Rattle.curator.specs.declared.refusal.StateRefusal.the-variants.{NotBuilt}
-use Rattle.curator.specs.declared.refusal.InputRefusal.the-variants.{DimensionMismatch, NonFiniteInput, AnswerTooShort}
-use Rattle.curator.specs.declared.refusal.StoreRefusal.the-variants.{ListTooShort}
+use Rattle.settings.specs.declared.refusal.Refusal.the-variants as Refusal′
+use Rattle.settings.specs.declared.refusal.StateRefusal.the-variants.{NotBuilt}
+use Rattle.settings.specs.declared.refusal.InputRefusal.the-variants.{DimensionMismatch, NonFiniteInput, AnswerTooShort}
+use Rattle.settings.specs.declared.refusal.StoreRefusal.the-variants.{ListTooShort}
 use Rattle.store.specs.Lent.{lengthsOf, listsShort}
-use Rattle.curator.specs.Limits.{builtAllowed, stateSound, indexShape}
+use Rattle.curator.specs.Limits.{stateSound, indexShape}
+use Rattle.settings.specs.Limits.{builtAllowed}
 use Rattle.curator.specs.RowLaws.{fine-none}
 use Rattle.curator.specs.Rows.{row, firstOf, stateRow, searchRows}
 use Rattle.curator.specs.SearchRowLaws.{walkFor, walkOf, earlyRows, search-check-rows}

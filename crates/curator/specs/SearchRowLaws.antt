@@ -15,15 +15,16 @@ use Rattle.vector.specs.Vector.{allFinite}
 use Rattle.store.specs.Store.{Store}
 use Rattle.walk.specs.StoreView.{storeView}
 use Rattle.walk.specs.Walk.{State, damaged, going, walk}
-use Rattle.curator.specs.declared.Check.{Check}
-use Rattle.curator.specs.declared.Check.the-variants.{Fine, Refused}
+use Rattle.settings.specs.declared.Check.{Check}
+use Rattle.settings.specs.declared.Check.the-variants.{Fine, Refused}
 use Rattle.curator.specs.declared.CuratorIndex.{CuratorIndex}
-use Rattle.curator.specs.declared.refusal.Refusal.the-variants as Refusal′
-use Rattle.curator.specs.declared.refusal.StoreRefusal.the-variants as StoreRefusal′
+use Rattle.settings.specs.declared.refusal.Refusal.the-variants as Refusal′
+use Rattle.settings.specs.declared.refusal.StoreRefusal.the-variants as StoreRefusal′
 use Rattle.curator.specs.Calls.{factsOf}
 use Rattle.store.specs.Lent.{lengthsOf, listsShort}
 use Rattle.curator.specs.Limits.{stateSound, indexShape}
-use Rattle.curator.specs.Outcome.{checkNumber, foundNumber}
+use Rattle.curator.specs.Outcome.{foundNumber}
+use Rattle.settings.specs.Refusals.{checkNumber}
 use Rattle.curator.specs.RowLaws.{NoneHolds, FirstAt, numbersOfRows, different, none-fine, fine-none, zero-fine, row-stops, row-passes, no-rows, returned-exactly, rows-then, test-failed, test-passed}
 use Rattle.curator.specs.Rows.{Row, row, firstOf, stateRow, searchRows}
 use Rattle.curator.specs.Searches.{SearchEnd, wantedOf, searchCheck, WalkedTo, SearchesBy, Searches}

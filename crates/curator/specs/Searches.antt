@@ -14,12 +14,12 @@ use Rattle.walk.specs.Walk.{State, damaged, going, walk}
 use Rattle.walk.specs.Answer.{Answer, answer}
 use Rattle.walk.specs.StoreView.{storeView}
 use Rattle.curator.specs.declared.CuratorIndex.{CuratorIndex}
-use Rattle.curator.specs.declared.Check.{Check}
-use Rattle.curator.specs.declared.Check.the-variants as Check′
+use Rattle.settings.specs.declared.Check.{Check}
+use Rattle.settings.specs.declared.Check.the-variants as Check′
 use Rattle.curator.specs.declared.Found.{Found}
-use Rattle.curator.specs.declared.refusal.Refusal.{Refusal}
-use Rattle.curator.specs.declared.refusal.Refusal.the-variants as Refusal′
-use Rattle.curator.specs.declared.refusal.StoreRefusal.the-variants as StoreRefusal′
+use Rattle.settings.specs.declared.refusal.Refusal.{Refusal}
+use Rattle.settings.specs.declared.refusal.Refusal.the-variants as Refusal′
+use Rattle.settings.specs.declared.refusal.StoreRefusal.the-variants as StoreRefusal′
 use Rattle.curator.specs.Outcome.{SearchFound, SearchRefused}
 use Rattle.curator.specs.Limits.{stateSound, indexShape}
 use Rattle.curator.specs.Arguments.{Asked, everything, labelled, SearchCall, askingOf}

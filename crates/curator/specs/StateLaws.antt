@@ -11,18 +11,19 @@ use lib.ListN.{length}
 use Rattle.vector.specs.Vector.{Normalized}
 use Rattle.vector.specs.VectorLaws.{length-dividedBy}
 use Rattle.store.specs.Store.{Limits}
-use Rattle.curator.specs.declared.Capacities.{Capacities}
+use Rattle.settings.specs.declared.Capacities.{Capacities}
 use Rattle.curator.specs.declared.Changed.the-variants as Changed′
-use Rattle.curator.specs.declared.Check.{Check}
-use Rattle.curator.specs.declared.Check.the-variants as Check′
+use Rattle.settings.specs.declared.Check.{Check}
+use Rattle.settings.specs.declared.Check.the-variants as Check′
 use Rattle.curator.specs.declared.CuratorIndex.{CuratorIndex}
-use Rattle.curator.specs.declared.CuratorParams.{CuratorParams}
-use Rattle.curator.specs.declared.refusal.Refusal.{Refusal}
+use Rattle.settings.specs.declared.CuratorParams.{CuratorParams}
+use Rattle.settings.specs.declared.refusal.Refusal.{Refusal}
 use Rattle.curator.specs.Calls.{fresh}
 use Rattle.curator.specs.Changes.{newAnswer, created, Creates}
 use Rattle.curator.specs.RowLaws.{creates-is, NoneHolds, fine-none, row-passes}
 use Rattle.curator.specs.Rows.{Row, firstOf, stateRow, newRows}
-use Rattle.curator.specs.Limits.{every, dimensionAllowed, paramsAllowed, capacitiesAllowed, countsAllowed, builtAllowed, stateSound, indexShape}
+use Rattle.curator.specs.Limits.{stateSound, indexShape}
+use Rattle.settings.specs.Limits.{every, dimensionAllowed, paramsAllowed, capacitiesAllowed, countsAllowed, builtAllowed}
 use Rattle.lists.specs.Tests.{and-both}
 
 -- what is stored of a vector is as long as the vector

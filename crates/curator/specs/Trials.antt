@@ -4,7 +4,7 @@ use mathlib.Core.List.{[], _∷_}
 use mathlib.Core.Path.{_≡_, refl}
 use Rattle.lists.specs.Lists.{pieces}
 use Rattle.curator.specs.Changes.{created}
-use Rattle.curator.specs.Limits.{usual}
+use Rattle.settings.specs.Limits.{usual}
 use Rattle.curator.specs.Outcome.{changedNumber}
 
 -- D 0 and 129 are 1, also with another setting outside its limits; V 0 and M 0 are 2; D 1 and 128 are accepted

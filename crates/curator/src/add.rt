@@ -10,13 +10,13 @@ ghost use Rattle.curator.specs.Calls.{hashesOfLabels, grown};
 ghost use Rattle.curator.specs.Changes.{Wrote};
 ghost use Rattle.curator.specs.Lent.{adding, addChecked, AddRoom, VectorAt};
 ghost use Rattle.store.specs.Lent.{lent};
-use crate::Check;
 use crate::CuratorIndex;
 use crate::limits;
-use crate::refusal::InputRefusal;
-use crate::refusal::Refusal;
-use crate::refusal::StateRefusal;
-use crate::refusal::StoreRefusal;
+use settings::Check;
+use settings::refusal::InputRefusal;
+use settings::refusal::Refusal;
+use settings::refusal::StateRefusal;
+use settings::refusal::StoreRefusal;
 use store::Counts;
 use store::Lengths;
 

@@ -1,55 +1,19 @@
 // The index: settings, state, refusals and the entry points.
 ghost use mathlib.Core.Path.{_≡_};
-ghost use Rattle.curator.specs.Limits.{usual};
 ghost use Rattle.curator.specs.Changes.{Creates, Adds};
 ghost use Rattle.curator.specs.Lent.{adding};
 ghost use Rattle.store.specs.Lent.{lent};
 
 mod add;
 pub mod limits;
-pub mod refusal;
 
-use refusal::Refusal;
-use refusal::SettingsRefusal;
+use settings::Capacities;
+use settings::Check;
+use settings::CuratorParams;
+use settings::refusal::Refusal;
+use settings::refusal::SettingsRefusal;
 use store::Counts;
 use store::Lengths;
-
-// The settings of an index beside its dimension. `beam_width` is kept and read by no build or search.
-pub struct CuratorParams {
-    pub branching_factor: usize,
-    pub max_leaf_size: usize,
-    pub ef_search: usize,
-    pub beam_width: usize,
-}
-
-impl CuratorParams {
-    pub const BRANCHING_FACTOR: usize = 16;
-
-    pub const MAX_LEAF_SIZE: usize = 128;
-
-    pub const EF_SEARCH: usize = 256;
-
-    pub const BEAM_WIDTH: usize = 4;
-
-    // The usual settings.
-    pub fn default() -> Self
-        ensures { λ r. ⌜ r ≡ usual ⌝ }
-    {
-        Self {
-            branching_factor: Self::BRANCHING_FACTOR,
-            max_leaf_size: Self::MAX_LEAF_SIZE,
-            ef_search: Self::EF_SEARCH,
-            beam_width: Self::BEAM_WIDTH,
-        }
-    }
-}
-
-// How many vectors, label entries and nodes the lent lists have room for.
-pub struct Capacities {
-    pub vectors: usize,
-    pub entries: usize,
-    pub nodes: usize,
-}
 
 // The state of an index. It goes by value; what it holds stands in lists that the caller lends.
 pub struct CuratorIndex {
@@ -58,12 +22,6 @@ pub struct CuratorIndex {
     pub capacities: Capacities,
     pub counts: Counts,
     pub built: bool,
-}
-
-// What the refusals of a call come to.
-pub enum Check {
-    Fine,
-    Refused(Refusal),
 }
 
 // What `new`, `add` and `build` answer: the index from now on, or why not.
@@ -87,10 +45,11 @@ impl CuratorIndex {
     pub fn new(dimension: usize, params: CuratorParams, capacities: Capacities) -> Changed
         ensures { λ r. ⌜ Creates dimension params capacities r ⌝ }
     {
-        if !limits::dimension_allowed(dimension) {
+        if !settings::limits::dimension_allowed(dimension) {
             return Changed::Refused(Refusal::Settings(SettingsRefusal::InvalidDimension));
         }
-        if !(limits::params_allowed(params) & limits::capacities_allowed(capacities)) {
+        if !(settings::limits::params_allowed(params)
+            & settings::limits::capacities_allowed(capacities)) {
             return Changed::Refused(Refusal::Settings(SettingsRefusal::InvalidConfig));
         }
         let counts = Counts {

@@ -1,48 +1,9 @@
-// The limits of settings, capacities and counts (document 01, 'The store'), as tests.
+// When a state is sound (document 01, row 4), and what fixes the sizes of its lists.
 ghost use mathlib.Core.Path.{_≡_};
-ghost use Rattle.curator.specs.Limits.{dimensionAllowed, paramsAllowed, capacitiesAllowed, countsAllowed, builtAllowed, stateSound, indexShape};
-use crate::Capacities;
+ghost use Rattle.curator.specs.Limits.{stateSound, indexShape};
 use crate::CuratorIndex;
-use crate::CuratorParams;
-use store::Counts;
+use settings::limits;
 use store::Shape;
-
-pub fn dimension_allowed(dimension: usize) -> bool
-    ensures { λ r. ⌜ r ≡ dimensionAllowed dimension ⌝ }
-{
-    (1 <= dimension) & (dimension <= 128)
-}
-
-pub fn params_allowed(p: CuratorParams) -> bool
-    ensures { λ r. ⌜ r ≡ paramsAllowed p ⌝ }
-{
-    (1 <= p.branching_factor)
-        & ((p.branching_factor <= 64)
-            & ((p.max_leaf_size <= 4096) & ((p.ef_search <= 65537) & (p.beam_width <= 65535))))
-}
-
-pub fn capacities_allowed(c: Capacities) -> bool
-    ensures { λ r. ⌜ r ≡ capacitiesAllowed c ⌝ }
-{
-    (1 <= c.vectors)
-        & ((c.vectors <= 4096) & ((c.entries <= 16384) & ((1 <= c.nodes) & (c.nodes <= 65537))))
-}
-
-fn counts_allowed(c: Capacities, held: Counts) -> bool
-    ensures { λ r. ⌜ r ≡ countsAllowed c held ⌝ }
-{
-    (held.vectors <= c.vectors) & ((held.entries <= c.entries) & (held.nodes <= c.nodes))
-}
-
-fn built_allowed(built: bool, held: Counts) -> bool
-    ensures { λ r. ⌜ r ≡ builtAllowed built held ⌝ }
-{
-    if built {
-        (0 < held.vectors) & (0 < held.nodes)
-    } else {
-        held.nodes == 0
-    }
-}
 
 // Whether a state that is handed in is one that the calls return.
 pub fn state_sound(index: CuratorIndex) -> bool
@@ -51,10 +12,11 @@ pub fn state_sound(index: CuratorIndex) -> bool
     let params = index.params;
     let capacities = index.capacities;
     let counts = index.counts;
-    dimension_allowed(index.dimension)
-        & (params_allowed(params)
-            & (capacities_allowed(capacities)
-                & (counts_allowed(capacities, counts) & built_allowed(index.built, counts))))
+    limits::dimension_allowed(index.dimension)
+        & (limits::params_allowed(params)
+            & (limits::capacities_allowed(capacities)
+                & (limits::counts_allowed(capacities, counts)
+                    & limits::built_allowed(index.built, counts))))
 }
 
 // What fixes the sizes of the lists that an index is lent.

@@ -12,8 +12,9 @@ use Rattle.curator.specs.declared.Changed.the-variants as Changed′
 use Rattle.curator.specs.declared.CuratorIndex.{CuratorIndex}
 use Rattle.curator.specs.declared.Found.{Found}
 use Rattle.curator.specs.declared.Found.the-variants as Found′
-use Rattle.curator.specs.declared.refusal.Refusal.{Refusal}
-use Rattle.curator.specs.Outcome.{number, foundNumber, foundValues}
+use Rattle.settings.specs.declared.refusal.Refusal.{Refusal}
+use Rattle.curator.specs.Outcome.{foundNumber, foundValues}
+use Rattle.settings.specs.Refusals.{number}
 use Rattle.curator.specs.Changes.{Adds, Builds}
 use Rattle.curator.specs.Arguments.{AddCall, SearchCall}
 use Rattle.curator.specs.Searches.{SearchEnd, Searches}

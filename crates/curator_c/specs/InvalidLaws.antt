@@ -9,8 +9,8 @@ use lib.Seq.{sets}
 use Rattle.store.specs.Store.{Store}
 use Rattle.curator.specs.declared.Changed.{Changed}
 use Rattle.curator.specs.declared.Changed.the-variants as Changed′
-use Rattle.curator.specs.declared.Check.{Check}
-use Rattle.curator.specs.declared.Check.the-variants as Check′
+use Rattle.settings.specs.declared.Check.{Check}
+use Rattle.settings.specs.declared.Check.the-variants as Check′
 use Rattle.curator.specs.declared.CuratorIndex.{CuratorIndex}
 use Rattle.curator.specs.declared.Found.{Found}
 use Rattle.curator.specs.declared.Found.the-variants as Found′

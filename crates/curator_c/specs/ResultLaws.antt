@@ -10,12 +10,12 @@ use lib.ListN.{length}
 use Rattle.store.specs.Store.{Store}
 use Rattle.curator.specs.declared.Changed.{Changed}
 use Rattle.curator.specs.declared.Changed.the-variants as Changed′
-use Rattle.curator.specs.declared.Check.{Check}
-use Rattle.curator.specs.declared.Check.the-variants as Check′
+use Rattle.settings.specs.declared.Check.{Check}
+use Rattle.settings.specs.declared.Check.the-variants as Check′
 use Rattle.curator.specs.declared.CuratorIndex.{CuratorIndex}
 use Rattle.curator.specs.declared.Found.{Found}
 use Rattle.curator.specs.declared.Found.the-variants as Found′
-use Rattle.curator.specs.declared.refusal.Refusal.{Refusal}
+use Rattle.settings.specs.declared.refusal.Refusal.{Refusal}
 use Rattle.curator.specs.Limits.{stateSound}
 use Rattle.curator.specs.Outcome.{foundValues}
 use Rattle.curator.specs.Rows.{firstOf, stateRow, searchRows}

@@ -8,15 +8,15 @@ use lib.Ieee.{Float}
 use lib.ListN.{length}
 use lib.Seq.{sets}
 use Rattle.store.specs.Store.{Store}
-use Rattle.curator.specs.declared.Capacities.{Capacities}
+use Rattle.settings.specs.declared.Capacities.{Capacities}
 use Rattle.curator.specs.declared.Changed.{Changed}
 use Rattle.curator.specs.declared.Changed.the-variants as Changed′
-use Rattle.curator.specs.declared.CuratorParams.{CuratorParams}
+use Rattle.settings.specs.declared.CuratorParams.{CuratorParams}
 use Rattle.curator.specs.declared.Found.{Found}
 use Rattle.curator.specs.declared.Found.the-variants as Found′
-use Rattle.curator.specs.declared.refusal.Refusal.{Refusal}
-use Rattle.curator.specs.declared.refusal.Refusal.the-variants as Refusal′
-use Rattle.curator.specs.declared.refusal.StateRefusal.the-variants.{InvalidState}
+use Rattle.settings.specs.declared.refusal.Refusal.{Refusal}
+use Rattle.settings.specs.declared.refusal.Refusal.the-variants as Refusal′
+use Rattle.settings.specs.declared.refusal.StateRefusal.the-variants.{InvalidState}
 use Rattle.curator.specs.Outcome.{changedNumber, foundNumber, foundValues, ChangeRefused}
 use Rattle.curator.specs.Changes.{created, Adds, Builds}
 use Rattle.curator.specs.Arguments.{AddCall, SearchCall}

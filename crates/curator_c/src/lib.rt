@@ -13,11 +13,11 @@ ghost use Rattle.curator_c.specs.Results.{NewResult, AddResult, BuildRes
 
 pub mod state;
 
-use curator::Capacities;
 use curator::Changed;
 use curator::CuratorIndex;
-use curator::CuratorParams;
 use curator::Found;
+use settings::Capacities;
+use settings::CuratorParams;
 use state::Held;
 
 // What is returned where the call is answered, and where the list holds no state.

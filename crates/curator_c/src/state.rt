@@ -6,9 +6,9 @@ ghost use denote.Ref.{now};
 ghost use lib.ListN.{length};
 ghost use lib.Seq.{sets};
 ghost use Rattle.curator_c.specs.State.{places, stateList, stateOf, stateIn};
-use curator::Capacities;
 use curator::CuratorIndex;
-use curator::CuratorParams;
+use settings::Capacities;
+use settings::CuratorParams;
 use store::Counts;
 
 // How many places a state takes.

@@ -1,13 +1,13 @@
 // Hit records of a real search: three echoes are added, the index is built and searched, and a list of eight records is filled from the answer. Every place of
 // the list is printed, so that those from the hit count on are seen to keep what they held; then the same for a count that the two lists do not have.
 ghost use Rattle.hit_records.specs.Hits.{Fills};
-use curator::Capacities;
 use curator::Changed;
 use curator::CuratorIndex;
-use curator::CuratorParams;
 use curator::Found;
 use hit_records::Hit;
 use libc::STDOUT_FILENO;
+use settings::Capacities;
+use settings::CuratorParams;
 
 // The number that filling a list gave, and the list.
 struct Filled {

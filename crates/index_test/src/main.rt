@@ -2,10 +2,10 @@
 // beforehand, so that a surplus place that is written shows. A line has the number that is returned, 0 where the call is accepted; after an
 // add follow the counts of vectors and entries and the three lists.
 ghost use Prim.Native.Nat.{_≤_};
-use curator::Capacities;
 use curator::Changed;
 use curator::CuratorIndex;
-use curator::CuratorParams;
+use settings::Capacities;
+use settings::CuratorParams;
 use store::Counts;
 
 fn print_number(n: u64) {

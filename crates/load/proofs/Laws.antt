@@ -15,10 +15,10 @@ use Rattle.curator.specs.declared.CuratorIndex.{CuratorIndex}
 use Rattle.curator.specs.declared.Changed.{Changed}
 use Rattle.curator.specs.declared.Changed.the-variants as Changed′
 use Rattle.curator.specs.declared.Found.{Found as Reply}
-use Rattle.curator.specs.declared.refusal.Refusal.{Refusal}
-use Rattle.curator.specs.declared.refusal.Refusal.the-variants.{Settings, Input}
-use Rattle.curator.specs.declared.refusal.SettingsRefusal.the-variants.{InvalidConfig}
-use Rattle.curator.specs.declared.refusal.InputRefusal.the-variants.{BadRecord, SettingsOrder, FileTooLong}
+use Rattle.settings.specs.declared.refusal.Refusal.{Refusal}
+use Rattle.settings.specs.declared.refusal.Refusal.the-variants.{Settings, Input}
+use Rattle.settings.specs.declared.refusal.SettingsRefusal.the-variants.{InvalidConfig}
+use Rattle.settings.specs.declared.refusal.InputRefusal.the-variants.{BadRecord, SettingsOrder, FileTooLong}
 use Rattle.curator.specs.Changes.{Adds, Builds}
 use Rattle.curator.specs.Arguments.{AddCall, SearchCall, Asked, everything, labelled}
 use Rattle.curator.specs.Searches.{Searches}

@@ -19,18 +19,19 @@ use Rattle.walk.specs.Walk as walk
 use Rattle.walk.specs.Walk.{State, damaged, going}
 use Rattle.walk.specs.Answer.{answer, ranked, documentOf, distanceOf}
 use Rattle.curator.specs.declared.CuratorIndex.{CuratorIndex}
-use Rattle.curator.specs.declared.CuratorParams.{CuratorParams}
-use Rattle.curator.specs.declared.Check.{Check}
-use Rattle.curator.specs.declared.Check.the-variants as Check′
+use Rattle.settings.specs.declared.CuratorParams.{CuratorParams}
+use Rattle.settings.specs.declared.Check.{Check}
+use Rattle.settings.specs.declared.Check.the-variants as Check′
 use Rattle.curator.specs.declared.Changed.{Changed}
 use Rattle.curator.specs.declared.Changed.the-variants as Changed′
 use Rattle.curator.specs.declared.Found.{Found}
 use Rattle.curator.specs.declared.Found.the-variants as Found′
-use Rattle.curator.specs.declared.refusal.Refusal.{Refusal}
-use Rattle.curator.specs.declared.refusal.Refusal.the-variants.{Settings, Input}
-use Rattle.curator.specs.declared.refusal.SettingsRefusal.the-variants.{InvalidConfig}
-use Rattle.curator.specs.declared.refusal.InputRefusal.the-variants.{SettingsOrder}
-use Rattle.curator.specs.Outcome.{number, checkNumber, changedNumber}
+use Rattle.settings.specs.declared.refusal.Refusal.{Refusal}
+use Rattle.settings.specs.declared.refusal.Refusal.the-variants.{Settings, Input}
+use Rattle.settings.specs.declared.refusal.SettingsRefusal.the-variants.{InvalidConfig}
+use Rattle.settings.specs.declared.refusal.InputRefusal.the-variants.{SettingsOrder}
+use Rattle.curator.specs.Outcome.{changedNumber}
+use Rattle.settings.specs.Refusals.{number, checkNumber}
 use Rattle.curator.specs.Limits.{indexShape}
 use Rattle.store.specs.declared.Lengths.{Lengths}
 use Rattle.curator.specs.RowLaws.{number-positive}

@@ -15,8 +15,8 @@ use Rattle.store.specs.Store.{Store, floatsSize, numbersSize, hashesSize, workS
 use Rattle.curator.specs.declared.CuratorIndex.{CuratorIndex}
 use Rattle.curator.specs.declared.Changed.{Changed}
 use Rattle.curator.specs.declared.Changed.the-variants as Changed′
-use Rattle.curator.specs.declared.refusal.Refusal.the-variants.{Input}
-use Rattle.curator.specs.declared.refusal.InputRefusal.the-variants.{BadRecord, SettingsOrder, FileTooLong}
+use Rattle.settings.specs.declared.refusal.Refusal.the-variants.{Input}
+use Rattle.settings.specs.declared.refusal.InputRefusal.the-variants.{BadRecord, SettingsOrder, FileTooLong}
 use Rattle.curator.specs.Changes.{created, Builds}
 use Rattle.curator.specs.Arguments.{AddCall, SearchCall, everything, labelled}
 use Rattle.runs.specs.Agree.{SameLengths}

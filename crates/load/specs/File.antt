@@ -9,16 +9,16 @@ use lib.ListN.{length, replicate}
 use Rattle.store.specs.declared.Shape.{Shape}
 use Rattle.store.specs.Store.{floatsSize, numbersSize, hashesSize, workSize}
 use Rattle.walk.specs.Answer.{Answer}
-use Rattle.curator.specs.declared.CuratorParams.{CuratorParams}
-use Rattle.curator.specs.declared.Capacities.{Capacities}
+use Rattle.settings.specs.declared.CuratorParams.{CuratorParams}
+use Rattle.settings.specs.declared.Capacities.{Capacities}
 use Rattle.curator.specs.declared.Changed.{Changed}
 use Rattle.curator.specs.declared.Changed.the-variants as Changed′
-use Rattle.curator.specs.declared.refusal.Refusal.{Refusal}
-use Rattle.curator.specs.declared.refusal.Refusal.the-variants.{Settings, Input, Store}
-use Rattle.curator.specs.declared.refusal.SettingsRefusal.the-variants.{InvalidConfig}
-use Rattle.curator.specs.declared.refusal.InputRefusal.the-variants.{BadRecord, SettingsOrder, FileTooLong}
-use Rattle.curator.specs.declared.refusal.StoreRefusal.the-variants.{Damaged}
-use Rattle.curator.specs.Outcome.{number}
+use Rattle.settings.specs.declared.refusal.Refusal.{Refusal}
+use Rattle.settings.specs.declared.refusal.Refusal.the-variants.{Settings, Input, Store}
+use Rattle.settings.specs.declared.refusal.SettingsRefusal.the-variants.{InvalidConfig}
+use Rattle.settings.specs.declared.refusal.InputRefusal.the-variants.{BadRecord, SettingsOrder, FileTooLong}
+use Rattle.settings.specs.declared.refusal.StoreRefusal.the-variants.{Damaged}
+use Rattle.settings.specs.Refusals.{number}
 use Rattle.curator.specs.Changes.{created}
 use Rattle.curator.specs.Arguments.{AddCall, SearchCall, Asked, everything, labelled}
 use Rattle.runs.specs.Calls.{Fronts, add, build, Call, change, search}

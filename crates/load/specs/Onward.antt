@@ -12,9 +12,9 @@ use Rattle.curator.specs.declared.Changed.{Changed}
 use Rattle.curator.specs.declared.Changed.the-variants as Changed′
 use Rattle.curator.specs.declared.Found.{Found}
 use Rattle.curator.specs.declared.Found.the-variants as Found′
-use Rattle.curator.specs.declared.refusal.Refusal.{Refusal}
-use Rattle.curator.specs.declared.refusal.Refusal.the-variants.{Settings}
-use Rattle.curator.specs.declared.refusal.SettingsRefusal.the-variants.{InvalidConfig}
+use Rattle.settings.specs.declared.refusal.Refusal.{Refusal}
+use Rattle.settings.specs.declared.refusal.Refusal.the-variants.{Settings}
+use Rattle.settings.specs.declared.refusal.SettingsRefusal.the-variants.{InvalidConfig}
 use Rattle.curator.specs.Changes.{created}
 use Rattle.curator.specs.Arguments.{SearchCall}
 use Rattle.echo_file.specs.Format.{Record, settings, vector, filtered, unfiltered}

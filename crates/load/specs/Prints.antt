@@ -13,9 +13,9 @@ use lib.Seq.{sets-eq, take-append-seam}
 use Rattle.lists.specs.Lists.{joined}
 use Rattle.store.specs.Store.{Store}
 use Rattle.curator.specs.declared.CuratorIndex.{CuratorIndex}
-use Rattle.curator.specs.declared.refusal.Refusal.{Refusal}
-use Rattle.curator.specs.declared.refusal.Refusal.the-variants.{Input}
-use Rattle.curator.specs.declared.refusal.InputRefusal.the-variants.{BadRecord, FileTooLong}
+use Rattle.settings.specs.declared.refusal.Refusal.{Refusal}
+use Rattle.settings.specs.declared.refusal.Refusal.the-variants.{Input}
+use Rattle.settings.specs.declared.refusal.InputRefusal.the-variants.{BadRecord, FileTooLong}
 use Rattle.echo_file.specs.declared.Known.{Known}
 use Rattle.echo_file.specs.Format.{Record}
 use Rattle.echo_file.specs.Decode.{Decoded, none, found, decode}

@@ -12,17 +12,17 @@ use Rattle.store.specs.Store.{Store}
 use Rattle.walk.specs.Walk.{State, damaged, going}
 use Rattle.walk.specs.Answer.{answer, ranked, documentOf}
 use Rattle.curator.specs.declared.CuratorIndex.{CuratorIndex}
-use Rattle.curator.specs.declared.Check.{Check}
-use Rattle.curator.specs.declared.Check.the-variants as Check′
+use Rattle.settings.specs.declared.Check.{Check}
+use Rattle.settings.specs.declared.Check.the-variants as Check′
 use Rattle.curator.specs.declared.Changed.{Changed}
 use Rattle.curator.specs.declared.Changed.the-variants as Changed′
 use Rattle.curator.specs.declared.Found.{Found}
 use Rattle.curator.specs.declared.Found.the-variants as Found′
-use Rattle.curator.specs.declared.CuratorParams.{CuratorParams}
-use Rattle.curator.specs.declared.refusal.Refusal.{Refusal}
-use Rattle.curator.specs.declared.refusal.Refusal.the-variants.{Settings, Input}
-use Rattle.curator.specs.declared.refusal.SettingsRefusal.the-variants.{InvalidConfig}
-use Rattle.curator.specs.declared.refusal.InputRefusal.the-variants.{BadRecord, SettingsOrder, FileTooLong}
+use Rattle.settings.specs.declared.CuratorParams.{CuratorParams}
+use Rattle.settings.specs.declared.refusal.Refusal.{Refusal}
+use Rattle.settings.specs.declared.refusal.Refusal.the-variants.{Settings, Input}
+use Rattle.settings.specs.declared.refusal.SettingsRefusal.the-variants.{InvalidConfig}
+use Rattle.settings.specs.declared.refusal.InputRefusal.the-variants.{BadRecord, SettingsOrder, FileTooLong}
 use Rattle.curator.specs.Rows.{stateRow, searchRows}
 use Rattle.curator.specs.RowLaws.{fine-none}
 use Rattle.curator.specs.Calls.{factsOf}

@@ -6,19 +6,19 @@ ghost use Rattle.load.specs.File.{capacities};
 ghost use Rattle.load.specs.Step.{Carries, SearchesBuilt, searchWith, openedBy, addedBy, foundBy};
 ghost use Rattle.load.specs.Code.{lists, asking, Narrow, floatsOf, WithComponents, CarriesFirst, CarriesNext};
 use crate::Loading;
-use curator::Capacities;
 use curator::Changed;
 use curator::CuratorIndex;
-use curator::CuratorParams;
 use curator::Found;
-use curator::refusal::InputRefusal;
-use curator::refusal::Refusal;
-use curator::refusal::SettingsRefusal;
 use echo_file::Known;
 use echo_file::Located;
 use echo_file::Reading;
 use echo_file::floats::read_floats;
 use echo_file::read_record;
+use settings::Capacities;
+use settings::CuratorParams;
+use settings::refusal::InputRefusal;
+use settings::refusal::Refusal;
+use settings::refusal::SettingsRefusal;
 
 // What came of a record: a refusal, after which the file is left; nothing to print; or an answer. `End` where no record is left.
 pub enum Carried {

@@ -13,11 +13,12 @@ use Rattle.vector.specs.Normalized.{normalized, normalized-holds}
 use Rattle.lists.specs.Tests.{either}
 use Rattle.store.specs.Store.{Store, ownersAt}
 use Rattle.curator.specs.declared.CuratorIndex.{CuratorIndex}
-use Rattle.curator.specs.declared.Check.{Check}
-use Rattle.curator.specs.declared.Check.the-variants as Check′
+use Rattle.settings.specs.declared.Check.{Check}
+use Rattle.settings.specs.declared.Check.the-variants as Check′
 use Rattle.curator.specs.declared.Changed.{Changed}
 use Rattle.curator.specs.declared.Changed.the-variants as Changed′
-use Rattle.curator.specs.Outcome.{checkNumber, changedNumber}
+use Rattle.curator.specs.Outcome.{changedNumber}
+use Rattle.settings.specs.Refusals.{checkNumber}
 use Rattle.curator.specs.Limits.{indexShape}
 use Rattle.curator.specs.Rows.{addRows}
 use Rattle.store.specs.declared.Lengths.{Lengths}

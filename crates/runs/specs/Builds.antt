@@ -16,15 +16,16 @@ use Rattle.store.specs.Store.{Store, centroidsAt, orderAt, filtersAt}
 use Rattle.tree.specs.Layout.{floatsOf, numbersOf, hashesOf}
 use Rattle.tree.specs.LayoutLaws.{length-floatsOf, length-numbersOf, length-hashesOf}
 use Rattle.curator.specs.declared.CuratorIndex.{CuratorIndex}
-use Rattle.curator.specs.declared.Check.{Check}
-use Rattle.curator.specs.declared.Check.the-variants as Check′
+use Rattle.settings.specs.declared.Check.{Check}
+use Rattle.settings.specs.declared.Check.the-variants as Check′
 use Rattle.curator.specs.declared.Changed.{Changed}
 use Rattle.curator.specs.declared.Changed.the-variants as Changed′
-use Rattle.curator.specs.declared.refusal.Refusal.{Refusal}
-use Rattle.curator.specs.declared.refusal.Refusal.the-variants as Refusal′
-use Rattle.curator.specs.declared.refusal.StoreRefusal.{StoreRefusal}
-use Rattle.curator.specs.declared.refusal.StoreRefusal.the-variants.{ListTooShort, VectorsFull, EntriesFull, NodesFull, Damaged}
-use Rattle.curator.specs.Outcome.{checkNumber, changedNumber}
+use Rattle.settings.specs.declared.refusal.Refusal.{Refusal}
+use Rattle.settings.specs.declared.refusal.Refusal.the-variants as Refusal′
+use Rattle.settings.specs.declared.refusal.StoreRefusal.{StoreRefusal}
+use Rattle.settings.specs.declared.refusal.StoreRefusal.the-variants.{ListTooShort, VectorsFull, EntriesFull, NodesFull, Damaged}
+use Rattle.curator.specs.Outcome.{changedNumber}
+use Rattle.settings.specs.Refusals.{checkNumber}
 use Rattle.curator.specs.Limits.{indexShape}
 use Rattle.curator.specs.Rows.{Facts, firstOf, buildRows}
 use Rattle.store.specs.declared.Lengths.{Lengths}

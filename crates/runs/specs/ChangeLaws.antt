@@ -8,9 +8,10 @@ use mathlib.Core.Path.{_≡_, refl, sym, _∙_}
 use native.Mathlib.Omega.{arith}
 use Rattle.store.specs.Store.{Store}
 use Rattle.curator.specs.declared.CuratorIndex.{CuratorIndex}
-use Rattle.curator.specs.declared.Check.the-variants as Check′
+use Rattle.settings.specs.declared.Check.the-variants as Check′
 use Rattle.curator.specs.declared.Changed.{Changed}
-use Rattle.curator.specs.Outcome.{number, checkNumber, changedNumber}
+use Rattle.curator.specs.Outcome.{changedNumber}
+use Rattle.settings.specs.Refusals.{number, checkNumber}
 use Rattle.curator.specs.Rows.{Row, firstOf}
 use Rattle.store.specs.declared.Lengths.{Lengths}
 use Rattle.runs.specs.Calls.{Fronts, Change, lentBy, Typed}

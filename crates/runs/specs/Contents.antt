@@ -5,8 +5,8 @@ use mathlib.Core.List.{List, [], _∷_}
 use mathlib.Core.Path.{_≡_, refl, ap}
 use Rattle.vector.specs.Normalized.{normalized}
 use Rattle.walk.specs.Walk.{walk}
-use Rattle.curator.specs.declared.Check.{Check}
-use Rattle.curator.specs.Outcome.{checkNumber}
+use Rattle.settings.specs.declared.Check.{Check}
+use Rattle.settings.specs.Refusals.{checkNumber}
 use Rattle.curator.specs.Rows.{firstOf, searchRows}
 use Rattle.store.specs.declared.Lengths.{Lengths}
 use Rattle.curator.specs.Searches.{wantedOf}

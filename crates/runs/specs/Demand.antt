@@ -2,7 +2,7 @@
 use Prim.Native.Nat.{ℕ, _≤_}
 use mathlib.Core.List.{List, [], _∷_}
 use mathlib.Core.Path.{_≡_}
-use Rattle.curator.specs.Outcome.{checkNumber}
+use Rattle.settings.specs.Refusals.{checkNumber}
 use Rattle.runs.specs.Calls.{Call}
 use Rattle.runs.specs.Model.{Setting, Model, emptyModel, modelCheck, expected, after}
 use Rattle.runs.specs.Run.{Ended, Run}

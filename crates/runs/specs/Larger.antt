@@ -22,7 +22,7 @@ use Rattle.walk.specs.Walk.{Progress, going, walk, whole}
 use Rattle.walk.specs.WalkLaws.{larger-later}
 use Rattle.walk.specs.Answer.{answer, documentOf, distanceOf, ranked}
 use Rattle.walk.specs.AnswerLaws.{never-worse, never-later}
-use Rattle.curator.specs.Outcome.{checkNumber}
+use Rattle.settings.specs.Refusals.{checkNumber}
 use Rattle.curator.specs.Arguments.{SearchCall}
 use Rattle.runs.specs.Calls.{Fronts, Call, change, search, lentBy, AlikeSearch, Alike, AllAlike}
 use Rattle.runs.specs.Model.{Setting, Model, modelNodes, changeCheck, treeView, expected, after}

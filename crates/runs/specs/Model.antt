@@ -18,12 +18,12 @@ use Rattle.walk.specs.declared.Wanted.{Wanted}
 use Rattle.walk.specs.declared.Wanted.the-variants.{Everything, Label}
 use Rattle.walk.specs.Walk.{View, Shown, State, damaged, going, children, hits, walk}
 use Rattle.walk.specs.Answer.{Answer, answer, hitOf}
-use Rattle.curator.specs.declared.CuratorParams.{CuratorParams}
-use Rattle.curator.specs.declared.Capacities.{Capacities}
-use Rattle.curator.specs.declared.Check.{Check}
-use Rattle.curator.specs.declared.Check.the-variants.{Fine, Refused}
+use Rattle.settings.specs.declared.CuratorParams.{CuratorParams}
+use Rattle.settings.specs.declared.Capacities.{Capacities}
+use Rattle.settings.specs.declared.Check.{Check}
+use Rattle.settings.specs.declared.Check.the-variants.{Fine, Refused}
 use Rattle.curator.specs.Limits.{shapeOf}
-use Rattle.curator.specs.Outcome.{number, checkNumber}
+use Rattle.settings.specs.Refusals.{number, checkNumber}
 use Rattle.curator.specs.Rows.{Facts, Row, firstOf, addRows, buildRows, searchRows}
 use Rattle.store.specs.declared.Lengths.{Lengths}
 use Rattle.curator.specs.Calls.{hashesOfLabels, splittingOf}

@@ -10,11 +10,12 @@ use Rattle.store.specs.Store.{Store}
 use Rattle.walk.specs.Walk.{State, Progress, damaged, going}
 use Rattle.walk.specs.Answer.{answer}
 use Rattle.curator.specs.declared.CuratorIndex.{CuratorIndex}
-use Rattle.curator.specs.declared.Check.{Check}
-use Rattle.curator.specs.declared.Check.the-variants as Check′
+use Rattle.settings.specs.declared.Check.{Check}
+use Rattle.settings.specs.declared.Check.the-variants as Check′
 use Rattle.curator.specs.declared.Changed.{Changed}
 use Rattle.curator.specs.declared.Found.the-variants.{Hits}
-use Rattle.curator.specs.Outcome.{number, checkNumber, foundNumber}
+use Rattle.curator.specs.Outcome.{foundNumber}
+use Rattle.settings.specs.Refusals.{number, checkNumber}
 use Rattle.curator.specs.Rows.{searchRows}
 use Rattle.curator.specs.RowLaws.{number-positive}
 use Rattle.curator.specs.Arguments.{SearchCall}

@@ -14,7 +14,7 @@ use Rattle.store.specs.Store.{Store, floatsSize, numbersSize, hashesSize, workS
 use Rattle.tree.specs.Nodes.{Entries}
 use Rattle.tree.specs.Tree.{treeOf, size}
 use Rattle.lists.specs.Tests.{allPass, and-left, and-right}
-use Rattle.curator.specs.declared.Check.the-variants as Check′
+use Rattle.settings.specs.declared.Check.the-variants as Check′
 use Rattle.curator.specs.Rows.{Facts, firstOf, addRows, buildRows, searchRows}
 use Rattle.store.specs.declared.Lengths.{Lengths}
 use Rattle.store.specs.Lent.{storeShort, listsShort, lengthsOf}

@@ -15,8 +15,8 @@ use Rattle.walk.specs.Answer.{answer}
 use Rattle.walk.specs.StoreView.{storeView}
 use Rattle.walk.specs.SoundWalk.{sound-goes}
 use Rattle.curator.specs.declared.CuratorIndex.{CuratorIndex}
-use Rattle.curator.specs.declared.Check.{Check}
-use Rattle.curator.specs.declared.Check.the-variants as Check′
+use Rattle.settings.specs.declared.Check.{Check}
+use Rattle.settings.specs.declared.Check.the-variants as Check′
 use Rattle.curator.specs.Outcome.{foundNumber}
 use Rattle.curator.specs.Searches.{wantedOf, Searches, SearchesBy, WalkedTo}
 use Rattle.curator.specs.Arguments.{SearchCall}

@@ -12,7 +12,8 @@ use Rattle.tree.specs.Tree.{treeOf}
 use Rattle.tree.specs.TreeLaws.{size-some}
 use Rattle.curator.specs.declared.CuratorIndex.{CuratorIndex}
 use Rattle.curator.specs.declared.Changed.the-variants as Changed′
-use Rattle.curator.specs.Limits.{builtAllowed, stateSound}
+use Rattle.curator.specs.Limits.{stateSound}
+use Rattle.settings.specs.Limits.{builtAllowed}
 use Rattle.curator.specs.Calls.{fresh, splittingOf}
 use Rattle.curator.specs.Changes.{created}
 use Rattle.curator.specs.StateLaws.{Sound, sound-facts, facts-sound, created-accepted, created-sound}

@@ -17,7 +17,8 @@ use Rattle.walk.specs.declared.Wanted.{Wanted}
 use Rattle.walk.specs.declared.Wanted.the-variants.{Everything, Label}
 use Rattle.walk.specs.Answer.{Answer}
 use Rattle.curator.specs.declared.Found.the-variants.{Hits}
-use Rattle.curator.specs.Outcome.{checkNumber, changedNumber, foundNumber}
+use Rattle.curator.specs.Outcome.{changedNumber, foundNumber}
+use Rattle.settings.specs.Refusals.{checkNumber}
 use Rattle.curator.specs.Searches.{SearchEnd, wantedOf}
 use Rattle.curator.specs.Arguments.{SearchCall}
 use Rattle.runs.specs.Calls.{Call, change, search, AllAlike}

@@ -20,7 +20,7 @@ use Rattle.vector.specs.Normalized.{normalized}
 use Rattle.walk.specs.Walk.{Progress, going, walk, whole}
 use Rattle.walk.specs.Answer.{documentOf, distanceOf, ranked}
 use Rattle.walk.specs.SoundWalk.{sound-enough}
-use Rattle.curator.specs.Outcome.{checkNumber}
+use Rattle.settings.specs.Refusals.{checkNumber}
 use Rattle.curator.specs.Searches.{wantedOf}
 use Rattle.curator.specs.Arguments.{SearchCall}
 use Rattle.runs.specs.Calls.{Call, change, search, lentBy}

@@ -22,14 +22,15 @@ use Rattle.walk.specs.Contracts.{Works, SearchEnds, SearchGives}
 use Rattle.best_first_search.specs.Ranks.{SearchLent}
 use Rattle.walk.specs.StoreView.{storeView}
 use Rattle.walk.specs.Walk.{State, damaged, going, walk}
-use Rattle.curator.specs.declared.Check.{Check}
-use Rattle.curator.specs.declared.Check.the-variants.{Fine}
+use Rattle.settings.specs.declared.Check.{Check}
+use Rattle.settings.specs.declared.Check.the-variants.{Fine}
 use Rattle.curator.specs.declared.CuratorIndex.{CuratorIndex}
 use Rattle.curator.specs.declared.Found.the-variants as found
 use Rattle.curator.specs.Calls.{factsOf}
 use Rattle.store.specs.Lent.{lengthsOf, storeShort, listsShort}
 use Rattle.curator.specs.Changes.{Freed, workPart}
-use Rattle.curator.specs.Limits.{stateSound, indexShape, builtAllowed}
+use Rattle.curator.specs.Limits.{stateSound, indexShape}
+use Rattle.settings.specs.Limits.{builtAllowed}
 use Rattle.curator.specs.RowLaws.{NoneHolds, fine-none}
 use Rattle.curator.specs.Rows.{Row, stateRow, searchRows}
 use Rattle.store.specs.declared.Lengths.{Lengths}

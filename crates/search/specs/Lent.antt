@@ -10,12 +10,12 @@ use Rattle.walk.specs.Contracts.{StoreLent}
 use Rattle.walk.specs.declared.Searched.{Searched}
 use Rattle.walk.specs.declared.Searched.the-variants as searched
 use Rattle.walk.specs.declared.Wanted.{Wanted}
-use Rattle.curator.specs.declared.Check.{Check}
+use Rattle.settings.specs.declared.Check.{Check}
 use Rattle.curator.specs.declared.CuratorIndex.{CuratorIndex}
 use Rattle.curator.specs.declared.Found.{Found}
 use Rattle.curator.specs.declared.Found.the-variants as answers
-use Rattle.curator.specs.declared.refusal.Refusal.the-variants as refusal
-use Rattle.curator.specs.declared.refusal.StoreRefusal.the-variants as store-refusal
+use Rattle.settings.specs.declared.refusal.Refusal.the-variants as refusal
+use Rattle.settings.specs.declared.refusal.StoreRefusal.the-variants as store-refusal
 use Rattle.curator.specs.Limits.{stateSound, indexShape}
 use Rattle.curator.specs.Rows.{firstOf, stateRow, searchRows}
 use Rattle.store.specs.declared.Lengths.{Lengths}

@@ -1,13 +1,13 @@
 // Document 01's worked example: three echoes are added, the index is built, and the nearest are looked up, at budgets below, at and above the node count,
 // with a label that no echo has and with one of 300 bytes. Then the same after numbers of the store were overwritten: each kind of damage at the first and at
 // the last place where it can stand, and garbage that no search reads. Those lines are reasoned from 01's list of damage.
-use curator::Capacities;
 use curator::Changed;
 use curator::CuratorIndex;
-use curator::CuratorParams;
 use curator::Found;
-use curator::refusal::Refusal;
 use libc::STDOUT_FILENO;
+use settings::Capacities;
+use settings::CuratorParams;
+use settings::refusal::Refusal;
 
 fn print_refusal(refusal: Refusal) {
     let mut line = [0u8; 19];

@@ -1,7 +1,7 @@
 -- By the case of the check: its refusal, a built index as it was, or what `make_index` leaves.
 use mathlib.Core.Path.{_≡_, sym, _∙_}
 use Rattle.store.specs.Store.{Store}
-use Rattle.curator.specs.declared.Check.the-variants.{Fine}
+use Rattle.settings.specs.declared.Check.the-variants.{Fine}
 use Rattle.store.specs.Lent.{lengthsOf, lent}
 use Rattle.build.specs.Asked.{buildChecked}
 use Rattle.build.specs.CheckLaws.{check-built, ready}

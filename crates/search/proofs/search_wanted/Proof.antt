@@ -1,6 +1,6 @@
 -- By the case of the check: its first refusal, or the walk; that no row's case holds gives what the walk relies on.
 use mathlib.Core.Path.{_≡_, refl, sym, _∙_}
-use Rattle.curator.specs.declared.Check.the-variants.{Fine}
+use Rattle.settings.specs.declared.Check.the-variants.{Fine}
 use Rattle.store.specs.Lent.{lent}
 use Rattle.curator.specs.Searches.{SearchesBy, searchCheck}
 use Rattle.curator.specs.Arguments.{Asked, everything, SearchCall}

@@ -3,7 +3,7 @@ use mathlib.Core.Path.{_≡_, refl, sym, ap, _∙_}
 use native.Mathlib.Omega.{arith}
 use Rattle.store.specs.Store.{Store}
 use Rattle.curator.specs.declared.Changed.the-variants.{Index}
-use Rattle.curator.specs.declared.Check.the-variants.{Fine}
+use Rattle.settings.specs.declared.Check.the-variants.{Fine}
 use Rattle.curator.specs.AddLaws.{Accepted, add-facts, adds-by}
 use Rattle.curator.specs.Changes.{AddsBy, addCheck}
 use Rattle.curator.specs.Arguments.{AddCall}

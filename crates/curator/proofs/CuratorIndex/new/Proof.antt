@@ -4,12 +4,12 @@ use mathlib.Core.List.{List}
 use mathlib.Core.Path.{_≡_, sym, ap, ap₂, _∙_}
 use borrow.Author.Needs.{needs}
 use lib.ListN.{drop}
-use Rattle.curator.specs.declared.Check.{Check}
-use Rattle.curator.specs.declared.Check.the-variants as Check′
-use Rattle.curator.specs.declared.refusal.Refusal.the-variants.{Settings}
-use Rattle.curator.specs.declared.refusal.SettingsRefusal.the-variants.{InvalidDimension, InvalidConfig}
+use Rattle.settings.specs.declared.Check.{Check}
+use Rattle.settings.specs.declared.Check.the-variants as Check′
+use Rattle.settings.specs.declared.refusal.Refusal.the-variants.{Settings}
+use Rattle.settings.specs.declared.refusal.SettingsRefusal.the-variants.{InvalidDimension, InvalidConfig}
 use Rattle.curator.specs.Changes.{newAnswer, created}
-use Rattle.curator.specs.Limits.{paramsAllowed, capacitiesAllowed}
+use Rattle.settings.specs.Limits.{paramsAllowed, capacitiesAllowed}
 use Rattle.curator.specs.RowLaws.{no-rows, row-stops, row-passes, is-created}
 use Rattle.curator.specs.Rows.{Row, firstOf, newRows}
 use Rattle.curator.proofs.CuratorIndex.new.Statement.{statement}

@@ -2,7 +2,8 @@
 use mathlib.Core.Bool.{Bool, _&&_, and-true}
 use mathlib.Core.Path.{_≡_}
 use Rattle.curator.specs.declared.CuratorIndex.{CuratorIndex}
-use Rattle.curator.specs.Limits.{dimensionAllowed, paramsAllowed, capacitiesAllowed, countsAllowed, builtAllowed, stateSound}
+use Rattle.curator.specs.Limits.{stateSound}
+use Rattle.settings.specs.Limits.{dimensionAllowed, paramsAllowed, capacitiesAllowed, countsAllowed, builtAllowed}
 use borrow.Author.Needs.{needs}
 use Rattle.curator.proofs.limits.state_sound.Statement.{statement}
 use Rattle.curator.proofs.limits.state_sound.Tie as tie

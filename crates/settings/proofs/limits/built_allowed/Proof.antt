@@ -1,7 +1,7 @@
 -- By cases of the flag.
-use Rattle.curator.specs.Limits.{builtAllowed}
-use Rattle.curator.proofs.limits.built_allowed.Statement.{statement}
-use Rattle.curator.proofs.limits.built_allowed.Tie as tie
+use Rattle.settings.specs.Limits.{builtAllowed}
+use Rattle.settings.proofs.limits.built_allowed.Statement.{statement}
+use Rattle.settings.proofs.limits.built_allowed.Tie as tie
 
 returns : tie.Need-returns
 unfolding builtAllowed

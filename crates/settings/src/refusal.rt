@@ -1,6 +1,6 @@
 // Why a call is refused. Each refusal has the number that document 01 gives it.
 ghost use mathlib.Core.Path.{_≡_};
-ghost use Rattle.curator.specs.Outcome.{settingsNumber, stateNumber, inputNumber, storeNumber, number};
+ghost use Rattle.settings.specs.Refusals.{settingsNumber, stateNumber, inputNumber, storeNumber, number};
 
 pub enum SettingsRefusal {
     InvalidDimension,

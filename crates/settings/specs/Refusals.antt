@@ -1,0 +1,51 @@
+-- Document 01's number for every refusal: the table's column 'Returned'.
+use Prim.Native.Nat.{ℕ}
+use Rattle.settings.specs.declared.Check.{Check}
+use Rattle.settings.specs.declared.Check.the-variants as Check′
+use Rattle.settings.specs.declared.refusal.Refusal.{Refusal}
+use Rattle.settings.specs.declared.refusal.Refusal.the-variants.{Settings, State, Input, Store}
+use Rattle.settings.specs.declared.refusal.SettingsRefusal.{SettingsRefusal}
+use Rattle.settings.specs.declared.refusal.SettingsRefusal.the-variants.{InvalidDimension, InvalidConfig}
+use Rattle.settings.specs.declared.refusal.StateRefusal.{StateRefusal}
+use Rattle.settings.specs.declared.refusal.StateRefusal.the-variants.{InvalidState, AlreadyBuilt, NotBuilt, EmptyIndex}
+use Rattle.settings.specs.declared.refusal.InputRefusal.{InputRefusal}
+use Rattle.settings.specs.declared.refusal.InputRefusal.the-variants.{DimensionMismatch, NonFiniteInput, LabelLengths, AnswerTooShort, BadRecord, SettingsOrder, FileTooLong}
+use Rattle.settings.specs.declared.refusal.StoreRefusal.{StoreRefusal}
+use Rattle.settings.specs.declared.refusal.StoreRefusal.the-variants.{ListTooShort, VectorsFull, EntriesFull, NodesFull, Damaged}
+
+abbrev pub settingsNumber : SettingsRefusal → ℕ
+settingsNumber InvalidDimension = 1
+settingsNumber InvalidConfig = 2
+
+abbrev pub stateNumber : StateRefusal → ℕ
+stateNumber InvalidState = 4
+stateNumber AlreadyBuilt = 5
+stateNumber NotBuilt = 6
+stateNumber EmptyIndex = 12
+
+abbrev pub inputNumber : InputRefusal → ℕ
+inputNumber DimensionMismatch = 7
+inputNumber NonFiniteInput = 8
+inputNumber LabelLengths = 9
+inputNumber AnswerTooShort = 14
+inputNumber BadRecord = 16
+inputNumber SettingsOrder = 17
+inputNumber FileTooLong = 18
+
+abbrev pub storeNumber : StoreRefusal → ℕ
+storeNumber ListTooShort = 3
+storeNumber VectorsFull = 10
+storeNumber EntriesFull = 11
+storeNumber NodesFull = 13
+storeNumber Damaged = 15
+
+-- the table's column 'Returned'
+abbrev pub number : Refusal → ℕ
+number (Settings r) = settingsNumber r
+number (State r) = stateNumber r
+number (Input r) = inputNumber r
+number (Store r) = storeNumber r
+
+abbrev pub checkNumber : Check → ℕ
+checkNumber Check′.Fine = 0
+checkNumber (Check′.Refused r) = number r
