@@ -57,6 +57,12 @@ unfolding insertHash
 insertAll filter [] = filter
 insertAll filter (hash ∷ hashes) = insertAll (insertHash filter hash) hashes
 
+-- The filters of a list, united into one from left to right.
+unfoldable pub unionAll : List ℕ → List (List ℕ) → List ℕ
+unfolding union
+unionAll filter [] = filter
+unionAll filter (other ∷ others) = unionAll (union filter other) others
+
 -- Every word has 64 bits.
 abbrev pub Words : List ℕ → Type 0
 Words filter = (i : ℕ) → getD filter i 0 < 2 ^ 64

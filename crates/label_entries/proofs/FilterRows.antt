@@ -12,16 +12,19 @@ use Rattle.lists.specs.Counting.{getD-Memᴰ, every-Memᴰ, joined-cons, joined
 use Rattle.lists.specs.Parts.{getD-part, part-part, getD-sets-before, part-sets-same, sets-append, sets-comm}
 use Rattle.store.specs.declared.Shape.{Shape}
 use Rattle.store.specs.Store.{nodesAt, linksAt, entryOrderAt, filtersAt, numbersSize, hashesSize}
-use Rattle.label.specs.Filter.{emptyFilter, insertAll}
+use Rattle.label.specs.Filter.{emptyFilter, insertAll, unionAll}
 use Rattle.tree.specs.Tree.{Splitting, treeOf, size}
 use Rattle.tree.specs.Nodes.{Entries, Node, nodesOf}
 use Rattle.tree.specs.Layout.{startOf, numbersOf, hashesOf}
 use Rattle.tree.specs.TreeLaws.{fair-treeOf}
-use Rattle.tree.specs.NodeLaws.{length-nodesOf, entry-below, unionAll}
+use Rattle.tree.specs.NodeLaws.{length-nodesOf, entry-below}
 use Rattle.tree.specs.Subtrees.{node-entries, node-filter-length, node-children, filter-at}
 use Rattle.tree.specs.LayoutLaws.{blockAt, NodesFit, sixOf, length-numbersOf, field-read, children-read, entries-read, start-end, length-blocks, row-read}
-use Rattle.label_entries.specs.Passes.{placesOf, cell, entryBlock, childBlock, filterMade, filtersMade, RowFits}
-use Rattle.label_entries.proofs.Filtering.{map-same, made-next, made-none}
+use Rattle.node_table.specs.Table.{placesOf, cell}
+use Rattle.node_filters.specs.Filters.{entryBlock, childBlock, filterMade, filtersMade}
+use Rattle.node_filters.specs.Contracts.{RowFits}
+use Rattle.lists.specs.Maps.{map-same}
+use Rattle.node_filters.specs.FiltersLaws.{made-next, made-none}
 use Rattle.label_entries.proofs.Rows.{noNode}
 
 -- a part of a run that was written
@@ -177,9 +180,9 @@ module _ (shape : Shape) (s : Splitting) (vectors : List (List Float)) (e : Entr
       ap₂ (λ (x y : List ℕ). unionAll (insertAll emptyFilter (map (λ k. getD (filled (suc i)) k 0) x)) (map (λ c. part (filtersAt shape + 4 * c) 4 (filled (suc i))) y))
       (entries-are i h) (children-are i h)
       ∙ ap₂ (λ (x : List ℕ) (y : List (List ℕ)). unionAll (insertAll emptyFilter x) y)
-      (map-same (λ k. getD (filled (suc i)) k 0) (λ number. getD (e .hashes) number 0) (node .entries)
+      (map-same (λ k. getD (filled (suc i)) k 0) (λ number. getD (e .hashes) number 0) (node .entries) 0
       (λ k g. let lt = entry-lt i k h g in hash-read (suc i) (getD (node .entries) k 0) (omega arith)))
-      (map-same (λ c. part (filtersAt shape + 4 * c) 4 (filled (suc i))) (λ c. getD nodes c noNode .filter) (node .children)
+      (map-same (λ c. part (filtersAt shape + 4 * c) 4 (filled (suc i))) (λ c. getD nodes c noNode .filter) (node .children) 0
       (λ k g. let r = child-range i k h g in child-filter i (getD (node .children) k 0) (r .0) (r .1)))
       ∙ sym (filter-at s vectors e (treeOf s vectors) (fair-treeOf s vectors b) i noNode (omega arith))
 

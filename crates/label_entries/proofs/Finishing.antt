@@ -19,11 +19,14 @@ use Rattle.tree.specs.NodeLaws.{length-ids, length-nodesOf, perm-entries}
 use Rattle.tree.specs.Links.{Linked, linkUp, linkUp-nodesOf, length-linked}
 use Rattle.tree.specs.LayoutLaws.{blockAt, block-read, block-end, NodesFit, nodesOf-fit}
 use Rattle.tree.specs.Made.{madeFrom}
-use Rattle.label_entries.specs.Passes.{written, cellAt, cell, cells, column, sumTo, blockStart, Counts, marked, leavesMarked, classStart, classPlace}
+use Rattle.node_table.specs.Table.{written, cellAt, cell, cells, column, sumTo, blockStart}
+use Rattle.child_links.specs.Contracts.{Counts}
+use Rattle.entry_leaves.specs.Leaves.{marked, leavesMarked}
+use Rattle.entry_order.specs.EntryOrder.{classStart, classPlace}
 use Rattle.label_entries.specs.Finish.{held, Room, AllMade, nodesMade, Used}
-use Rattle.label_entries.proofs.Written.{Distinct, length-written, getD-written-other, getD-written-same}
-use Rattle.label_entries.proofs.Marking.{length-marked}
-use Rattle.label_entries.proofs.Classes.{classTo, length-class-all, sumTo-congr, sumTo-block, sorted-is}
+use Rattle.node_table.specs.TableLaws.{Distinct, length-written, getD-written-other, getD-written-same, sumTo-congr}
+use Rattle.entry_leaves.specs.LeavesLaws.{length-marked}
+use Rattle.label_entries.proofs.Classes.{classTo, length-class-all, sumTo-block, sorted-is}
 use Rattle.label_entries.proofs.Rows.{noNode, cells-are, id-count, table-is}
 use Rattle.label_entries.proofs.Owners.{marked-at, order-distinct, order-below, In, leaf-of, classes-are}
 

@@ -1,5 +1,5 @@
 -- The leaf of each vector, and so of each entry: the entries of a node are those whose leaf it is.
-use Prim.Native.Nat.{ℕ, zero, suc, _+_, _-_, _≤_, _<_}
+use Prim.Native.Nat.{ℕ, zero, suc, _+_, _≤_, _<_}
 use mathlib.Core.Path.{_≡_, sym, ap, _∙_, subst}
 use mathlib.Core.Logic.{_⊎_, inl, inr}
 use mathlib.Core.Bool.{true, false}
@@ -19,9 +19,10 @@ use Rattle.tree.specs.Nodes.{Entries, Node, nodesOf, entriesOf}
 use Rattle.tree.specs.TreeLaws.{Once, once-perm, once-countFrom}
 use Rattle.tree.specs.NodeLaws.{perm-ids, length-ids, id-one-leaf}
 use Rattle.tree.specs.Subtrees.{node-entries}
-use Rattle.label_entries.specs.Passes.{written, sumTo, marked}
-use Rattle.label_entries.proofs.Written.{Distinct, last-or-below, getD-written-other, getD-written-same, sumTo-next}
-use Rattle.label_entries.proofs.Marking.{length-marked}
+use Rattle.node_table.specs.Table.{written, sumTo}
+use Rattle.entry_leaves.specs.Leaves.{marked}
+use Rattle.node_table.specs.TableLaws.{Distinct, last-or-below, getD-written-other, getD-written-same, sumTo-next}
+use Rattle.entry_leaves.specs.LeavesLaws.{length-marked}
 use Rattle.label_entries.proofs.Classes.{classTo}
 
 -- a block's places bear its number

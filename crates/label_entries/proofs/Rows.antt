@@ -19,10 +19,10 @@ use Rattle.tree.specs.Nodes.{Node}
 use Rattle.tree.specs.Layout.{startOf, sixFrom}
 use Rattle.tree.specs.LayoutLaws.{blockAt, sixOf, six-getD, length-sixFrom}
 use Rattle.tree.specs.Made.{madeFrom}
-use Rattle.label_entries.specs.Passes.{cellAt, cell, cells, column, sumTo, startAt, blockStart, classStart}
-use Rattle.label_entries.proofs.Written.{distinct-cells, length-written, getD-written-other, getD-written-same}
-use Rattle.label_entries.proofs.Linking.{length-cells, getD-cells}
-use Rattle.label_entries.proofs.Classes.{sumTo-congr, sumTo-block, startAt-is}
+use Rattle.node_table.specs.Table.{cellAt, cell, cells, column, sumTo, startAt, blockStart}
+use Rattle.entry_order.specs.EntryOrder.{classStart}
+use Rattle.node_table.specs.TableLaws.{distinct-cells, length-written, getD-written-other, getD-written-same, length-cells, getD-cells, sumTo-congr}
+use Rattle.label_entries.proofs.Classes.{sumTo-block, startAt-is}
 
 -- a node with nothing in it
 pub noNode : Node

@@ -1,6 +1,6 @@
 -- The four steps of the entry function, each with what it asks of the lists as they are then, and what they leave together. `p` has the starts of the
 -- parts as the program holds them.
-use Prim.Native.Nat.{ℕ, _+_, _-_, _*_, _≤_, _<_, _^_}
+use Prim.Native.Nat.{ℕ, _+_, _*_, _≤_, _<_, _^_}
 use mathlib.Core.Path.{_≡_, refl, sym, ap, ap₂, _∙_, subst}
 use mathlib.Core.List.{List}
 use native.Mathlib.Omega.{arith}
@@ -12,10 +12,15 @@ use Rattle.store.specs.declared.Shape.{Shape}
 use Rattle.store.specs.Store.{nodesAt, linksAt, workSize}
 use Rattle.tree.specs.Layout.{numbersOf, hashesOf}
 use Rattle.tree.specs.Links.{linkUp}
-use Rattle.label_entries.specs.declared.Places.{Places}
-use Rattle.label_entries.specs.Passes.{written, cellAt, cell, cells, column, sumTo, blockStart, Counts, leavesMarked, classStart, classPlace, placesOf, filtersMade, RowFits}
+use Rattle.node_table.specs.declared.Places.{Places}
+use Rattle.node_table.specs.Table.{written, cellAt, cell, cells, column, sumTo, blockStart, placesOf}
+use Rattle.child_links.specs.Contracts.{Counts}
+use Rattle.entry_leaves.specs.Leaves.{leavesMarked}
+use Rattle.entry_order.specs.EntryOrder.{classStart, classPlace}
+use Rattle.node_filters.specs.Filters.{filtersMade}
+use Rattle.node_filters.specs.Contracts.{RowFits}
 use Rattle.label_entries.specs.Finish.{held, Room, AllMade, nodesMade, Used}
-use Rattle.label_entries.proofs.Written.{length-written}
+use Rattle.node_table.specs.TableLaws.{length-written}
 use Rattle.label_entries.proofs.Finishing.{fit, owners-count, counts-ok, linked, ids-sum, places-below, owner-below, after, leaves, length-leaves, leaves-below, numbers-final, work-final, used-front, drop-later}
 use Rattle.label_entries.proofs.FilterRows.{rows-fit, filters-final}
 

@@ -1,4 +1,2 @@
--- The finishing passes of a build: their contract, and what each pass writes.
-pub mod Passes
+-- The contract of the finishing passes of a build.
 pub mod Finish
-pub mod Trials

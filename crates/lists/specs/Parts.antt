@@ -281,9 +281,21 @@ module _ {ℓ} {A : Type ℓ} where
 
   -- ---- a lent part, as the borrow checker writes it
 
-  -- `&l[a..e]` of n elements
-  pub lent-is : (l : List A) (a e n : ℕ) → e ≡ a + n → take (e - a) (drop a l) ≡ part a n l
-  lent-is l a e n h = let d : e - a ≡ n = omega arith in rw d
+  -- `&l[a..e]` by its start and length
+  pub lent-is : (l : List A) (a e s n : ℕ) → a ≡ s → e ≡ s + n → take (e - a) (drop a l) ≡ part s n l
+  lent-is l a e s n p q = let d : e - a ≡ n = omega arith in rw (d, p)
+
+  pub lent-run : (a n : ℕ) (l : List A) → take (a + n - a) (drop a l) ≡ part a n l
+  lent-run a n l = lent-is l a (a + n) a n refl refl
+
+  -- an element of it
+  pub lent-element : (a n : ℕ) (l : List A) (k : ℕ) (d : A) → a + n ≤ length l → k < length (take (a + n - a) (drop a l))
+      → (k < n) × (getD (take (a + n - a) (drop a l)) k d ≡ getD l (a + k) d)
+  lent-element a n l k d h b =
+      let is = lent-run a n l in
+      let size = ap (λ (r : List A). length r) is ∙ length-part a n l h in
+      let b′ : k < n = omega arith in
+      (b′, ap (λ (r : List A). getD r k d) is ∙ getD-part a n l k d b′)
 
   -- ---- a lent part that came back
 

@@ -11,7 +11,7 @@ use lib.ListN.{length, getD, length-append}
 use Rattle.lists.specs.Lists.{keep, joined, countFrom, isIn}
 use Rattle.lists.specs.Counting.{getD-Memᴰ, isIn-append, isIn-keep, isIn-countFrom, Memᴰ-countFrom, countFrom-cons, countFrom-append, length-countFrom, keep-nil, keep-pass, keep-fail, keep-congr, keep-all, keep-none, isIn-nil, Memᴰ-keep, joined-append, joined-Memᴰ}
 use Rattle.lists.specs.Partition.{List·Permᴰ, List·Permᴰ·nil, List·Permᴰ·cons, List·Permᴰ·trans, Permᴰ·symm, Permᴰ·middle, Permᴰ·append-right, List·Permᴰ·append-comm, perm-of-eq, perm-append, perm-length, perm-isIn, perm-Memᴰ, count, isIn-count, Memᴰ-count, count-append}
-use Rattle.label.specs.Filter.{emptyFilter, insertAll, mayContain, union}
+use Rattle.label.specs.Filter.{emptyFilter, insertAll, mayContain, union, unionAll}
 use Rattle.label.specs.FilterLaws.{insertAll-split, insertAll-four, mayContain-all, union-assoc, union-comm, union-self, union-empty, union-empty-right, union-four}
 use Rattle.tree.specs.Tree.{Tree, Forest, leaf, inner, none, more, Splitting, groups, treeOf, size, sizes}
 use Rattle.tree.specs.Nodes.{Entries, Node, nodesFrom, forestNodes, nodesOf, roots, entriesOf, filterOf}
@@ -244,12 +244,6 @@ module _ (s : Splitting) (vectors : List (List Float)) (e : Entries) where
       (once-countFrom 0 (length (e .owners))) x)
 
 -- ---- filters
-
--- the filters of a list, united into one from left to right
-unfoldable pub unionAll : List ℕ → List (List ℕ) → List ℕ
-unfolding union
-unionAll filter [] = filter
-unionAll filter (other ∷ others) = unionAll (union filter other) others
 
 -- the filter of a list of hashes
 hashesFilter : List ℕ → List ℕ

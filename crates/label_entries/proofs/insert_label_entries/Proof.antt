@@ -4,7 +4,7 @@ use Prim.Native.Nat.{_+_, _-_}
 use mathlib.Core.Path.{_∙_}
 use native.Mathlib.Omega.{arith}
 use lib.ListN.{drop, take}
-use Rattle.label_entries.proofs.Marking.{lent-is}
+use Rattle.lists.specs.Parts.{lent-run}
 use Rattle.label_entries.proofs.Whole.{Given, places-fit, counts-at, leaves-ask, leaves-count, leaves-lt, rows-ask, numbers-laid, hashes-laid, work-kept}
 use borrow.Author.Needs.{needs}
 use Rattle.label_entries.proofs.insert_label_entries.Statement.{statement}
@@ -67,7 +67,7 @@ sort-entries-requires c κs =
     let made = c .before .before .before .before .before .before .before .before .before .before .before .before .before .before .before .before .before .before .before .before .pre .1 in
     let link = c .before .before .before .before .before .before .before .before .before .before .before .before .before .link-nodes in
     let marked = c .before .before .before .before .before .entry-leaves in
-    let part₂ = lent-is (g .shape .vectors) (g .entries) (marked .last .0) in
+    let part₂ = lent-run (g .shape .vectors) (g .entries) (marked .last .0) in
     let leaves = take (g .shape .vectors + g .entries - g .shape .vectors) (drop (g .shape .vectors) (marked .last .0)) in
     let fit = places-fit g in
     let n = leaves-count g made (link .last .0) (link .last .1 .1 .1 .1 .0) (link .ensures .0) (link .kept .1 .1 .1 .1 .0) (marked .last .0) leaves (marked .ensures) part₂ in
@@ -79,7 +79,7 @@ make-filters-requires c κs =
     let made = c .before .before .before .before .before .before .before .before .before .before .before .before .before .before .before .before .before .before .before .before .before .before .before .before .before .pre .1 in
     let link = c .before .before .before .before .before .before .before .before .before .before .before .before .before .before .before .before .before .before .link-nodes in
     let marked = c .before .before .before .before .before .before .before .before .before .before .entry-leaves in
-    let part₂ = lent-is (g .shape .vectors) (g .entries) (marked .last .0) in
+    let part₂ = lent-run (g .shape .vectors) (g .entries) (marked .last .0) in
     let leaves = take (g .shape .vectors + g .entries - g .shape .vectors) (drop (g .shape .vectors) (marked .last .0)) in
     let sort = c .before .before .before .before .sort-entries in
     let fit = places-fit g in
@@ -100,7 +100,7 @@ returns c =
     let made = c .before .before .before .before .before .before .before .before .before .before .before .before .before .before .before .before .before .before .before .before .before .before .before .before .before .before .before .before .pre .1 in
     let link = c .before .before .before .before .before .before .before .before .before .before .before .before .before .before .before .before .before .before .before .before .before .link-nodes in
     let marked = c .before .before .before .before .before .before .before .before .before .before .before .before .before .entry-leaves in
-    let part₂ = lent-is (g .shape .vectors) (g .entries) (marked .last .0) in
+    let part₂ = lent-run (g .shape .vectors) (g .entries) (marked .last .0) in
     let leaves = take (g .shape .vectors + g .entries - g .shape .vectors) (drop (g .shape .vectors) (marked .last .0)) in
     let sort = c .before .before .before .before .before .before .before .sort-entries in
     let filters = c .before .before .make-filters in

@@ -1,5 +1,4 @@
 -- `mean_into` meets its contract: the sum begins at +0.0, and at most 2 ^ 24 ids have a number that an f32 holds.
-
 use borrow.Author.Needs.{needs}
 use Rattle.mean.proofs.Sums.{mean-end, number-in-float}
 use Rattle.mean.proofs.mean_into.Statement.{statement}

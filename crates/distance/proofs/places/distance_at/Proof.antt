@@ -1,7 +1,7 @@
 -- `places::distance_at` meets its contract: the vector is the part of the floats that is lent. Assumes nothing.
-use Rattle.lists.specs.Parts.{lent-is}
+use Rattle.lists.specs.Parts.{lent-run}
 use Rattle.distance.specs.Distance.{distance}
-use mathlib.Core.Path.{refl, ap, _∙_}
+use mathlib.Core.Path.{ap, _∙_}
 use borrow.Author.Needs.{needs}
 use Rattle.distance.proofs.places.distance_at.Statement.{statement}
 use Rattle.distance.proofs.places.distance_at.Tie as tie
@@ -27,7 +27,7 @@ cosine-distance-normalized-requires c κs = search needs
 returns : tie.Need-returns
 returns c =
     let p = c .before .before .before .before .args in
-    c .cosine-distance-normalized .ensures ∙ ap (distance (p .query .now)) (lent-is (p .floats .now) (p .at) _ (p .dimension) refl)
+    c .cosine-distance-normalized .ensures ∙ ap (distance (p .query .now)) (lent-run (p .at) (p .dimension) (p .floats .now))
 
 pub distance-at-spec : {M : Type 1} → statement M
 distance-at-spec =

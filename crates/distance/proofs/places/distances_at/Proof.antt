@@ -1,7 +1,7 @@
 -- `places::distances_at` meets its contract: each vector is the part of the floats that is lent. Assumes nothing.
-use Rattle.lists.specs.Parts.{lent-is}
+use Rattle.lists.specs.Parts.{lent-run}
 use Rattle.distance.specs.Distance.{distance}
-use mathlib.Core.Path.{refl, ap, _∙_}
+use mathlib.Core.Path.{ap, _∙_}
 use borrow.Author.Needs.{needs}
 use Rattle.distance.proofs.places.distances_at.Statement.{statement}
 use Rattle.distance.proofs.places.distances_at.Tie as tie
@@ -76,10 +76,10 @@ returns c =
     let l = p .floats .now in
     let n = p .dimension in
     let e = c .cosine-distance-four .ensures in (
-      e .0 ∙ ap far (lent-is l (p .a) _ n refl),
+      e .0 ∙ ap far (lent-run (p .a) n l),
       (
-        e .1 .0 ∙ ap far (lent-is l (p .b) _ n refl),
-        (e .1 .1 .0 ∙ ap far (lent-is l (p .c) _ n refl), e .1 .1 .1 ∙ ap far (lent-is l (p .d) _ n refl)),
+        e .1 .0 ∙ ap far (lent-run (p .b) n l),
+        (e .1 .1 .0 ∙ ap far (lent-run (p .c) n l), e .1 .1 .1 ∙ ap far (lent-run (p .d) n l)),
       ),
     )
 

@@ -4,7 +4,7 @@ use mathlib.Core.Path.{_≡_, refl, ap, _∙_}
 use native.Mathlib.Omega.{arith}
 use lib.ListN.{length, getD, take, length-set}
 use lib.Seq.{sets}
-use Rattle.lists.specs.Parts.{lent-is}
+use Rattle.lists.specs.Parts.{lent-run}
 use Rattle.cluster.specs.Clusters.{nearest}
 use Rattle.cluster.specs.Vectors.{vectorsIn, vectorsFrom}
 use Rattle.kmeans.specs.Marks.{assignment}
@@ -94,7 +94,7 @@ loop-again c =
     let mark =
     c .nearest-centre .ensures
     ∙ ap (λ v. nearest v (vectorsFrom (p .dimension) (p .k) (p .centres-at) (p .floats .now)))
-    (lent-is (p .floats .now) (getD (p .ids .now) (l .i) 0 * p .dimension) _ (p .dimension) refl) in (
+    (lent-run (getD (p .ids .now) (l .i) 0 * p .dimension) (p .dimension) (p .floats .now)) in (
       omega arith,
       simp length-set (l .inv .1),
       assign-turn _ _ _ _ _ _ _ (start t .pre .0) _ _ _ (l .inv .2) (t .loop-test .taken) mark,

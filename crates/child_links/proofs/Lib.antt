@@ -1,0 +1,2 @@
+-- What only the proofs of `child_links` need.
+pub mod Linking

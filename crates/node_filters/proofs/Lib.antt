@@ -1,0 +1,2 @@
+-- What only the proofs of `node_filters` need.
+pub mod Filtering

@@ -1,0 +1,145 @@
+-- The filters of the first k children are added; those of the others stand after the filter and stay.
+-- Assumes nothing.
+use Prim.Native.Nat.{ℕ, _+_, _-_, _*_, _≤_, _<_}
+use mathlib.Core.Path.{_≡_, refl, ap, _∙_}
+use mathlib.Core.List.{List, map}
+use native.Mathlib.Omega.{arith}
+use lib.ListN.{length}
+use lib.Seq.{sets, take-all, length-sets}
+use borrow.Author.Needs.{needs}
+use Rattle.lists.specs.Lists.{part}
+use Rattle.label.specs.Filter.{unionAll}
+use Rattle.lists.specs.Parts.{lent-run}
+use Rattle.node_filters.proofs.Filtering.{length-four, united, united-none, united-first, united-four, united-next}
+use Rattle.node_filters.proofs.unite_children.Statement.{statement}
+use Rattle.node_filters.proofs.unite_children.Tie as tie
+
+abbrev Inv-loop : tie.InvT-loop
+Inv-loop hashes₀ filters at children end k₀ hashes k =
+    (k ≤ length children) × (length hashes ≡ length hashes₀) × (hashes ≡ sets hashes₀ at (united hashes₀ filters at children k))
+    × (length (united hashes₀ filters at children k) ≡ 4)
+
+abbrev μ-loop : tie.MeasureT-loop
+μ-loop hashes₀ filters at children end k₀ hashes k = length children - k
+
+-- the child's filter stands after the filter
+behind : (c : tie.After-wide Inv-loop μ-loop)
+    → (c .before .before .before .before .loop .k < length (c .before .before .before .before .before .before .before .args .children .now)) × (c .before .before .before .before .before .before .before .args .at + 4 ≤ c .before .before .before .before .before .before .before .args .filters + 4 * c .wide .result)
+    × (c .before .before .before .before .before .before .before .args .filters + 4 * c .wide .result + 4 ≤ length (c .before .before .before .before .loop .hashes))
+behind c =
+    let s = c .before .before .before .before .before .before .before in
+    let at-loop = c .before .before .before .before .loop in
+    let h : at-loop .k < length (s .args .children .now) = omega arith in
+    let a = s .pre .1 .0 (at-loop .k) h in
+    let b = s .pre .1 .1 (at-loop .k) h in
+    let e = c .wide .ensures in
+    (h, omega arith, omega (arith, b, e, at-loop .inv .1))
+
+add-end : tie.Need-add-end Inv-loop μ-loop
+add-end c = omega arith
+
+loop-holds : tie.Need-loop-holds Inv-loop μ-loop
+loop-holds c =
+    let s = c .before .before in
+    let args = s .args in (
+      omega arith,
+      refl,
+      united-none (args .hashes .now) (args .filters) (args .at) (args .children .now),
+      united-first (args .hashes .now) (args .filters) (args .at) (args .children .now) (s .pre .0),
+    )
+
+mul-wide : tie.Need-mul-wide Inv-loop μ-loop
+mul-wide c = omega arith
+
+shared-slice-read-wide : tie.Need-shared-slice-read-wide Inv-loop μ-loop
+shared-slice-read-wide c = omega arith
+
+wide-requires : tie.Need-wide-requires Inv-loop μ-loop
+wide-requires c κs = search needs
+
+mul-words : tie.Need-mul-words Inv-loop μ-loop
+mul-words c = let r = behind (c) in omega (arith, r .1, r .2)
+
+add-words : tie.Need-add-words Inv-loop μ-loop
+add-words c = let r = behind (c) in omega (arith, r .1, r .2)
+
+words-requires : tie.Need-words-requires Inv-loop μ-loop
+words-requires c κs = let r = behind (c) in omega (arith, r .1, r .2)
+
+mul-unite : tie.Need-mul-unite Inv-loop μ-loop
+mul-unite c = let r = behind (c .before) in omega (arith, r .1, r .2)
+
+sub-unite : tie.Need-sub-unite Inv-loop μ-loop
+sub-unite c = let r = behind (c .before) in omega (arith, r .1, r .2)
+
+part-unite-start : tie.Need-part-unite-start Inv-loop μ-loop
+part-unite-start c = let r = behind (c .before) in omega (arith, r .1, r .2)
+
+part-unite-end : tie.Need-part-unite-end Inv-loop μ-loop
+part-unite-end c = let r = behind (c .before) in omega (arith, r .1, r .2)
+
+unite-requires : tie.Need-unite-requires Inv-loop μ-loop
+unite-requires c κs =
+    let r = behind (c .before .before) in
+    let at = c .before .before .before .before .before .before .before .before .before .args .at in
+    let l = c .before .before .before .before .before .before .loop .hashes in
+    ap (λ (r : List ℕ). length r) (lent-run at 4 l) ∙ length-four l at (omega (arith, r .1, r .2))
+
+add-k : tie.Need-add-k Inv-loop μ-loop
+add-k c = omega arith
+
+loop-less : tie.Need-loop-less Inv-loop μ-loop
+loop-less c = omega arith
+
+loop-again : tie.Need-loop-again Inv-loop μ-loop
+loop-again c =
+    let r = behind (c .before .before .before .before .before) in
+    let s = c .before .before .before .before .before .before .before .before .before .before .before .before in
+    let l₀ = s .args .hashes .now in
+    let at = s .args .at in
+    let filters = s .args .filters in
+    let children = s .args .children .now in
+    let at-loop = c .before .before .before .before .before .before .before .before .before .loop in
+    let k = at-loop .k in
+    let unite = c .before .before .unite in
+    let words = c .before .before .before .before .words in
+    let four = united-four l₀ filters at children k (r .0) (at-loop .inv .3) (s .pre .1 .1 k (r .0)) in
+    let next = united-next l₀ (at-loop .hashes) (unite .last .0) (words .result) filters at children k (c .before .before .before .before .before .wide .result) (s .pre .0) (r .0) (at-loop .inv .3) four (at-loop .inv .2)
+    (c .before .before .before .before .before .wide .ensures) (r .1) (words .ensures) (unite .ensures) in
+    (omega arith, ap (λ (r : List ℕ). length r) next ∙ length-sets l₀ at (united l₀ filters at children (k + 1)), next, four)
+
+same-length : tie.Need-same-length Inv-loop μ-loop
+same-length c = search needs
+
+returns : tie.Need-returns Inv-loop μ-loop
+returns c =
+    let args = c .before .before .before .before .args in
+    let at-loop = c .before .loop in
+    at-loop .inv .2
+    ∙ ap (λ (r : List ℕ). sets (args .hashes .now) (args .at) (unionAll (part (args .at) 4 (args .hashes .now)) (map (λ c. part (args .filters + 4 * c) 4 (args .hashes .now)) r)))
+    (take-all (at-loop .k) (args .children .now) (omega arith))
+
+pub unite-children-spec : {M : Type 1} → statement M
+unite-children-spec =
+    tie.close
+    (tie.spec
+    Inv-loop
+    μ-loop
+    add-end
+    loop-holds
+    mul-wide
+    shared-slice-read-wide
+    wide-requires
+    mul-words
+    add-words
+    words-requires
+    mul-unite
+    sub-unite
+    part-unite-start
+    part-unite-end
+    unite-requires
+    add-k
+    loop-less
+    loop-again
+    same-length
+    returns)
