@@ -4,7 +4,7 @@ use native.Mathlib.Nat.{le-of-eq}
 use native.Mathlib.Omega.{arith}
 use mathlib.Core.Path.{_≡_, sym, ap, _∙_}
 use lib.Ieee.{nan}
-use lib.ListN.{length, take, drop, replicate, length-replicate, length-append, take-append-drop}
+use lib.ListN.{take, drop, replicate, length-replicate, length-append, take-append-drop}
 use lib.Seq.{length-take-le}
 use Rattle.store.specs.declared.Lengths.{Lengths}
 use Rattle.store.specs.Store.{Store}

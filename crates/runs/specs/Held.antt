@@ -1,6 +1,6 @@
 -- What the lists hold of the rows: vectors, document ids, owners and hashes. They depend on the fronts of the lists that stand before the node parts,
 -- so a build, refused or not, leaves them; an accepted add writes one row more, behind those held.
-use Prim.Native.Nat.{ℕ, zero, suc, _+_, _*_, _≤_, _<_}
+use Prim.Native.Nat.{ℕ, suc, _+_, _*_, _≤_, _<_}
 use native.Mathlib.Nat.{zero-add, add-zero, mul-comm, mul-add, le-refl, suc-mul, mul-le-mul-right}
 use native.Mathlib.Omega.{arith}
 use mathlib.Core.List.{List, [], _∷_, _++_, map, map-append, append-nil, append-assoc, List·Memᴰ, List·Memᴰ·not-nil, List·Memᴰ·append-cases}

@@ -31,7 +31,7 @@ use Rattle.walk.specs.WalkLaws.{same-below}
 use Rattle.walk.specs.Answer.{hitOf}
 use Rattle.walk.specs.Wanted.{LeafList, vector-list, entry-list, denies, listRead, passes, given, heldIn}
 use Rattle.walk.specs.WantedLaws.{SameNumber, numbers-same, passes-same, given-same, given-read}
-use Rattle.walk.specs.StoreView.{blockHeld, hitAt, fieldOf, partOf, nodeField, entryRead, childrenShown, listShown, leafShown, nodeShown, filterAt, storeView}
+use Rattle.walk.specs.StoreView.{blockHeld, hitAt, fieldOf, partOf, nodeField, entryRead, childrenShown, listShown, leafShown, nodeShown, storeView}
 use Rattle.walk.specs.StoreViewLaws.{store-shown, store-children-below}
 use Rattle.curator.specs.Calls.{splittingOf}
 use Rattle.runs.specs.Model.{Setting, Model, noRow, noNode, rowHashes, rowVectors, rowEntries, nodeCount, modelNodes, modelCounts, settingShape, rowHit, rowRead, nodeList, leafHits, nodeGives, treeView}

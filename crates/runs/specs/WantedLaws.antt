@@ -1,7 +1,7 @@
 -- What each case of what is wanted owes of the rows, beside the laws of any store (WantedLaws.antt of crates/walk). What is given is additive over leaves
 -- up to order, and no more than what is listed; numbers that are held pass; a denied node gives nothing; over all rows those are given that carry what is
 -- wanted, each once. Of an entry's hash: a filter denies no hash below it; and a row that carries the label has one such entry, since it has no label twice.
-use Prim.Native.Nat.{ℕ, zero, suc, _≤_, _<_}
+use Prim.Native.Nat.{ℕ, suc, _≤_, _<_}
 use native.Mathlib.Nat.{le-refl}
 use native.Mathlib.Omega.{arith}
 use mathlib.Core.Bool.{Bool, true, false, cond, _&&_, _||_, false≢true}
