@@ -202,6 +202,13 @@ module _ {ℓ} {A : Type ℓ} where
   pub part-sets-in : (s c : ℕ) (l : List A) (i : ℕ) (vs : List A) → i + length vs ≤ c → part s c (sets l (s + i) vs) ≡ sets (part s c l) i vs
   part-sets-in s c l i vs h = ap (λ (r : List A). take c r) (drop-sets-add s l i vs) ∙ take-sets-in c (drop s l) i vs h
 
+  -- a part, and what is written directly behind it
+  pub part-sets-grown : (s c : ℕ) (l vs : List A) (n : ℕ) → length vs ≡ n → s + c + n ≤ length l → part s (c + n) (sets l (s + c) vs) ≡ part s c l ++ vs
+  part-sets-grown s c l vs n e h =
+      sym (part-append-parts s c n (sets l (s + c) vs))
+      ∙ ap₂ (λ (a b : List A). a ++ b) (part-sets-before s c l (s + c) vs (omega arith))
+      (ap (λ (k : ℕ). part (s + c) k (sets l (s + c) vs)) (sym e) ∙ part-sets-same l (s + c) vs (omega arith))
+
   -- ---- a store and a run, two runs
 
   pub set-sets-before : (l : List A) (i : ℕ) (x : A) (j : ℕ) (vs : List A) → i < j → set (sets l j vs) i x ≡ sets (set l i x) j vs

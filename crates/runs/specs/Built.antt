@@ -1,27 +1,35 @@
 -- What the lists hold of a built index: the node parts are the layout of the rows' nodes. They depend on the lists up to their sizes alone; an accepted
--- build writes them, and after it no call of a run writes at all.
+-- build writes them, and after it no call of a run writes at all. A refused build leaves the rows' parts.
 use Prim.Native.Nat.{ℕ, _+_, _*_, _≤_, _<_}
 use native.Mathlib.Nat.{mul-comm, mul-add, mul-le-mul-right}
 use native.Mathlib.Omega.{arith}
-use mathlib.Core.List.{List, List·Memᴰ}
-use mathlib.Core.Path.{_≡_, sym, ap, ap₂, _∙_, subst}
-use lib.Ieee.{Float}
-use lib.ListN.{length, getD, take}
-use lib.Seq.{sets}
+use mathlib.Core.List.{List, [], _∷_, List·Memᴰ}
+use mathlib.Core.Path.{_≡_, refl, sym, ap, ap₂, _∙_, subst}
+use lib.Ieee.{Float, nan}
+use lib.ListN.{length, getD, take, replicate, length-replicate}
+use lib.Seq.{sets, length-sets}
 use Rattle.lists.specs.Lists.{part, joined}
 use Rattle.lists.specs.Parts.{part-sets-same, take-sets}
+use Rattle.store.specs.declared.Shape.{Shape}
 use Rattle.store.specs.Store.{Store, centroidsAt, centresAt, orderAt, nodesAt, linksAt, entryOrderAt, filtersAt, floatsSize, numbersSize, hashesSize}
+use Rattle.store.specs.Lent.{storeOf, lengthsOf, sizesOf, Long}
+use Rattle.store.specs.Agree.{Agree, part-same}
 use Rattle.tree.specs.Nodes.{Node, Entries, nodesOf}
 use Rattle.tree.specs.Layout.{sixFrom, floatsOf, numbersOf, hashesOf}
 use Rattle.tree.specs.NodeLaws.{length-nodesOf}
 use Rattle.tree.specs.Subtrees.{nodesOf-four, nodesOf-wide}
 use Rattle.tree.specs.LayoutLaws.{NodesFit, nodesOf-fit, length-blocks, length-sixFrom, numbers-order, numbers-six, numbers-links, numbers-entries, floats-centroids, length-floatsOf, length-numbersOf, length-hashesOf}
+use Rattle.curator.specs.declared.CuratorIndex.{CuratorIndex}
+use Rattle.settings.specs.declared.refusal.Refusal.{Refusal}
+use Rattle.settings.specs.declared.refusal.Refusal.the-variants as Refusal′
+use Rattle.settings.specs.declared.refusal.StoreRefusal.{StoreRefusal}
+use Rattle.settings.specs.declared.refusal.StoreRefusal.the-variants.{ListTooShort, VectorsFull, EntriesFull, NodesFull, Damaged}
+use Rattle.curator.specs.Limits.{indexShape}
 use Rattle.curator.specs.Calls.{splittingOf}
-use Rattle.curator.specs.Changes.{LaidOut, heldNodes}
+use Rattle.curator.specs.Changes.{LaidOut, heldNodes, Part, Freed, workPart, freeOf, freeStore, Left}
 use Rattle.runs.specs.Model.{Setting, Model, rowVectors, rowEntries, nodeCount, modelNodes, settingShape}
-use Rattle.runs.specs.Agree.{Agree, SameLengths, part-same}
 use Rattle.runs.specs.State.{Allowed, Within, limits, stateOf}
-use Rattle.runs.specs.Held.{Held, SameHeld, held-vectors, held-entries, owner-below, owners-length, length-vectors}
+use Rattle.runs.specs.Held.{Held, rowsEnd, SameHeld, held-vectors, held-entries, owner-below, owners-length, length-vectors}
 
 -- a list stands in another from a place on
 abbrev pub StandsAt : {A : Type 0} → ℕ → List A → List A → Type 0
@@ -66,7 +74,7 @@ node-facts s m a w h =
 
 -- the lists up to their sizes
 abbrev pub SameLists : Setting → Store → Store → Type 0
-SameLists s = Agree (floatsSize (settingShape s)) (numbersSize (settingShape s)) (hashesSize (settingShape s))
+SameLists s = Agree (sizesOf (settingShape s))
 
 centroids-within : (d v n m b : ℕ) → n ≤ m → d * v + n * d ≤ d * (v + m + b)
 centroids-within d v n m b h =
@@ -87,17 +95,17 @@ laid-same s m store store′ facts a l =
     let x = length-sixFrom 0 0 0 N in
     let w = centroids-within (s .dimension) (c .vectors) (length N) (c .nodes) (s .params .«branching_factor») (fit .nodes-fit) in
     let numbers : (at : ℕ) (content : List ℕ) → at + length content ≤ numbersSize sh → StandsAt at content (store .numbers) → StandsAt at content (store′ .numbers) =
-    λ at content h x. stands-same at content (store .numbers) (store′ .numbers) (numbersSize sh) h (a .numbers-same) x in
+    λ at content h x. stands-same at content (store .numbers) (store′ .numbers) (numbersSize sh) h (a .numbers) x in
     record {
       centroids =
-          stands-same (centroidsAt sh) (joined (λ node. node .centroid) N) (store .floats) (store′ .floats) (floatsSize sh) (omega (arith, w, e)) (a .floats-same)
+          stands-same (centroidsAt sh) (joined (λ node. node .centroid) N) (store .floats) (store′ .floats) (floatsSize sh) (omega (arith, w, e)) (a .floats)
           (l .centroids);
       order = numbers (orderAt sh) (joined (λ node. node .ids) N) (omega (arith, fit .ids-fit)) (l .order);
       six = numbers (nodesAt sh) (sixFrom 0 0 0 N) (omega (arith, fit .nodes-fit, x)) (l .six);
       links = numbers (linksAt sh) (joined (λ node. node .children) N) (omega (arith, fit .links-fit)) (l .links);
       entries = numbers (entryOrderAt sh) (joined (λ node. node .entries) N) (omega (arith, fit .entries-fit)) (l .entries);
       filters =
-          stands-same (filtersAt sh) (joined (λ node. node .filter) N) (store .hashes) (store′ .hashes) (hashesSize sh) (omega (arith, fit .nodes-fit, f)) (a .hashes-same)
+          stands-same (filtersAt sh) (joined (λ node. node .filter) N) (store .hashes) (store′ .hashes) (hashesSize sh) (omega (arith, fit .nodes-fit, f)) (a .hashes)
           (l .filters);
     }
 
@@ -107,13 +115,8 @@ pub held-nodes : (s : Setting) (m : Model) (store : Store) → Held s m store �
 unfolding heldNodes modelNodes
 held-nodes s m store h = ap₂ (λ (v : List (List Float)) (e : Entries). nodesOf (splittingOf (s .dimension) (s .params)) v e) (held-vectors s m store h) (held-entries s m store h)
 
--- the lists as long as the sizes
-pub record LongStore (s : Setting) (store : Store) : Type 0 where
-  pub floats : floatsSize (settingShape s) ≤ length (store .floats)
-  pub numbers : numbersSize (settingShape s) ≤ length (store .numbers)
-  pub hashes : hashesSize (settingShape s) ≤ length (store .hashes)
-
-module _ (s : Setting) (m : Model) (store store′ : Store) (work work′ : List ℕ) (facts : NodeFacts s m) (long : LongStore s store) (held : Held s m store)
+module _ (s : Setting) (m : Model) (store store′ : Store) (work work′ : List ℕ) (facts : NodeFacts s m) (long : Long (settingShape s) (lengthsOf store))
+    (held : Held s m store)
     (out : LaidOut (stateOf s m) store work store′ work′) where
   floats-are : store′ .floats ≡ floatsOf (settingShape s) (modelNodes s m) (out .centres) (store .floats)
   floats-are = out .floats ∙ ap (λ (n : List Node). floatsOf (settingShape s) n (out .centres) (store .floats)) (held-nodes s m store held)
@@ -156,25 +159,131 @@ module _ (s : Setting) (m : Model) (store store′ : Store) (work work′ : List
       let three = sets two (linksAt sh) (joined (λ node. node .children) N) in
       let centroids = sets (store .floats) (centroidsAt sh) (joined (λ node. node .centroid) N) in
       record {
-        floats-same =
+        floats =
             sym (ap (take (centroidsAt sh)) floats-are
             ∙ take-sets (centroidsAt sh) centroids (centresAt sh) (out .centres) (let t = mul-add (s .dimension) (s .capacities .vectors) (s .capacities .nodes) in omega (arith, t))
             ∙ take-sets (centroidsAt sh) (store .floats) (centroidsAt sh) (joined (λ node. node .centroid) N) (omega arith));
-        numbers-same =
+        numbers =
             sym (ap (take (orderAt sh)) numbers-are
             ∙ take-sets (orderAt sh) three (entryOrderAt sh) (joined (λ node. node .entries) N) (omega arith)
             ∙ take-sets (orderAt sh) two (linksAt sh) (joined (λ node. node .children) N) (omega arith)
             ∙ take-sets (orderAt sh) one (nodesAt sh) (sixFrom 0 0 0 N) (omega arith)
             ∙ take-sets (orderAt sh) (store .numbers) (orderAt sh) (joined (λ node. node .ids) N) (omega arith));
-        hashes-same =
+        hashes =
             sym (ap (take (filtersAt sh)) hashes-are
             ∙ take-sets (filtersAt sh) (store .hashes) (filtersAt sh) (joined (λ node. node .filter) N) (omega arith));
       }
 
-  pub built-lengths : SameLengths store store′
-  built-lengths =
+-- ---- freed parts
+
+-- every part starts at or behind a place
+abbrev From : ℕ → List Part → Type 0
+From n [] = Unit {0}
+From n (p ∷ parts) = (n ≤ p .start) × From n parts
+
+module _ {A : Type 0} where
+  pub freed-length : (parts : List Part) (before after : List A) → Freed parts before after → length before ≡ length after
+  unfolding Freed
+  freed-length [] before after f = ap length (sym f)
+  freed-length (p ∷ parts) before after f = sym (length-sets before (p .start) (f .0)) ∙ freed-length parts (sets before (p .start) (f .0)) after (f .2)
+
+  freed-take : (n : ℕ) (parts : List Part) (before after : List A) → From n parts → Freed parts before after → take n before ≡ take n after
+  unfolding Freed
+  freed-take n [] before after h f = ap (take n) (sym f)
+  freed-take n (p ∷ parts) before after h f = sym (take-sets n before (p .start) (f .0) (h .0))
+      ∙ freed-take n parts (sets before (p .start) (f .0)) after (h .1) (f .2)
+
+  -- any list can be left so
+  pub freed : (x : A) (parts : List Part) (before : List A) → (after : List A) × Freed parts before after
+  unfolding Freed
+  freed x [] before = (before, refl)
+  freed x (p ∷ parts) before =
+      let new = replicate (p .count) x in
+      let r = freed x parts (sets before (p .start) new) in
+      (r .0, (new, length-replicate (p .count) x, r .1))
+
+-- ---- an accepted build, whatever index and lists it is given
+
+module _ (index : CuratorIndex) (store : Store) (work : List ℕ) where
+  -- the lists keep their lengths
+  pub laid-lengths : (store′ : Store) (work′ : List ℕ) → LaidOut index store work store′ work′ → lengthsOf store ≡ lengthsOf store′
+  laid-lengths store′ work′ out =
+      let sh = indexShape index in
+      let nodes = heldNodes index store in
+      let f = sym (ap length (out .floats) ∙ length-floatsOf sh nodes (out .centres) (store .floats)) in
+      let n = sym (ap length (out .numbers) ∙ length-numbersOf sh nodes (store .numbers)) in
+      let h = sym (ap length (out .hashes) ∙ length-hashesOf sh nodes (store .hashes)) in
+      λ i. record { floats = f i; numbers = n i; hashes = h i }
+
+  -- there are lists that it leaves
+  pub lays-out : (store′ : Store) × (work′ : List ℕ) × LaidOut index store work store′ work′
+  lays-out =
+      let free = freed 0 (workPart (indexShape index) ∷ []) work in (
+        storeOf (floatsOf (indexShape index) (heldNodes index store) (replicate (index .dimension * index .params .«branching_factor») nan) (store .floats))
+            (numbersOf (indexShape index) (heldNodes index store) (store .numbers))
+            (hashesOf (indexShape index) (heldNodes index store) (store .hashes)),
+        free .0,
+        record {
+          centres = replicate (index .dimension * index .params .«branching_factor») nan;
+          centres-length = length-replicate (index .dimension * index .params .«branching_factor») nan;
+          floats = refl;
+          numbers = refl;
+          hashes = refl;
+          work = free .1;
+        },
+      )
+
+-- ---- a refused build
+
+module _ (sh : Shape) (r : Refusal) (store : Store) (work : List ℕ) where
+  pub left-lengths : (store′ : Store) (work′ : List ℕ) → Left sh r store work store′ work′ → lengthsOf store ≡ lengthsOf store′
+  left-lengths store′ work′ left =
+      let free = freeOf sh r in
+      let f = freed-length (free .floats) (store .floats) (store′ .floats) (left .floats) in
+      let n = freed-length (free .numbers) (store .numbers) (store′ .numbers) (left .numbers) in
+      let h = freed-length (free .hashes) (store .hashes) (store′ .hashes) (left .hashes) in
+      λ i. record { floats = f i; numbers = n i; hashes = h i }
+
+  pub leaves : (store′ : Store) × (work′ : List ℕ) × Left sh r store work store′ work′
+  leaves =
+      let free = freeOf sh r in
+      let f = freed nan (free .floats) (store .floats) in
+      let n = freed 0 (free .numbers) (store .numbers) in
+      let h = freed 0 (free .hashes) (store .hashes) in
+      let w = freed 0 (free .work) work in
+      (storeOf (f .0) (n .0) (h .0), w .0, record { floats = f .1; numbers = n .1; hashes = h .1; work = w .1 })
+
+-- refused for short lists it leaves all as it was
+pub left-same : (sh : Shape) (store store′ : Store) (work work′ : List ℕ) → Left sh (Refusal′.Store ListTooShort) store work store′ work′ → store′ ≡ store
+unfolding freeOf freeStore Freed
+left-same sh store store′ work work′ l = λ i. record { floats = l .floats i; numbers = l .numbers i; hashes = l .hashes i }
+
+-- what is free starts behind the rows' parts
+module _ (s : Setting) (store store′ : Store) (work work′ : List ℕ) where
+  kept-by : (r : Refusal) → From (rowsEnd s .floats) (freeOf (settingShape s) r .floats) → From (rowsEnd s .numbers) (freeOf (settingShape s) r .numbers)
+      → From (rowsEnd s .hashes) (freeOf (settingShape s) r .hashes) → Left (settingShape s) r store work store′ work′ → SameHeld s store store′
+  kept-by r f n h l =
+      let free = freeOf (settingShape s) r in
       record {
-        floats = sym (ap length floats-are ∙ length-floatsOf (settingShape s) (modelNodes s m) (out .centres) (store .floats));
-        numbers = sym (ap length numbers-are ∙ length-numbersOf (settingShape s) (modelNodes s m) (store .numbers));
-        hashes = sym (ap length hashes-are ∙ length-hashesOf (settingShape s) (modelNodes s m) (store .hashes));
+        floats = freed-take (rowsEnd s .floats) (free .floats) (store .floats) (store′ .floats) f (l .floats);
+        numbers = freed-take (rowsEnd s .numbers) (free .numbers) (store .numbers) (store′ .numbers) n (l .numbers);
+        hashes = freed-take (rowsEnd s .hashes) (free .hashes) (store .hashes) (store′ .hashes) h (l .hashes);
       }
+
+  kept-store : (r : StoreRefusal) → Left (settingShape s) (Refusal′.Store r) store work store′ work′ → SameHeld s store store′
+  unfolding freeOf freeStore
+  kept-store ListTooShort l = kept-by (Refusal′.Store ListTooShort) tt tt tt l
+  kept-store VectorsFull l = kept-by (Refusal′.Store VectorsFull) tt tt tt l
+  kept-store EntriesFull l = kept-by (Refusal′.Store EntriesFull) tt tt tt l
+  kept-store NodesFull l =
+      kept-by (Refusal′.Store NodesFull)
+      (omega arith, ((let q = mul-add (s .dimension) (s .capacities .vectors) (s .capacities .nodes) in omega arith), tt))
+      (omega arith, (omega arith, (omega arith, (omega arith, tt)))) (omega arith, tt) l
+  kept-store Damaged l = kept-by (Refusal′.Store Damaged) tt tt tt l
+
+  pub left-held : (r : Refusal) → Left (settingShape s) r store work store′ work′ → SameHeld s store store′
+  unfolding freeOf
+  left-held (Refusal′.Settings r) l = kept-by (Refusal′.Settings r) tt tt tt l
+  left-held (Refusal′.State r) l = kept-by (Refusal′.State r) tt tt tt l
+  left-held (Refusal′.Input r) l = kept-by (Refusal′.Input r) tt tt tt l
+  left-held (Refusal′.Store r) l = kept-store r l

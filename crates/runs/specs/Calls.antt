@@ -6,26 +6,17 @@ use lib.ListN.{length}
 use Rattle.store.specs.declared.Lengths.{Lengths}
 use Rattle.curator.specs.Arguments.{AddCall, SearchCall}
 
--- 'A call may be lent only the front of a list': how much of each of the three lists is lent
-pub record Fronts : Type 0 where
-  pub floats : ℕ
-  pub numbers : ℕ
-  pub hashes : ℕ
-
 -- a call that changes the index, with its arguments
 pub data Change : Type 0 where
   add : AddCall → Change
   build : Change
 
--- 'Its calls are add, build, filtered search and search', each with the fronts and the work list that it is lent. 'Work and answer lists may be others
--- at each call, of any length and content.' An add is lent no work list: nothing looks at the one that stands here.
+-- 'Its calls are add, build, filtered search and search', each with the fronts and the work list that it is lent. 'A call may be lent only the front of
+-- a list': how much of each list of the store is lent. 'Work and answer lists may be others at each call, of any length and content.' An add is lent no
+-- work list: nothing looks at the one that stands here.
 pub data Call : Type 0 where
-  change : Fronts → List ℕ → Change → Call
-  search : Fronts → List ℕ → SearchCall → Call
-
--- 'the calls' arguments, list lengths among them': what a call is lent
-abbrev pub lentBy : Fronts → List ℕ → Lengths
-lentBy fronts work = record { floats = fronts .floats; numbers = fronts .numbers; hashes = fronts .hashes; work = length work }
+  change : Lengths → List ℕ → Change → Call
+  search : Lengths → List ℕ → SearchCall → Call
 
 -- ---- the types of arguments
 
@@ -45,18 +36,17 @@ AllTyped (call ∷ calls) = TypedCall call × AllTyped calls
 -- ---- calls that are alike but for the contents of work and answer lists
 
 pub record AlikeSearch (call call′ : SearchCall) : Type 0 where
-  pub query : call .question .query ≡ call′ .question .query
-  pub asked : call .question .asked ≡ call′ .question .asked
+  pub question : call .question ≡ call′ .question
   pub k : call .k ≡ call′ .k
   pub ids : length (call .ids) ≡ length (call′ .ids)
   pub distances : length (call .distances) ≡ length (call′ .distances)
 
 -- the same lengths are lent, and the same is asked
 abbrev pub Alike : Call → Call → Type 0
-Alike (change fronts work c) (change fronts′ work′ c′) = (lentBy fronts work ≡ lentBy fronts′ work′) × (c ≡ c′)
+Alike (change fronts work c) (change fronts′ work′ c′) = (fronts ≡ fronts′) × (length work ≡ length work′) × (c ≡ c′)
 Alike (change fronts work c) (search fronts′ work′ call′) = ⊥
 Alike (search fronts work call) (change fronts′ work′ c′) = ⊥
-Alike (search fronts work call) (search fronts′ work′ call′) = (lentBy fronts work ≡ lentBy fronts′ work′) × AlikeSearch call call′
+Alike (search fronts work call) (search fronts′ work′ call′) = (fronts ≡ fronts′) × (length work ≡ length work′) × AlikeSearch call call′
 
 -- call by call
 abbrev pub AllAlike : List Call → List Call → Type 0

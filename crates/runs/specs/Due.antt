@@ -2,43 +2,38 @@
 -- node's are its children's, since every id is in one of them once, and a denied node has none, since a filter denies no hash below it. So the walk over
 -- the tree is never damaged, a whole one has found all that is due, and as many openings as nodes suffice.
 use Prim.Native.Nat.{ℕ, suc, _+_, _≤_, _<_}
-use native.Mathlib.Nat.{le-refl, le-of-eq}
+use native.Mathlib.Nat.{le-refl}
 use native.Mathlib.Omega.{arith}
-use mathlib.Core.Bool.{Bool, true, false, cond, false≢true}
+use mathlib.Core.Bool.{Bool, true, false, cond}
 use mathlib.Core.Logic.{_⊎_, inl, inr}
 use mathlib.Core.List.{List, [], _∷_, map, map-map, List·Memᴰ, List·Memᴰ·not-nil, List·Memᴰ·cases-cons, List·Memᴰ·append-cases}
 use mathlib.Core.Path.{_≡_, refl, sym, ap, _∙_, subst}
-use borrow.Author.Tests.{eqb-true, not-true}
-use lib.Dec.{eqb}
 use lib.Ieee.{Float}
 use lib.ListN.{length, getD, length-map}
-use Rattle.lists.specs.Lists.{joined, keep, countFrom}
-use Rattle.lists.specs.Counting.{getD-Memᴰ, keep-none, length-keep-le, length-countFrom, joined-map, map-joined, keep-joined}
-use Rattle.lists.specs.Tests.{which, either}
-use Rattle.lists.specs.Partition.{List·Permᴰ, List·Permᴰ·trans, Permᴰ·refl, Permᴰ·symm, Permᴰ·map, perm-of-eq, perm-append, perm-keep, perm-length}
+use Rattle.lists.specs.Lists.{joined, countFrom}
+use Rattle.lists.specs.Counting.{getD-Memᴰ, length-countFrom, joined-map, map-joined}
+use Rattle.lists.specs.Partition.{List·Permᴰ, List·Permᴰ·trans, Permᴰ·refl, Permᴰ·symm, Permᴰ·map, perm-of-eq, perm-append, perm-length}
 use Rattle.order.specs.Sorted.{sort}
 use Rattle.order.specs.SortedLaws.{perm-sort}
-use Rattle.label.specs.Filter.{mayContain}
 use Rattle.tree.specs.Tree.{Tree, Forest, leaf, inner, none, more, Splitting, treeOf, size}
 use Rattle.tree.specs.Nodes.{Node, Entries, roots, entriesOf, filterOf}
 use Rattle.tree.specs.TreeLaws.{keptIds, leafIds, forestIds, Fair, Once, once-left, once-right, once-perm, once-treeOf, fair-treeOf, perm-leafIds, kept-grow, size-some, size-treeOf}
-use Rattle.tree.specs.NodeLaws.{treesOf, perm-children-ids, entriesOf-nil, entriesOf-perm, entriesOf-append, entriesOf-all, filterOf-admits}
+use Rattle.tree.specs.NodeLaws.{treesOf, perm-children-ids, entriesOf-nil, entriesOf-perm, entriesOf-append}
 use Rattle.tree.specs.Subtrees.{subs, forestSubs, subs-cons, length-subs, childrenOf, ownIds, rootNode, getD-nodesOf, subs-children, child-range, children-tile, fair-sub}
 use Rattle.walk.specs.declared.Wanted.{Wanted}
-use Rattle.walk.specs.declared.Wanted.the-variants.{Everything, Label}
 use Rattle.walk.specs.Walk.{children, hits, shown}
+use Rattle.walk.specs.Wanted.{LeafList, vector-list, entry-list, denies, listRead, given, heldIn}
 use Rattle.walk.specs.SoundWalk.{Sound, Local, Inner, Tiled}
 use Rattle.curator.specs.Calls.{splittingOf}
-use Rattle.runs.specs.Model.{Setting, Model, noNode, rowHashes, rowVectors, rowEntries, nodeCount, modelNodes, rowHit, leafHits, nodeGives, nodeDenies, mostRows, treeView}
+use Rattle.runs.specs.Model.{Setting, Model, noNode, rowHashes, rowVectors, rowEntries, nodeCount, modelNodes, modelCounts, rowHit, rowRead, nodeList, leafHits, nodeGives, treeView}
 use Rattle.runs.specs.State.{Allowed, Within, limits, some-nodes}
-use Rattle.runs.specs.Held.{owner-below, owners-length, length-vectors}
+use Rattle.runs.specs.Held.{length-vectors}
+use Rattle.runs.specs.WantedLaws.{listOver, given-joined, given-perm, given-fewer, denied-gives, entries-all}
 use Rattle.runs.specs.Views.{tree-shown, gives-none, gives-some}
 
 -- the hits due for the rows with some numbers
 unfoldable pub due : Model → List Float → Wanted → List ℕ → List ℕ
-due m query Everything ids = map (rowHit m query) ids
-due m query (Label hash) ids =
-    map (λ entry. rowHit m query (getD (rowEntries m .owners) entry 0)) (keep (λ entry. eqb (getD (rowEntries m .hashes) entry 0) hash) (entriesOf (rowEntries m) ids))
+due m query wanted ids = map (rowHit m query) (given wanted (rowRead m) (listOver (listRead wanted) m ids))
 
 -- ---- no id is twice below a node
 
@@ -73,20 +68,23 @@ entries-parts e (ids ∷ l) h =
     List·Permᴰ·trans (perm-append (Permᴰ·refl (entriesOf e ids)) (entries-parts e l (once-right ids (joined (λ x. x) l) h)))
     (entriesOf-append e ids (joined (λ x. x) l) h)
 
+-- the lists of some leaves, joined, are the list over all their rows
+lists-parts : (list : LeafList) (m : Model) (ids : List ℕ) (l : List (List ℕ)) → List·Permᴰ (joined (λ x. x) l) ids → Once ids
+    → List·Permᴰ (joined (listOver list m) l) (listOver list m ids)
+unfolding listOver
+lists-parts vector-list m ids l p h = p
+lists-parts entry-list m ids l p h =
+    let e = rowEntries m in
+    List·Permᴰ·trans (entries-parts e l (once-perm (joined (λ x. x) l) ids p h)) (perm-of-eq (entriesOf-perm e (joined (λ x. x) l) ids p))
+
 pub due-parts : (m : Model) (query : List Float) (wanted : Wanted) (ids : List ℕ) (l : List (List ℕ)) → List·Permᴰ (joined (λ x. x) l) ids → Once ids
     → List·Permᴰ (joined (due m query wanted) l) (due m query wanted ids)
 unfolding due
-due-parts m query Everything ids l p h =
-    List·Permᴰ·trans (perm-of-eq (sym (map-joined (rowHit m query) (λ x. x) l))) (Permᴰ·map (rowHit m query) p)
-due-parts m query (Label hash) ids l p h =
-    let e = rowEntries m in
-    let g : ℕ → ℕ = λ entry. rowHit m query (getD (rowEntries m .owners) entry 0) in
-    let has : ℕ → Bool = λ entry. eqb (getD (rowEntries m .hashes) entry 0) hash in
-    let all : joined (λ x. map g (keep has (entriesOf e x))) l ≡ map g (keep has (joined (entriesOf e) l)) =
-    sym (map-joined g (λ x. keep has (entriesOf e x)) l) ∙ ap (map g) (sym (keep-joined has (entriesOf e) l)) in
-    let kept : List·Permᴰ (joined (entriesOf e) l) (entriesOf e ids) =
-    List·Permᴰ·trans (entries-parts e l (once-perm (joined (λ x. x) l) ids p h)) (perm-of-eq (entriesOf-perm e (joined (λ x. x) l) ids p)) in
-    List·Permᴰ·trans (perm-of-eq all) (Permᴰ·map g (perm-keep has kept))
+due-parts m query wanted ids l p h =
+    let list = listOver (listRead wanted) m in
+    let all : joined (λ x. map (rowHit m query) (given wanted (rowRead m) (list x))) l ≡ map (rowHit m query) (given wanted (rowRead m) (joined list l)) =
+    sym (map-joined (rowHit m query) (λ x. given wanted (rowRead m) (list x)) l) ∙ ap (map (rowHit m query)) (sym (given-joined wanted (rowRead m) list l)) in
+    List·Permᴰ·trans (perm-of-eq all) (Permᴰ·map (rowHit m query) (given-perm wanted (rowRead m) (lists-parts (listRead wanted) m ids l p h)))
 
 -- ---- the tree
 
@@ -131,31 +129,23 @@ module _ (s : Setting) (m : Model) (a : Allowed s) (w : Within s m) where
   unfolding modelNodes nodeCount
   node-is i h = getD-nodesOf (split s m) (rowVectors m) (rowEntries m) i noNode (leaf []) h
 
-  -- ---- a denied node
-
-  denied-none : (query : List Float) (wanted : Wanted) (ids : List ℕ) (node : Node) → node .filter ≡ filterOf (rowEntries m) ids → nodeDenies wanted node ≡ true
-      → due m query wanted ids ≡ []
-  unfolding nodeDenies due
-  denied-none query Everything ids node f e = absurd (false≢true e)
-  denied-none query (Label hash) ids node f e =
-      let en = rowEntries m in
-      let has : ℕ → Bool = λ entry. eqb (getD (rowEntries m .hashes) entry 0) hash in
-      let closed : mayContain (filterOf (rowEntries m) ids) hash ≡ false =
-      ap (λ (l : List ℕ). mayContain l hash) (sym f) ∙ not-true (mayContain (node .filter) hash) e in
-      ap (map (λ entry. rowHit m query (getD (rowEntries m .owners) entry 0)))
-      (keep-none has (entriesOf en ids)
-      (λ x k. either (which (has x))
-      (λ t. absurd (false≢true (sym closed ∙ ap (mayContain (filterOf en ids)) (sym (eqb-true (getD (rowEntries m .hashes) x 0) hash t)) ∙ filterOf-admits en ids x k)))
-      (λ n. n)))
-
   -- ---- what a node shows is what is due
+
+  denied-none : (query : List Float) (wanted : Wanted) (ids filter : List ℕ) → filter ≡ filterOf (rowEntries m) ids → denies wanted filter ≡ true
+      → due m query wanted ids ≡ []
+  unfolding due
+  denied-none query wanted ids filter f e = ap (map (rowHit m query)) (denied-gives wanted m ids filter f e)
+
+  node-list : (list : LeafList) (node : Node) (ids : List ℕ) → node .ids ≡ ids → node .entries ≡ entriesOf (rowEntries m) ids
+      → nodeList list node ≡ listOver list m ids
+  unfolding listOver
+  node-list vector-list node ids e f = e
+  node-list entry-list node ids e f = f
 
   leaf-due : (query : List Float) (wanted : Wanted) (node : Node) (ids : List ℕ) → node .ids ≡ ids → node .entries ≡ entriesOf (rowEntries m) ids
       → leafHits m query wanted node ≡ due m query wanted ids
   unfolding leafHits due
-  leaf-due query Everything node ids e f = ap (map (rowHit m query)) e
-  leaf-due query (Label hash) node ids e f =
-      ap (λ (l : List ℕ). map (λ entry. rowHit m query (getD (rowEntries m .owners) entry 0)) (keep (λ entry. eqb (getD (rowEntries m .hashes) entry 0) hash) l)) f
+  leaf-due query wanted node ids e f = ap (λ (l : List ℕ). map (rowHit m query) (given wanted (rowRead m) l)) (node-list (listRead wanted) node ids e f)
 
   -- the children of the node with a number, and what is laid out at it
   root-children : (i : ℕ) → IsNode s m i → getD (modelNodes s m) i noNode .children ≡ roots (suc i) (childrenOf (subtree s m i))
@@ -227,12 +217,12 @@ module _ (s : Setting) (m : Model) (a : Allowed s) (w : Within s m) where
       → Local (dueBelow s m query wanted) (sizeAt s m) (IsNode s m) i (shown (treeView s m query wanted) i)
   shows-due query wanted i h =
       let node = getD (modelNodes s m) i noNode in
-      subst (Local (dueBelow s m query wanted) (sizeAt s m) (IsNode s m) i) (sym (tree-shown s m query wanted i)) (go (nodeDenies wanted node) refl)
+      subst (Local (dueBelow s m query wanted) (sizeAt s m) (IsNode s m) i) (sym (tree-shown s m query wanted i)) (go (denies wanted (node .filter)) refl)
     where
-      go : (b : Bool) → nodeDenies wanted (getD (modelNodes s m) i noNode) ≡ b
+      go : (b : Bool) → denies wanted (getD (modelNodes s m) i noNode .filter) ≡ b
           → Local (dueBelow s m query wanted) (sizeAt s m) (IsNode s m) i
           (cond b (hits []) (nodeGives m query wanted (getD (modelNodes s m) i noNode) (getD (modelNodes s m) i noNode .children)))
-      go true e = ap sort (sym (denied-none query wanted (keptIds (subtree s m i)) (getD (modelNodes s m) i noNode) (root-filter i h) e))
+      go true e = ap sort (sym (denied-none query wanted (keptIds (subtree s m i)) (getD (modelNodes s m) i noNode .filter) (root-filter i h) e))
       go false e = gives-due query wanted i (getD (modelNodes s m) i noNode .children) h (sym (root-children i h))
 
   -- ---- the root
@@ -250,18 +240,17 @@ module _ (s : Setting) (m : Model) (a : Allowed s) (w : Within s m) where
   unfolding nodeCount
   root-size = ap (λ (l : List Tree). size (getD l 0 (leaf []))) (subs-cons (rowTree s m))
 
-  pub entries-all : entriesOf (rowEntries m) (countFrom 0 (length (m .rows))) ≡ countFrom 0 (length (rowHashes m))
-  entries-all = entriesOf-all (rowEntries m) (length (m .rows)) (owner-below m) ∙ ap (countFrom 0) (owners-length m)
+  -- no more is due than is held
+  list-length : (list : LeafList) → length (listOver list m (countFrom 0 (length (m .rows)))) ≡ heldIn list (modelCounts s m)
+  unfolding listOver
+  list-length vector-list = length-countFrom 0 (length (m .rows))
+  list-length entry-list = ap length (entries-all m) ∙ length-countFrom 0 (length (rowHashes m))
 
   room : (query : List Float) (wanted : Wanted) → length (due m query wanted (countFrom 0 (length (m .rows)))) ≤ treeView s m query wanted .most
-  unfolding due treeView mostRows
-  room query Everything = le-of-eq (length-map (countFrom 0 (length (m .rows))) (rowHit m query) ∙ length-countFrom 0 (length (m .rows)))
-  room query (Label hash) =
-      let g : ℕ → ℕ = λ entry. rowHit m query (getD (rowEntries m .owners) entry 0) in
-      let has : ℕ → Bool = λ entry. eqb (getD (rowEntries m .hashes) entry 0) hash in
-      let all = entriesOf (rowEntries m) (countFrom 0 (length (m .rows))) in
-      let n : length all ≡ length (rowHashes m) = ap length entries-all ∙ length-countFrom 0 (length (rowHashes m)) in
-      omega (arith, length-map (keep has all) g, length-keep-le has all, n)
+  unfolding due treeView
+  room query wanted =
+      let l = listOver (listRead wanted) m (countFrom 0 (length (m .rows))) in
+      omega (arith, length-map (given wanted (rowRead m) l) (rowHit m query), given-fewer wanted (rowRead m) l, list-length (listRead wanted))
 
   -- the tree of the rows is sound
   pub sound-tree : (query : List Float) (wanted : Wanted) → Sound (treeView s m query wanted) (dueBelow s m query wanted) (sizeAt s m) (IsNode s m)

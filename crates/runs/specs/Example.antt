@@ -9,11 +9,13 @@ use lib.Ieee.{Float, binary32, ofBits, nan}
 use lib.ListN.{length, getD, take, replicate}
 use Rattle.distance.specs.Distance.{distance}
 use Rattle.label.specs.Fnv.{fnvFrom, fnvStep}
+use Rattle.store.specs.declared.Lengths.{Lengths}
+use Rattle.store.specs.Lent.{sizesOf}
 use Rattle.curator.specs.Calls.{fresh}
 use Rattle.curator.specs.Changes.{created}
 use Rattle.curator.specs.Arguments.{Asked, everything, labelled}
-use Rattle.runs.specs.Calls.{Fronts, add, build, Call, change, search, AllTyped, Alike, AllAlike}
-use Rattle.runs.specs.Model.{Setting, Model, emptyModel, Expected, returns, answers, expected, after, modelFrom}
+use Rattle.runs.specs.Calls.{add, build, Call, change, search, AllTyped, Alike, AllAlike}
+use Rattle.runs.specs.Model.{Setting, settingShape, Model, emptyModel, Expected, returns, answers, expected, after, modelFrom}
 use Rattle.runs.specs.Run.{Ended, Run}
 use Rattle.runs.specs.Theorem.{Matches, InPairs, Premise, Better}
 use Rattle.runs.specs.Exists.{every-run}
@@ -31,8 +33,9 @@ sample ef nodes =
       capacities = record { vectors = 4; entries = 4; nodes = nodes };
     }
 
-abbrev pub fronts : Fronts
-fronts = record { floats = 30; numbers = 60; hashes = 30 }
+-- lists with room for a node more
+abbrev pub fronts : Lengths
+fronts = sizesOf (settingShape (sample 5 6))
 
 -- an add of a document with a vector, by bits, and a label of one byte
 abbrev pub adds : ℕ → List ℕ → ℕ → Call
@@ -43,8 +46,7 @@ abbrev pub searches : ℕ → Float → ℕ → Asked → Call
 searches number float k asked =
     search fronts (replicate 30 number)
     (record {
-      query = map (ofBits binary32) (0x3F800000 ∷ 0 ∷ []);
-      asked = asked;
+      question = record { query = map (ofBits binary32) (0x3F800000 ∷ 0 ∷ []); asked = asked };
       k = k;
       ids = replicate 4 number;
       distances = replicate 4 float;
@@ -135,14 +137,14 @@ eighth ends run none =
 
 -- the calls are alike whatever stands in work and answer lists
 alike-search : (number number′ : ℕ) (float float′ : Float) (k : ℕ) (asked : Asked) → Alike (searches number float k asked) (searches number′ float′ k asked)
-alike-search number number′ float float′ k asked = (refl, record { query = refl; asked = refl; k = refl; ids = refl; distances = refl })
+alike-search number number′ float float′ k asked = (refl, refl, record { question = refl; k = refl; ids = refl; distances = refl })
 
 pub over-alike : (number number′ : ℕ) (float float′ : Float) → AllAlike (callsOver number float) (callsOver number′ float′)
 over-alike number number′ float float′ =
     let four = alike-search number number′ float float′ 4 label-a in
     let every : (k : ℕ) → Alike (searches number float k everything) (searches number′ float′ k everything) =
     λ k. alike-search number number′ float float′ k everything in
-    ((refl, refl), (four, ((refl, refl), ((refl, refl), ((refl, refl), ((refl, refl), ((refl, refl), (four, (every 2, (every 5, tt))))))))))
+    ((refl, refl, refl), (four, ((refl, refl, refl), ((refl, refl, refl), ((refl, refl, refl), ((refl, refl, refl), ((refl, refl, refl), (four, (every 2, (every 5, tt))))))))))
 
 -- with ef 5 no answer is worse than with ef 2
 pub five-not-worse : (number : ℕ) (float : Float) (ends ends′ : List Ended) → Run (sample 2 5) calls ends → Run (sample 5 5) (callsOver number float) ends′

@@ -1,25 +1,31 @@
 -- What the lists hold of the rows: vectors, document ids, owners and hashes. They depend on the fronts of the lists that stand before the node parts,
 -- so a build, refused or not, leaves them; an accepted add writes one row more, behind those held.
-use Prim.Native.Nat.{ℕ, zero, suc, _+_, _*_, _≤_, _<_}
-use native.Mathlib.Nat.{zero-add, add-zero, mul-comm, le-refl, suc-mul, mul-le-mul-right}
+use Prim.Native.Nat.{ℕ, suc, _+_, _*_, _≤_, _<_}
+use native.Mathlib.Nat.{zero-add, add-zero, mul-comm, mul-add, le-refl, suc-mul, mul-le-mul-right}
 use native.Mathlib.Omega.{arith}
-use mathlib.Core.List.{List, [], _∷_, _++_, map, map-append, append-nil, append-assoc, List·Memᴰ, List·Memᴰ·not-nil, List·Memᴰ·cases-cons, List·Memᴰ·append-cases}
+use mathlib.Core.List.{List, [], _∷_, _++_, map, map-append, append-nil, append-assoc, List·Memᴰ, List·Memᴰ·not-nil, List·Memᴰ·append-cases}
 use mathlib.Core.Path.{_≡_, refl, sym, ap, ap₂, _∙_, subst}
 use lib.Ieee.{Float}
-use lib.ListN.{length, getD, drop, set, replicate, length-append, length-map, length-replicate, length-set}
+use lib.ListN.{length, getD, set, replicate, length-append, length-map, length-replicate, length-set}
 use lib.Seq.{sets, length-sets}
-use Rattle.lists.specs.Maps.{map-on}
-use Rattle.lists.specs.Lists.{part, countFrom, joined, pieces}
+use Rattle.lists.specs.Lists.{part, countFrom, joined}
+use Rattle.lists.specs.Maps.{map-on, Memᴰ-replicate}
 use Rattle.lists.specs.Counting.{countFrom-snoc, Memᴰ-countFrom, joined-snoc, getD-Memᴰ}
-use Rattle.lists.specs.Parts.{part-sets-same, part-sets-before, part-set-before, part-append-parts}
-use Rattle.vector.specs.Normalized.{normalized, normalized-is, length-normalized}
+use Rattle.lists.specs.Parts.{part-sets-same, part-sets-before, part-sets-grown, part-set-before}
 use Rattle.lists.specs.Tests.{either}
-use Rattle.store.specs.Store.{Store, vectorAt, centroidsAt, orderAt, filtersAt}
+use Rattle.vector.specs.Normalized.{normalized, normalized-is, normalized-holds, length-normalized}
+use Rattle.store.specs.declared.Lengths.{Lengths}
+use Rattle.store.specs.Store.{Store, vectorAt, ownersAt, centroidsAt, orderAt, filtersAt}
+use Rattle.store.specs.Lent.{storeOf, lengthsOf, sizesOf, NoShorter}
+use Rattle.store.specs.Agree.{Agree, part-same}
+use Rattle.curator.specs.declared.CuratorIndex.{CuratorIndex}
+use Rattle.curator.specs.Limits.{indexShape}
 use Rattle.curator.specs.Calls.{hashesOfLabels, heldVectors, heldEntries}
 use Rattle.curator.specs.Changes.{Wrote}
 use Rattle.curator.specs.Arguments.{AddCall}
+use Rattle.curator.specs.Lent.{AddRoom}
+use Rattle.curator.specs.LabelLaws.{length-hashesOfLabels}
 use Rattle.runs.specs.Model.{Setting, Model, ModelRow, emptyModel, rowVectors, rowHashes, ownersFrom, rowEntries, newRow, settingShape}
-use Rattle.runs.specs.Agree.{Agree, SameLengths, part-same}
 use Rattle.runs.specs.State.{stateOf, Within}
 
 pub record Held (s : Setting) (m : Model) (store : Store) : Type 0 where
@@ -29,8 +35,20 @@ pub record Held (s : Setting) (m : Model) (store : Store) : Type 0 where
   pub hashes : part 0 (length (rowHashes m)) (store .hashes) ≡ rowHashes m
 
 -- the fronts that it depends on: up to the centroids, the leaf order, the filters
+abbrev pub rowsEnd : Setting → Lengths
+rowsEnd s = record { floats = centroidsAt (settingShape s); numbers = orderAt (settingShape s); hashes = filtersAt (settingShape s) }
+
 abbrev pub SameHeld : Setting → Store → Store → Type 0
-SameHeld s = Agree (centroidsAt (settingShape s)) (orderAt (settingShape s)) (filtersAt (settingShape s))
+SameHeld s = Agree (rowsEnd s)
+
+-- they end within the sizes
+pub rows-within : (s : Setting) → NoShorter (rowsEnd s) (sizesOf (settingShape s))
+rows-within s =
+    let d = s .dimension in
+    let c = s .capacities in
+    let p = mul-add d (c .vectors + c .nodes) (s .params .«branching_factor») in
+    let q = mul-add d (c .vectors) (c .nodes) in
+    record { floats = omega arith; numbers = omega arith; hashes = omega arith }
 
 -- the places of a vector that is held
 pub vector-places : (i n d v : ℕ) → i < n → n ≤ v → i * d + d ≤ d * v
@@ -52,12 +70,12 @@ held-same s m store store′ w a h =
       vectors =
           map-on (vectorAt d (store′ .floats)) (vectorAt d (store .floats)) (countFrom 0 n)
           (λ i k. sym (part-same (i * d) d (d * c .vectors) (store .floats) (store′ .floats)
-          (vector-places i n d (c .vectors) (let r = Memᴰ-countFrom i 0 n k in let t : i < n = omega (arith, r .1) in t) (w .vectors)) (a .floats-same)))
+          (vector-places i n d (c .vectors) (let r = Memᴰ-countFrom i 0 n k in let t : i < n = omega (arith, r .1) in t) (w .vectors)) (a .floats)))
           ∙ h .vectors;
-      documents = sym (part-same 0 n (c .vectors + c .entries) (store .numbers) (store′ .numbers) inV (a .numbers-same)) ∙ h .documents;
-      owners = sym (part-same (c .vectors) (length (rowHashes m)) (c .vectors + c .entries) (store .numbers) (store′ .numbers) inO (a .numbers-same))
+      documents = sym (part-same 0 n (c .vectors + c .entries) (store .numbers) (store′ .numbers) inV (a .numbers)) ∙ h .documents;
+      owners = sym (part-same (c .vectors) (length (rowHashes m)) (c .vectors + c .entries) (store .numbers) (store′ .numbers) inO (a .numbers))
           ∙ h .owners;
-      hashes = sym (part-same 0 (length (rowHashes m)) (c .entries) (store .hashes) (store′ .hashes) inE (a .hashes-same)) ∙ h .hashes;
+      hashes = sym (part-same 0 (length (rowHashes m)) (c .entries) (store .hashes) (store′ .hashes) inE (a .hashes)) ∙ h .hashes;
     }
 
 -- nothing is held of no row
@@ -105,37 +123,18 @@ pub owners-more : (m : Model) (r : ModelRow)
 owners-more m r = owners-snoc 0 (m .rows) r ∙ ap (λ (k : ℕ). ownersFrom 0 (m .rows) ++ replicate (length (r .hashes)) k) (zero-add (length (m .rows)))
 
 -- one hash a label
-labels-length : (lengths bytes : List ℕ) → length (labelsOf lengths bytes) ≡ length lengths
-unfolding labelsOf
-labels-length [] bytes = refl
-labels-length (n ∷ lengths) bytes = ap suc (labels-length lengths (drop n bytes))
+pub count-more : (m : Model) (call : AddCall) → length (rowHashes (withRow m (newRow call))) ≡ length (rowHashes m) + length (call .lengths)
+count-more m call =
+    ap length (hashes-more m (newRow call)) ∙ length-append (rowHashes m) (newRow call .hashes)
+    ∙ ap (λ (k : ℕ). length (rowHashes m) + k) (length-hashesOfLabels (call .lengths) (call .bytes))
 
-pub hashes-length : (lengths bytes : List ℕ) → length (hashesOfLabels lengths bytes) ≡ length lengths
-unfolding hashesOfLabels
-hashes-length lengths bytes = length-map (labelsOf lengths bytes) Rattle.label.specs.Fnv.fnv ∙ labels-length lengths bytes
-
--- a part of what is held, and behind it what is written
-part-grown : {A : Type 0} (s c : ℕ) (l xs : List A) (k : ℕ) → length xs ≡ k → s + c + k ≤ length l → part s (c + k) (sets l (s + c) xs) ≡ part s c l ++ xs
-part-grown {A} s c l xs k e h =
-    sym (part-append-parts s c k (sets l (s + c) xs))
-    ∙ ap₂ (λ (a b : List A). a ++ b) (part-sets-before s c l (s + c) xs (le-refl (s + c)))
-    (ap (λ (n : ℕ). part (s + c) n (sets l (s + c) xs)) (sym e) ∙ part-sets-same l (s + c) xs (let t : s + c + length xs ≤ length l = omega arith in t))
-
--- what an accepted add found: room in the index and in the lists
-pub record Room (s : Setting) (m : Model) (call : AddCall) (store : Store) : Type 0 where
-  pub length-is : length (call .vector) ≡ s .dimension
-  pub vectors : length (m .rows) < s .capacities .vectors
-  pub entries : length (rowHashes m) + length (call .lengths) ≤ s .capacities .entries
-  pub floats-long : s .dimension * s .capacities .vectors ≤ length (store .floats)
-  pub numbers-long : s .capacities .vectors + s .capacities .entries ≤ length (store .numbers)
-  pub hashes-long : s .capacities .entries ≤ length (store .hashes)
-
-module _ (s : Setting) (m : Model) (call : AddCall) (store store′ : Store) (room : Room s m call store) (wrote : Wrote (stateOf s m) store call store′) where
+module _ (s : Setting) (m : Model) (call : AddCall) (store store′ : Store) (room : AddRoom (stateOf s m) store call)
+    (wrote : Wrote (stateOf s m) store call store′) where
   stored-is : wrote .stored ≡ normalized (call .vector)
   stored-is = normalized-is (call .vector) (wrote .stored) (wrote .normalized)
 
   stored-long : length (wrote .stored) ≡ s .dimension
-  stored-long = ap length stored-is ∙ length-normalized (call .vector) ∙ room .length-is
+  stored-long = ap length stored-is ∙ length-normalized (call .vector) ∙ room .dimension
 
   added-vectors : (d n : ℕ) → s .dimension ≡ d → length (m .rows) ≡ n → map (vectorAt d (store .floats)) (countFrom 0 n) ≡ rowVectors m
       → map (vectorAt d (store′ .floats)) (countFrom 0 (suc n)) ≡ rowVectors m ++ (normalized (call .vector) ∷ [])
@@ -146,7 +145,7 @@ module _ (s : Setting) (m : Model) (call : AddCall) (store store′ : Store) (ro
       let fits : n * d + d ≤ length (store .floats) =
       (let p = vector-places n (suc n) d (s .capacities .vectors) (le-refl (suc n)) (omega (arith, room .vectors)) in
       let f : d * s .capacities .vectors ≤ length (store .floats) =
-      subst (λ (x : ℕ). x * s .capacities .vectors ≤ length (store .floats)) ed (room .floats-long) in
+      subst (λ (x : ℕ). x * s .capacities .vectors ≤ length (store .floats)) ed (omega (arith, rows-within s .floats, room .long .floats)) in
       omega (arith, p, f)) in
       let old : map (vectorAt d (store′ .floats)) (countFrom 0 n) ≡ rowVectors m =
       map-on (vectorAt d (store′ .floats)) (vectorAt d (store .floats)) (countFrom 0 n)
@@ -172,7 +171,7 @@ module _ (s : Setting) (m : Model) (call : AddCall) (store store′ : Store) (ro
       ∙ part-sets-before 0 (suc n) (set (store .numbers) (length (m .rows)) (call .document)) at L small
       ∙ ap (λ (k : ℕ). part 0 (suc n) (set (store .numbers) k (call .document))) en
       ∙ ap₂ (λ (a b : ℕ). part 0 a (sets (store .numbers) b (call .document ∷ []))) (let e : suc n ≡ n + 1 = omega arith in e) (sym (zero-add n))
-      ∙ part-grown 0 n (store .numbers) (call .document ∷ []) 1 refl (omega (arith, room .vectors, room .numbers-long, en))
+      ∙ part-sets-grown 0 n (store .numbers) (call .document ∷ []) 1 refl (omega (arith, room .vectors, room .long .numbers, en))
       ∙ ap (λ (l : List ℕ). l ++ (call .document ∷ [])) h
 
   added-owners : part (s .capacities .vectors) (length (rowHashes m)) (store .numbers) ≡ ownersFrom 0 (m .rows)
@@ -184,9 +183,9 @@ module _ (s : Setting) (m : Model) (call : AddCall) (store store′ : Store) (ro
       let L = replicate (length (call .lengths)) (length (m .rows)) in
       let n = length (m .rows) in
       ap (λ (l : List ℕ). part v (e + length (call .lengths)) l) (wrote .numbers)
-      ∙ part-grown v e (set (store .numbers) n (call .document)) L (length (call .lengths)) (length-replicate (length (call .lengths)) n)
+      ∙ part-sets-grown v e (set (store .numbers) n (call .document)) L (length (call .lengths)) (length-replicate (length (call .lengths)) n)
       (let t : v + e + length (call .lengths) ≤ length (set (store .numbers) n (call .document)) =
-      omega (arith, room .entries, room .numbers-long, length-set (store .numbers) n (call .document)) in t)
+      omega (arith, room .entries, room .long .numbers, length-set (store .numbers) n (call .document)) in t)
       ∙ ap (λ (l : List ℕ). l ++ L) (part-set-before v e (store .numbers) n (call .document) (room .vectors) ∙ h)
 
   added-hashes : part 0 (length (rowHashes m)) (store .hashes) ≡ rowHashes m
@@ -196,15 +195,13 @@ module _ (s : Setting) (m : Model) (call : AddCall) (store store′ : Store) (ro
       let hs = hashesOfLabels (call .lengths) (call .bytes) in
       ap (λ (l : List ℕ). part 0 (e + length (call .lengths)) l) (wrote .hashes)
       ∙ ap (λ (k : ℕ). part 0 (e + length (call .lengths)) (sets (store .hashes) k hs)) (sym (zero-add e))
-      ∙ part-grown 0 e (store .hashes) hs (length (call .lengths)) (hashes-length (call .lengths) (call .bytes)) (omega (arith, room .entries, room .hashes-long))
+      ∙ part-sets-grown 0 e (store .hashes) hs (length (call .lengths)) (length-hashesOfLabels (call .lengths) (call .bytes)) (omega (arith, room .entries, room .long .hashes))
       ∙ ap (λ (l : List ℕ). l ++ hs) h
 
   pub held-added : Held s m store → Held s (withRow m (newRow call)) store′
   held-added h =
       let r = newRow call in
-      let count : length (rowHashes (withRow m r)) ≡ length (rowHashes m) + length (call .lengths) =
-      ap length (hashes-more m r) ∙ length-append (rowHashes m) (r .hashes)
-      ∙ ap (λ (k : ℕ). length (rowHashes m) + k) (hashes-length (call .lengths) (call .bytes)) in
+      let count = count-more m call in
       record {
         vectors =
             ap (λ (k : ℕ). map (vectorAt (s .dimension) (store′ .floats)) (countFrom 0 k)) (length-rows m r)
@@ -214,35 +211,44 @@ module _ (s : Setting) (m : Model) (call : AddCall) (store store′ : Store) (ro
             ∙ sym (map-append (λ t. t .document) (m .rows) (r ∷ []));
         owners =
             ap (λ (k : ℕ). part (s .capacities .vectors) k (store′ .numbers)) count ∙ added-owners (h .owners)
-            ∙ ap (λ (k : ℕ). ownersFrom 0 (m .rows) ++ replicate k (length (m .rows))) (sym (hashes-length (call .lengths) (call .bytes)))
+            ∙ ap (λ (k : ℕ). ownersFrom 0 (m .rows) ++ replicate k (length (m .rows))) (sym (length-hashesOfLabels (call .lengths) (call .bytes)))
             ∙ sym (owners-more m r);
         hashes = ap (λ (k : ℕ). part 0 k (store′ .hashes)) count ∙ added-hashes (h .hashes) ∙ sym (hashes-more m r);
       }
 
+-- ---- what an accepted add writes, whatever index and lists it is given
+
+module _ (index : CuratorIndex) (store : Store) (call : AddCall) where
   -- the lists keep their lengths
-  pub added-lengths : SameLengths store store′
-  added-lengths =
-      record {
-        floats = sym (ap length (wrote .floats) ∙ length-sets (store .floats) (length (m .rows) * s .dimension) (wrote .stored));
-        numbers =
-            sym (ap length (wrote .numbers)
-            ∙ length-sets (set (store .numbers) (length (m .rows)) (call .document)) (s .capacities .vectors + length (rowHashes m)) (replicate (length (call .lengths)) (length (m .rows)))
-            ∙ length-set (store .numbers) (length (m .rows)) (call .document));
-        hashes = sym (ap length (wrote .hashes) ∙ length-sets (store .hashes) (length (rowHashes m)) (hashesOfLabels (call .lengths) (call .bytes)));
-      }
+  pub wrote-lengths : (store′ : Store) → Wrote index store call store′ → lengthsOf store ≡ lengthsOf store′
+  wrote-lengths store′ wrote =
+      let n = index .counts .vectors in
+      let one = set (store .numbers) n (call .document) in
+      let at = ownersAt (indexShape index) + index .counts .entries in
+      let f = sym (ap length (wrote .floats) ∙ length-sets (store .floats) (n * index .dimension) (wrote .stored)) in
+      let o =
+      sym (ap length (wrote .numbers) ∙ length-sets one at (replicate (length (call .lengths)) n) ∙ length-set (store .numbers) n (call .document)) in
+      let h = sym (ap length (wrote .hashes) ∙ length-sets (store .hashes) (index .counts .entries) (hashesOfLabels (call .lengths) (call .bytes))) in
+      λ i. record { floats = f i; numbers = o i; hashes = h i }
+
+  -- there are lists that it leaves
+  pub writes : (store′ : Store) × Wrote index store call store′
+  writes = (
+    storeOf (sets (store .floats) (index .counts .vectors * index .dimension) (normalized (call .vector)))
+        (sets (set (store .numbers) (index .counts .vectors) (call .document)) (ownersAt (indexShape index) + index .counts .entries)
+        (replicate (length (call .lengths)) (index .counts .vectors)))
+        (sets (store .hashes) (index .counts .entries) (hashesOfLabels (call .lengths) (call .bytes))),
+    record { stored = normalized (call .vector); normalized = normalized-holds (call .vector); floats = refl; numbers = refl; hashes = refl },
+  )
 
 -- ---- owners are rows: build's 15 never
-
-of-replicate : (n i x : ℕ) → List·Memᴰ x (replicate n i) → x ≡ i
-of-replicate zero i x m = absurd (List·Memᴰ·not-nil m)
-of-replicate (suc n) i x m = either (List·Memᴰ·cases-cons m) (λ e. e) (λ k. of-replicate n i x k)
 
 owners-below : (i : ℕ) (rows : List ModelRow) (x : ℕ) → List·Memᴰ x (ownersFrom i rows) → x < i + length rows
 unfolding ownersFrom
 owners-below i [] x m = absurd (List·Memᴰ·not-nil m)
 owners-below i (r ∷ rows) x m =
     either (List·Memᴰ·append-cases (replicate (length (r .hashes)) i) m)
-    (λ k. let e : x ≡ i = of-replicate (length (r .hashes)) i x k in let t : x < i + suc (length rows) = omega arith in t)
+    (λ k. let e : x ≡ i = Memᴰ-replicate (length (r .hashes)) k in let t : x < i + suc (length rows) = omega arith in t)
     (λ k. let b : x < suc i + length rows = owners-below (suc i) rows x k in let t : x < i + suc (length rows) = omega arith in t)
 
 pub owner-below : (m : Model) (k : ℕ) → k < length (rowEntries m .owners) → getD (rowEntries m .owners) k 0 < length (m .rows)

@@ -9,9 +9,10 @@ use borrow.Author.Tests.{le-leb}
 use lib.Ieee.{Float, nan}
 use lib.ListN.{length, getD, take, length-map, length-take}
 use lib.Seq.{sets}
-use Rattle.lists.specs.Maps.{getD-map}
+use Rattle.lists.specs.Maps.{getD-map, take-Memᴰ}
 use Rattle.lists.specs.Counting.{getD-Memᴰ}
 use Rattle.lists.specs.Parts.{getD-sets-in}
+use Rattle.store.specs.declared.Lengths.{Lengths}
 use Rattle.order.specs.Sorted.{sort}
 use Rattle.order.specs.SortedLaws.{sort-mem, no-later-length}
 use Rattle.distance.specs.DistanceLaws.{distance-fits}
@@ -23,17 +24,16 @@ use Rattle.walk.specs.WalkLaws.{larger-later}
 use Rattle.walk.specs.Answer.{answer, documentOf, distanceOf, ranked}
 use Rattle.walk.specs.AnswerLaws.{never-worse, never-later}
 use Rattle.settings.specs.Refusals.{checkNumber}
-use Rattle.curator.specs.Arguments.{SearchCall}
-use Rattle.runs.specs.Calls.{Fronts, Call, change, search, lentBy, AlikeSearch, Alike, AllAlike}
-use Rattle.runs.specs.Model.{Setting, Model, modelNodes, changeCheck, treeView, expected, after}
+use Rattle.curator.specs.Arguments.{Question, SearchCall}
+use Rattle.runs.specs.Calls.{Call, change, search, AlikeSearch, Alike, AllAlike}
+use Rattle.runs.specs.Model.{Setting, Model, modelNodes, changeCheck, treeView, modelWalk, expected, after}
 use Rattle.runs.specs.Run.{Ended}
 use Rattle.runs.specs.Theorem.{endNumber, Reply, replyOf, Matches, AtEach, InPairs, Distinct, NotWorse, Better, withBudget, rowDistance}
-use Rattle.runs.specs.ListLaws.{take-Memᴰ}
 use Rattle.runs.specs.State.{Allowed, Within, Small}
 use Rattle.runs.specs.Refusals.{search-room}
 use Rattle.runs.specs.Search.{walk-is}
 use Rattle.runs.specs.Reached.{Ends, Along, Finds, answered-finds, not-answered, numbered}
-use Rattle.runs.specs.Contents.{alike-walk, alike-check, alike-after, budget-check, budget-after}
+use Rattle.runs.specs.Contents.{alike-check, alike-after, budget-check, budget-after}
 use Rattle.runs.specs.Hits.{searchView, found-different, found-ranked, found-key}
 
 -- ---- the answer lists
@@ -77,15 +77,15 @@ first-found k p e i h =
 
 -- ---- one search
 
-module _ (s : Setting) (m : Model) (a : Allowed s) (w : Within s m) (d : Distinct m) (small : Small m) (call : SearchCall) where
-  -- answers with the same k, of a walk and of one that went on
-  not-worse : (b more : ℕ) (p q : Progress) → walk (searchView s m call) b ≡ going p → walk (searchView s m call) (b + more) ≡ going q
+module _ (s : Setting) (m : Model) (a : Allowed s) (w : Within s m) (d : Distinct m) (small : Small m) where
+  -- answers of one question with the same k, of a walk and of one that went on
+  not-worse : (question : Question) (b more : ℕ) (p q : Progress) → walk (searchView s m question) b ≡ going p
+      → walk (searchView s m question) (b + more) ≡ going q
       → (ids ids′ : List ℕ) (distances distances′ : List Float) (k : ℕ) (reply reply′ : Reply) → Listed k ids distances p reply
       → Listed k ids′ distances′ q reply′ → k ≤ length distances → k ≤ length distances′ → NotWorse reply reply′
-  not-worse b more p q e f ids ids′ distances distances′ k reply reply′ l l′ long long′ =
-      let view = searchView s m call in
-      let later = larger-later view b more p q e f in
-      let different = found-different s m a w d small call (b + more) q f in
+  not-worse question b more p q e f ids ids′ distances distances′ k reply reply′ l l′ long long′ =
+      let later = larger-later (searchView s m question) b more p q e f in
+      let different = found-different s m a w d small question (b + more) q f in
       let fewer : length (take k (ranked p)) ≤ length (take k (ranked q)) =
       no-later-length (take k (ranked p)) (take k (ranked q)) (never-worse p q (later .found .0) k (later .found .1) different) in
       record {
@@ -93,28 +93,34 @@ module _ (s : Setting) (m : Model) (a : Allowed s) (w : Within s m) (d : Distinc
         later = λ i h.
             (let low : i < length (take k (ranked p)) = omega (arith, h, l .count) in
             let low′ : i < length (take k (ranked q)) = omega (arith, low, fewer) in
-            let old = found-key s m a w d small call b p e (getD (take k (ranked p)) i 0) (first-found k p (found-ranked s m a w d small call b p e) i low) in
-            let new = found-key s m a w d small call (b + more) q f (getD (take k (ranked q)) i 0) (first-found k q (found-ranked s m a w d small call (b + more) q f) i low′) in
+            let old = found-key s m a w d small question b p e (getD (take k (ranked p)) i 0) (first-found k p (found-ranked s m a w d small question b p e) i low) in
+            let new =
+            found-key s m a w d small question (b + more) q f (getD (take k (ranked q)) i 0) (first-found k q (found-ranked s m a w d small question (b + more) q f) i low′) in
             let keys = never-later p q (later .found .0) k (later .found .1) different i low in
-            let query = normalized (call .question .query) in
+            let query = normalized (question .query) in
+            let x = rowDistance question (new .0) in
+            let y = rowDistance question (old .0) in
             ap₂ totalOrder (listed-distance k ids′ distances′ q reply′ l′ long′ i low′ ∙ new .1) (listed-distance k ids distances p reply l long i low ∙ old .1)
-            ∙ totalOrder-key (rowDistance call (new .0)) (rowDistance call (old .0)) (distance-fits query (new .0 .vector)) (distance-fits query (old .0 .vector))
-            ∙ le-leb (keyOf (rowDistance call (new .0))) (keyOf (rowDistance call (old .0))) (omega (arith, keys, old .2, new .2)));
+            ∙ totalOrder-key x y (distance-fits query (new .0 .vector)) (distance-fits query (old .0 .vector))
+            ∙ le-leb (keyOf x) (keyOf y) (omega (arith, keys, old .2, new .2)));
       }
 
   -- two answered searches that are alike
-  better : (ef : ℕ) → s .params .«ef_search» ≤ ef → (call′ : SearchCall) → AlikeSearch call call′ → (fronts fronts′ : Fronts) (work work′ : List ℕ) (reply reply′ : Reply)
+  better : (ef : ℕ) → s .params .«ef_search» ≤ ef → (call call′ : SearchCall) → AlikeSearch call call′ → (fronts fronts′ : Lengths) (work work′ : List ℕ) (reply reply′ : Reply)
       → Finds s m fronts work call reply → Finds (withBudget ef s) m fronts′ work′ call′ reply′ → NotWorse reply reply′
   unfolding treeView modelNodes
-  better ef h call′ same fronts fronts′ work work′ reply reply′ x y =
+  better ef h call call′ same fronts fronts′ work work′ reply reply′ x y =
+      let budget = s .params .«ef_search» in
       let more = ef - s .params .«ef_search» in
       let sum : s .params .«ef_search» + (ef - s .params .«ef_search») ≡ ef = omega arith in
-      let walk′ : walk (searchView s m call) (s .params .«ef_search» + (ef - s .params .«ef_search»)) ≡ going (y .progress) =
-      ap (walk (searchView s m call)) sum ∙ sym (walk-is (withBudget ef s) m call) ∙ alike-walk (withBudget ef s) m call call′ same ∙ y .walked in
+      let walk′ : walk (searchView s m (call .question)) (s .params .«ef_search» + (ef - s .params .«ef_search»)) ≡ going (y .progress) =
+      ap (walk (searchView s m (call .question))) sum ∙ sym (walk-is (withBudget ef s) m (call .question))
+      ∙ ap (modelWalk (withBudget ef s) m) (same .question) ∙ y .walked in
       let l′ : Listed (call .k) (call′ .ids) (call′ .distances) (y .progress) reply′ =
       subst (λ (k : ℕ). Listed k (call′ .ids) (call′ .distances) (y .progress) reply′) (sym (same .k)) (listed call′ (y .progress) reply′ (y .is)) in
-      let long = search-room s m (lentBy fronts work) call (x .check) .distances in
-      not-worse (s .params .«ef_search») more (x .progress) (y .progress) (sym (walk-is s m call) ∙ x .walked) walk′ (call .ids) (call′ .ids) (call .distances) (call′ .distances)
+      let long = search-room s m fronts (length work) call (x .check) .distances in
+      not-worse (call .question) budget more (x .progress) (y .progress) (sym (walk-is s m (call .question)) ∙ x .walked) walk′ (call .ids) (call′ .ids)
+      (call .distances) (call′ .distances)
       (call .k) reply reply′ (listed call (x .progress) reply (x .is)) l′ long (subst (λ (n : ℕ). call .k ≤ n) (same .distances) long)
 
 -- ---- every call
@@ -134,10 +140,10 @@ module _ (s : Setting) (a : Allowed s) (ef : ℕ) (more : s .params .«ef_search
       → Matches (expected (withBudget ef s) m call′) call′ end′ → Better end end′
   unfolding expected
   call-better (change f work c) call′ e end end′ x y =
-      λ reply reply′ g g′. absurd (not-answered f work c (checkNumber (changeCheck s m (lentBy f work) c)) end reply x g)
+      λ reply reply′ g g′. absurd (not-answered f work c (checkNumber (changeCheck s m f (length work) c)) end reply x g)
   call-better (search f work call) (change f′ work′ c′) e end end′ x y = absurd e
   call-better (search f work call) (search f′ work′ call′) e end end′ x y = λ reply reply′ g g′.
-      better s m a w d small call ef more call′ (e .1) f f′ work work′ reply reply′ (answered-finds s m f work call end reply x g)
+      better s m a w d small ef more call call′ (e .2) f f′ work work′ reply reply′ (answered-finds s m f work call end reply x g)
       (answered-finds (withBudget ef s) m f′ work′ call′ end′ reply′ y g′)
 
 -- ---- both runs

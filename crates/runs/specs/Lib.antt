@@ -5,8 +5,6 @@ pub mod Model
 pub mod Run
 pub mod Theorem
 -- between a run and its model: the state, what the lists hold of the rows, what of the nodes; refusals alike
-pub mod ListLaws
-pub mod Agree
 pub mod State
 pub mod Held
 pub mod Refusals
@@ -16,7 +14,8 @@ pub mod Invariant
 pub mod ChangeLaws
 pub mod Adds
 pub mod Builds
--- the walk over the store is the walk over the rows' tree, which is sound
+-- the walk over the store is the walk over the rows' tree, which is sound; the cases of what is wanted
+pub mod WantedLaws
 pub mod Views
 pub mod Due
 pub mod Search
@@ -30,6 +29,7 @@ pub mod Larger
 pub mod Whole
 pub mod Demand
 -- not empty: outcomes, runs and reference lists exist; an example
+pub mod Fronts
 pub mod Exists
 pub mod Reference
 pub mod Places

@@ -1,23 +1,24 @@
 -- Document 01, 'The book', here the model: 'It is written from the settings, the capacities and the calls' arguments, list lengths among them; never
 -- from state, store or answers.' A line of the book is a row of the model. It says what is expected of every call, and is changed by it.
 use Prim.Native.Nat.{ℕ, suc}
-use mathlib.Core.Bool.{Bool, true, false, not}
+use mathlib.Core.Bool.{Bool, true, false}
 use mathlib.Core.List.{List, [], _∷_, _++_, map}
-use lib.Dec.{ltb, eqb}
+use lib.Dec.{ltb}
 use lib.Ieee.{Float}
 use lib.ListN.{length, getD, replicate}
-use Rattle.lists.specs.Lists.{joined, keep}
+use Rattle.lists.specs.Lists.{joined}
 use Rattle.distance.specs.Distance.{distance}
 use Rattle.total_order.specs.TotalOrder.{keyOf}
 use Rattle.vector.specs.Normalized.{normalized}
-use Rattle.label.specs.Filter.{mayContain}
 use Rattle.store.specs.declared.Shape.{Shape}
+use Rattle.store.specs.declared.Counts.{Counts}
+use Rattle.store.specs.declared.Lengths.{Lengths}
 use Rattle.tree.specs.Tree.{treeOf, size}
 use Rattle.tree.specs.Nodes.{Node, Entries, nodesOf}
 use Rattle.walk.specs.declared.Wanted.{Wanted}
-use Rattle.walk.specs.declared.Wanted.the-variants.{Everything, Label}
 use Rattle.walk.specs.Walk.{View, Shown, State, damaged, going, children, hits, walk}
 use Rattle.walk.specs.Answer.{Answer, answer, hitOf}
+use Rattle.walk.specs.Wanted.{EntryRead, LeafList, vector-list, entry-list, denies, listRead, given, most}
 use Rattle.settings.specs.declared.CuratorParams.{CuratorParams}
 use Rattle.settings.specs.declared.Capacities.{Capacities}
 use Rattle.settings.specs.declared.Check.{Check}
@@ -25,11 +26,10 @@ use Rattle.settings.specs.declared.Check.the-variants.{Fine, Refused}
 use Rattle.curator.specs.Limits.{shapeOf}
 use Rattle.settings.specs.Refusals.{number, checkNumber}
 use Rattle.curator.specs.Rows.{Facts, Row, firstOf, addRows, buildRows, searchRows}
-use Rattle.store.specs.declared.Lengths.{Lengths}
 use Rattle.curator.specs.Calls.{hashesOfLabels, splittingOf}
-use Rattle.curator.specs.Arguments.{AddCall, SearchCall}
+use Rattle.curator.specs.Arguments.{AddCall, Question, SearchCall, askingOf}
 use Rattle.curator.specs.Searches.{wantedOf}
-use Rattle.runs.specs.Calls.{Change, add, build, Call, change, search, lentBy}
+use Rattle.runs.specs.Calls.{Change, add, build, Call, change, search}
 
 -- the settings and capacities of an accepted `new`
 pub record Setting : Type 0 where
@@ -85,17 +85,20 @@ unfoldable pub modelNodes : Setting → Model → List Node
 unfolding nodesOf rowVectors rowEntries
 modelNodes s m = nodesOf (splittingOf (s .dimension) (s .params)) (rowVectors m) (rowEntries m)
 
+abbrev pub modelCounts : Setting → Model → Counts
+modelCounts s m = record { vectors = length (m .rows); entries = length (rowHashes m); nodes = nodeCount s m }
+
 -- ---- the calls that change the index
 
--- 'Each call is put to the refusals in their order, without 4 and 15'
-unfoldable pub changeRows : Setting → Model → Lengths → Change → List Row
+-- 'Each call is put to the refusals in their order, without 4 and 15'; of the lists that it is lent the rows look at the lengths
+unfoldable pub changeRows : Setting → Model → Lengths → ℕ → Change → List Row
 unfolding addRows buildRows modelFacts nodeCount
-changeRows s m lent (add call) = addRows (modelFacts s m) lent call
-changeRows s m lent build = buildRows (modelFacts s m) lent false (ltb (s .capacities .nodes) (nodeCount s m))
+changeRows s m lent work (add call) = addRows (modelFacts s m) lent call
+changeRows s m lent work build = buildRows (modelFacts s m) lent work false (ltb (s .capacities .nodes) (nodeCount s m))
 
-unfoldable pub changeCheck : Setting → Model → Lengths → Change → Check
+unfoldable pub changeCheck : Setting → Model → Lengths → ℕ → Change → Check
 unfolding firstOf changeRows
-changeCheck s m lent c = firstOf (changeRows s m lent c)
+changeCheck s m lent work c = firstOf (changeRows s m lent work c)
 
 -- 'document id, normalised vector, each label's hash'
 abbrev pub newRow : AddCall → ModelRow
@@ -125,58 +128,53 @@ noRow = record { document = 0; vector = []; hashes = [] }
 unfoldable pub rowHit : Model → List Float → ℕ → ℕ
 rowHit m query i = hitOf (distance query (getD (m .rows) i noRow .vector)) (getD (m .rows) i noRow .document) i
 
--- what a leaf gives: its vectors, or its entries of the hash
+-- what the rows have of an entry
+abbrev pub rowRead : Model → EntryRead
+rowRead m = record { hash = λ entry. getD (rowEntries m .hashes) entry 0; owner = λ entry. getD (rowEntries m .owners) entry 0 }
+
+-- the two lists of a node
+abbrev pub nodeList : LeafList → Node → List ℕ
+nodeList vector-list node = node .ids
+nodeList entry-list node = node .entries
+
+-- what a leaf gives of the list that is read
 unfoldable pub leafHits : Model → List Float → Wanted → Node → List ℕ
-unfolding rowHit rowEntries keep
-leafHits m query Everything node = map (rowHit m query) (node .ids)
-leafHits m query (Label hash) node =
-    map (λ entry. rowHit m query (getD (rowEntries m .owners) entry 0))
-    (keep (λ entry. eqb (getD (rowEntries m .hashes) entry 0) hash) (node .entries))
+unfolding rowHit rowEntries given
+leafHits m query wanted node = map (rowHit m query) (given wanted (rowRead m) (nodeList (listRead wanted) node))
 
 unfoldable pub nodeGives : Model → List Float → Wanted → Node → List ℕ → Shown
 unfolding leafHits
 nodeGives m query wanted node [] = hits (leafHits m query wanted node)
 nodeGives m query wanted node (child ∷ rest) = children (child ∷ rest)
 
-unfoldable pub nodeDenies : Wanted → Node → Bool
-unfolding mayContain
-nodeDenies Everything node = false
-nodeDenies (Label hash) node = not (mayContain (node .filter) hash)
-
-unfoldable pub mostRows : Model → Wanted → ℕ
-unfolding rowHashes
-mostRows m Everything = length (m .rows)
-mostRows m (Label hash) = length (rowHashes m)
-
 -- the view of the rows' tree
 unfoldable pub treeView : Setting → Model → List Float → Wanted → View
-unfolding modelNodes nodeGives nodeDenies mostRows keyOf
+unfolding modelNodes nodeGives denies rowHashes nodeCount keyOf
 treeView s m query wanted =
     let nodes = modelNodes s m in
     record {
       key = λ i. keyOf (distance query (getD nodes i noNode .centroid));
-      denied = λ i. nodeDenies wanted (getD nodes i noNode);
+      denied = λ i. denies wanted (getD nodes i noNode .filter);
       shows = λ i. nodeGives m query wanted (getD nodes i noNode) (getD nodes i noNode .children);
-      most = mostRows m wanted;
+      most = most wanted (modelCounts s m);
     }
 
 -- the defined search: the walk over the rows' tree from the normalised query
-unfoldable pub modelWalk : Setting → Model → SearchCall → State
+unfoldable pub modelWalk : Setting → Model → Question → State
 unfolding walk treeView normalized wantedOf
-modelWalk s m call = walk (treeView s m (normalized (call .question .query)) (wantedOf (call .question .asked))) (s .params .«ef_search»)
+modelWalk s m question = walk (treeView s m (normalized (question .query)) (wantedOf (question .asked))) (s .params .«ef_search»)
 
 -- ---- every call
 
 -- 'Each call is put to the refusals in their order, without 4 and 15'
-unfoldable pub modelSearchCheck : Setting → Model → Lengths → SearchCall → Check
+unfoldable pub modelSearchCheck : Setting → Model → Lengths → ℕ → SearchCall → Check
 unfolding firstOf searchRows modelFacts
-modelSearchCheck s m lent call =
-    firstOf (searchRows (modelFacts s m) lent (askingOf call))
+modelSearchCheck s m lent work call = firstOf (searchRows (modelFacts s m) lent work (askingOf call))
 
 unfoldable pub modelCheck : Setting → Model → Call → Check
 unfolding changeCheck modelSearchCheck
-modelCheck s m (change fronts work c) = changeCheck s m (lentBy fronts work) c
-modelCheck s m (search fronts work call) = modelSearchCheck s m (lentBy fronts work) call
+modelCheck s m (change fronts work c) = changeCheck s m fronts (length work) c
+modelCheck s m (search fronts work call) = modelSearchCheck s m fronts (length work) call
 
 -- What is expected: a number (a refusal's, or 0 for a change that is carried out), or the answer of a search. The defined walk over the rows' tree is
 -- never damaged; a damaged one would be matched by nothing.
@@ -200,13 +198,13 @@ searchedBy (Refused r) k walked = returns (number r)
 -- what is expected of a call that is put to a model
 unfoldable pub expected : Setting → Model → Call → Expected
 unfolding changeCheck modelSearchCheck modelWalk searchedBy
-expected s m (change fronts work c) = returns (checkNumber (changeCheck s m (lentBy fronts work) c))
-expected s m (search fronts work call) = searchedBy (modelSearchCheck s m (lentBy fronts work) call) (call .k) (modelWalk s m call)
+expected s m (change fronts work c) = returns (checkNumber (changeCheck s m fronts (length work) c))
+expected s m (search fronts work call) = searchedBy (modelSearchCheck s m fronts (length work) call) (call .k) (modelWalk s m (call .question))
 
 -- the model after a call: 'Any other search is answered and writes nothing'
 unfoldable pub after : Setting → Model → Call → Model
 unfolding changeCheck changedBy
-after s m (change fronts work c) = changedBy (changeCheck s m (lentBy fronts work) c) c m
+after s m (change fronts work c) = changedBy (changeCheck s m fronts (length work) c) c m
 after s m (search fronts work call) = m
 
 -- the model after a list of calls

@@ -6,7 +6,9 @@ use mathlib.Core.Logic.{inr}
 use mathlib.Core.List.{List, [], _∷_}
 use mathlib.Core.Path.{_≡_, refl, sym, ap, _∙_, subst}
 use lib.ListN.{length, take}
+use Rattle.store.specs.declared.Lengths.{Lengths}
 use Rattle.store.specs.Store.{Store}
+use Rattle.store.specs.Lent.{lengthsOf, joinStores}
 use Rattle.walk.specs.Walk.{State, Progress, damaged, going}
 use Rattle.walk.specs.Answer.{answer}
 use Rattle.curator.specs.declared.CuratorIndex.{CuratorIndex}
@@ -18,17 +20,20 @@ use Rattle.curator.specs.Outcome.{foundNumber}
 use Rattle.settings.specs.Refusals.{number, checkNumber}
 use Rattle.curator.specs.Rows.{searchRows}
 use Rattle.curator.specs.RowLaws.{number-positive}
-use Rattle.curator.specs.Arguments.{SearchCall}
-use Rattle.runs.specs.Calls.{Fronts, Change, add, build, Call, change, search, lentBy, Typed, TypedCall}
+use Rattle.curator.specs.Arguments.{SearchCall, askingOf}
+use Rattle.curator.specs.Searches.{Searches}
+use Rattle.runs.specs.Calls.{Change, add, build, Call, change, search, Typed, TypedCall}
 use Rattle.runs.specs.Model.{Setting, Model, emptyModel, modelFacts, changeRows, changeCheck, changedBy, modelSearchCheck, modelCheck, modelWalk, returns, searchedBy, answered, expected, after, modelFrom}
-use Rattle.runs.specs.Run.{Ended, changed, found, joinStores, Lent, nextIndex, Changes, ChangeStep, Step, RunFrom, done, next, Run}
+use Rattle.runs.specs.Run.{Ended, changed, found, nextIndex, Changes, ChangeStep, SearchStep, Step, RunFrom, done, next, Run}
 use Rattle.runs.specs.Theorem.{endNumber, Reply, AnsweredWith, replyOf, Matches, AtEach, NeverDamaged}
 use Rattle.runs.specs.State.{Allowed, Within, Small, stateOf, created-is, empty-small}
+use Rattle.runs.specs.Held.{Held}
+use Rattle.runs.specs.Built.{Laid}
 use Rattle.runs.specs.Invariant.{Invariant, begins}
 use Rattle.runs.specs.ChangeLaws.{Other, first-other, ChangeEnds, ChangeLaws}
 use Rattle.runs.specs.Adds.{add-laws}
 use Rattle.runs.specs.Builds.{build-laws}
-use Rattle.runs.specs.Search.{search-step}
+use Rattle.runs.specs.Search.{search-keeps}
 
 -- ---- every change
 
@@ -37,25 +42,50 @@ change-laws (add call) = add-laws call
 change-laws build = build-laws
 
 -- on any index that stands for a model
-pub change-keeps : (s : Setting) → Allowed s → (m : Model) (index : CuratorIndex) (fronts : Fronts) (work work′ : List ℕ) (front rest front′ : Store) (c : Change) (answer : Changed)
-    → Invariant s m index (joinStores front rest) → Lent fronts front → Changes c index front work answer front′ work′
-    → ChangeEnds s m (lentBy fronts work) c answer (nextIndex index answer) (joinStores front′ rest)
-change-keeps s a m index fronts work work′ front rest front′ c answer inv lent by =
+pub change-keeps : (s : Setting) → Allowed s → (m : Model) (index : CuratorIndex) (work work′ : List ℕ) (front rest front′ : Store) (c : Change) (answer : Changed)
+    → Invariant s m index (joinStores front rest) → Changes c index front work answer front′ work′
+    → ChangeEnds s m (lengthsOf front) (length work) c answer (nextIndex index answer) (joinStores front′ rest)
+change-keeps s a m index work work′ front rest front′ c answer inv by =
     let e : index ≡ stateOf s m = inv .state in
-    subst (λ (i : CuratorIndex). ChangeEnds s m (lentBy fronts work) c answer (nextIndex i answer) (joinStores front′ rest)) (sym e)
-    (change-laws c .keeps s a m fronts work work′ front rest front′ answer (subst (λ (i : CuratorIndex). Invariant s m i (joinStores front rest)) e inv) lent
+    subst (λ (i : CuratorIndex). ChangeEnds s m (lengthsOf front) (length work) c answer (nextIndex i answer) (joinStores front′ rest)) (sym e)
+    (change-laws c .keeps s a m work work′ front rest front′ answer (subst (λ (i : CuratorIndex). Invariant s m i (joinStores front rest)) e inv)
     (subst (λ (i : CuratorIndex). Changes c i front work answer front′ work′) e by))
 
 change-step : (s : Setting) → Allowed s → (m : Model) (index : CuratorIndex) (store : Store) → Invariant s m index store
-    → (fronts : Fronts) (work : List ℕ) (c : Change) (end : Ended) (index′ : CuratorIndex) (store′ : Store) → ChangeStep index store fronts work c end index′ store′
-    → Matches (returns (checkNumber (changeCheck s m (lentBy fronts work) c))) (change fronts work c) end
-    × Invariant s (changedBy (changeCheck s m (lentBy fronts work) c) c m) index′ store′
+    → (fronts : Lengths) (work : List ℕ) (c : Change) (end : Ended) (index′ : CuratorIndex) (store′ : Store) → ChangeStep index store fronts work c end index′ store′
+    → Matches (returns (checkNumber (changeCheck s m fronts (length work) c))) (change fronts work c) end
+    × Invariant s (changedBy (changeCheck s m fronts (length work) c) c m) index′ store′
 change-step s a m index store inv fronts work c end index′ store′ st =
-    let k = change-keeps s a m index fronts work (st .work′) (st .front) (st .rest) (st .front′) c (st .answer) (subst (Invariant s m index) (st .whole) inv) (st .lent) (st .changes) in
-    let m′ = changedBy (changeCheck s m (lentBy fronts work) c) c m in (
-      subst (Matches (returns (checkNumber (changeCheck s m (lentBy fronts work) c))) (change fronts work c)) (sym (st .ended)) (k .number-is),
+    let k : ChangeEnds s m fronts (length work) c (st .answer) (nextIndex index (st .answer)) (joinStores (st .front′) (st .rest)) =
+    subst (λ (lent : Lengths). ChangeEnds s m lent (length work) c (st .answer) (nextIndex index (st .answer)) (joinStores (st .front′) (st .rest))) (st .lent)
+    (change-keeps s a m index work (st .work′) (st .front) (st .rest) (st .front′) c (st .answer) (subst (Invariant s m index) (st .whole) inv) (st .changes)) in
+    let check = changeCheck s m fronts (length work) c in
+    let m′ = changedBy check c m in (
+      subst (Matches (returns (checkNumber check)) (change fronts work c)) (sym (st .ended)) (k .number-is),
       subst (λ (i : CuratorIndex). Invariant s m′ i store′) (sym (st .index-next))
           (subst (Invariant s m′ (nextIndex index (st .answer))) (sym (st .store-next)) (k .invariant)),
+    )
+
+-- ---- every search
+
+search-step : (s : Setting) → Allowed s → (m : Model) (index : CuratorIndex) (store : Store) → Invariant s m index store
+    → (fronts : Lengths) (work : List ℕ) (call : SearchCall) (end : Ended) (index′ : CuratorIndex) (store′ : Store)
+    → SearchStep index store fronts work call end index′ store′
+    → Matches (expected s m (search fronts work call)) (search fronts work call) end × Invariant s m index′ store′
+search-step s a m index store inv fronts work call end index′ store′ st =
+    let whole = subst (λ (i : CuratorIndex). Invariant s m i (joinStores (st .front) (st .rest))) (inv .state) (subst (Invariant s m index) (st .whole) inv) in
+    let by : Searches (stateOf s m) (st .front) work call (st .search-end) =
+    subst (λ (i : CuratorIndex). Searches i (st .front) work call (st .search-end)) (inv .state) (st .searches) in
+    let same : joinStores (st .front) (st .rest) ≡ store′ = sym (st .whole) ∙ sym (st .store-next) in (
+      subst (λ (e : Ended). Matches (expected s m (search fronts work call)) (search fronts work call) e) (sym (st .ended))
+          (subst (λ (lent : Lengths). Matches (expected s m (search lent work call)) (search lent work call) (found (st .search-end))) (st .lent)
+          (search-keeps s a m (st .front) (st .rest) whole work call (st .search-end) by)),
+      record {
+        state = st .index-next ∙ inv .state;
+        within = inv .within;
+        held = subst (Held s m) same (whole .held);
+        laid = λ b. subst (Laid s m) same (whole .laid b);
+      },
     )
 
 -- document ids stay u32s
@@ -66,7 +96,7 @@ small-by Check′.Fine c m t h = change-laws c .small m t h
 
 small-after : (s : Setting) (m : Model) (call : Call) → TypedCall call → Small m → Small (after s m call)
 unfolding after
-small-after s m (change fronts work c) t h = small-by (changeCheck s m (lentBy fronts work) c) c m t h
+small-after s m (change fronts work c) t h = small-by (changeCheck s m fronts (length work) c) c m t h
 small-after s m (search fronts work call) t h = h
 
 -- ---- every step
@@ -131,7 +161,7 @@ along-all s Fact m (call ∷ calls) h = (h 0, along-all s Fact (after s m call) 
 
 -- ---- the number is the model's, neither 15 nor 4
 
-search-number : (fronts : Fronts) (work : List ℕ) (call : SearchCall) (end : Ended) (check : Check) (walked : State)
+search-number : (fronts : Lengths) (work : List ℕ) (call : SearchCall) (end : Ended) (check : Check) (walked : State)
     → Matches (searchedBy check (call .k) walked) (search fronts work call) end → endNumber end ≡ checkNumber check
 unfolding searchedBy answered
 search-number fronts work call (changed answer) (Check′.Refused r) walked h = absurd h
@@ -144,13 +174,13 @@ pub numbered : (s : Setting) (m : Model) (call : Call) (end : Ended) → Matches
 unfolding expected modelCheck
 numbered s m (change fronts work c) (changed answer) h = h
 numbered s m (change fronts work c) (found end) h = absurd h
-numbered s m (search fronts work call) end h = search-number fronts work call end (modelSearchCheck s m (lentBy fronts work) call) (modelWalk s m call) h
+numbered s m (search fronts work call) end h = search-number fronts work call end (modelSearchCheck s m fronts (length work) call) (modelWalk s m (call .question)) h
 
 call-other : (s : Setting) (m : Model) (call : Call) → Other (checkNumber (modelCheck s m call))
 unfolding modelCheck searchRows modelFacts
-call-other s m (change fronts work c) = first-other (changeRows s m (lentBy fronts work) c) (change-laws c .others s m (lentBy fronts work))
+call-other s m (change fronts work c) = first-other (changeRows s m fronts (length work) c) (change-laws c .others s m fronts (length work))
 call-other s m (search fronts work call) =
-    first-other (searchRows (modelFacts s m) (lentBy fronts work) (askingOf call))
+    first-other (searchRows (modelFacts s m) fronts (length work) (askingOf call))
     (inr (omega arith), (inr (omega arith), (inr (omega arith), (inr (omega arith), (inr (omega arith), tt)))))
 
 pub never : (s : Setting) (m : Model) (call : Call) (end : Ended) → Matches (expected s m call) call end → NeverDamaged end
@@ -169,26 +199,26 @@ answered-one (found end) reply reply′ h k =
     λ i. record { hits = hits i; opened = opened i; complete = complete i; ids = (sym (h .1) ∙ k .1) i; distances = (sym (h .2) ∙ k .2) i }
 
 -- a refused search is none
-not-refused : (fronts : Fronts) (work : List ℕ) (call : SearchCall) (n : ℕ) (end : Ended) (reply : Reply) → Matches (returns n) (search fronts work call) end
+not-refused : (fronts : Lengths) (work : List ℕ) (call : SearchCall) (n : ℕ) (end : Ended) (reply : Reply) → Matches (returns n) (search fronts work call) end
     → AnsweredWith end reply → 0 ≡ n
 not-refused fronts work call n (changed answer) reply h k = absurd h
 not-refused fronts work call n (found end) reply h k = ap foundNumber (sym (k .0)) ∙ h .0
 
 -- a change is none
-pub not-answered : (fronts : Fronts) (work : List ℕ) (c : Change) (n : ℕ) (end : Ended) (reply : Reply) → Matches (returns n) (change fronts work c) end
+pub not-answered : (fronts : Lengths) (work : List ℕ) (c : Change) (n : ℕ) (end : Ended) (reply : Reply) → Matches (returns n) (change fronts work c) end
     → AnsweredWith end reply → ⊥
 not-answered fronts work c n (changed answer) reply h k = k
 not-answered fronts work c n (found end) reply h k = h
 
 -- the walk that it made of the rows' tree, and what it wrote
-pub record Finds (s : Setting) (m : Model) (fronts : Fronts) (work : List ℕ) (call : SearchCall) (reply : Reply) : Type 0 where
+pub record Finds (s : Setting) (m : Model) (fronts : Lengths) (work : List ℕ) (call : SearchCall) (reply : Reply) : Type 0 where
   pub progress : Progress
-  pub check : modelSearchCheck s m (lentBy fronts work) call ≡ Check′.Fine
-  pub walked : modelWalk s m call ≡ going progress
+  pub check : modelSearchCheck s m fronts (length work) call ≡ Check′.Fine
+  pub walked : modelWalk s m (call .question) ≡ going progress
   pub is : reply ≡ replyOf (answer (call .k) progress) call
 
-finds-by : (s : Setting) (m : Model) (fronts : Fronts) (work : List ℕ) (call : SearchCall) (end : Ended) (reply : Reply) (check : Check) (walked : State)
-    → modelSearchCheck s m (lentBy fronts work) call ≡ check → modelWalk s m call ≡ walked
+finds-by : (s : Setting) (m : Model) (fronts : Lengths) (work : List ℕ) (call : SearchCall) (end : Ended) (reply : Reply) (check : Check) (walked : State)
+    → modelSearchCheck s m fronts (length work) call ≡ check → modelWalk s m (call .question) ≡ walked
     → Matches (searchedBy check (call .k) walked) (search fronts work call) end → AnsweredWith end reply → Finds s m fronts work call reply
 unfolding searchedBy answered
 finds-by s m fronts work call end reply (Check′.Refused r) walked e w h k =
@@ -197,8 +227,8 @@ finds-by s m fronts work call end reply Check′.Fine damaged e w h k = absurd h
 finds-by s m fronts work call end reply Check′.Fine (going p) e w h k =
     record { progress = p; check = e; walked = w; is = answered-one end reply (replyOf (answer (call .k) p) call) k h }
 
-pub answered-finds : (s : Setting) (m : Model) (fronts : Fronts) (work : List ℕ) (call : SearchCall) (end : Ended) (reply : Reply)
+pub answered-finds : (s : Setting) (m : Model) (fronts : Lengths) (work : List ℕ) (call : SearchCall) (end : Ended) (reply : Reply)
     → Matches (expected s m (search fronts work call)) (search fronts work call) end → AnsweredWith end reply → Finds s m fronts work call reply
 unfolding expected
 answered-finds s m fronts work call end reply h k =
-    finds-by s m fronts work call end reply (modelSearchCheck s m (lentBy fronts work) call) (modelWalk s m call) refl refl h k
+    finds-by s m fronts work call end reply (modelSearchCheck s m fronts (length work) call) (modelWalk s m (call .question)) refl refl h k

@@ -14,77 +14,76 @@ use Rattle.distance.specs.DistanceLaws.{distance-fits}
 use Rattle.total_order.specs.TotalOrder.{totalOrder}
 use Rattle.total_order.specs.OrderLaws.{totalOrder-refl, totalOrder-antisym, totalOrder-trans, totalOrder-total}
 use Rattle.vector.specs.Normalized.{normalized}
-use Rattle.curator.specs.Searches.{wantedOf}
-use Rattle.curator.specs.Arguments.{SearchCall}
+use Rattle.curator.specs.Arguments.{Question}
 use Rattle.runs.specs.Model.{Model, ModelRow}
 use Rattle.runs.specs.Theorem.{about, rowDistance, NoLaterRow, InOrder, Reference}
 
 -- ---- a total order of rows
 
-module _ (call : SearchCall) where
-  row-fits : (r : ModelRow) → T (fits binary32 (rowDistance call r))
-  row-fits r = distance-fits (normalized (call .question .query)) (r .vector)
+module _ (question : Question) where
+  row-fits : (r : ModelRow) → T (fits binary32 (rowDistance question r))
+  row-fits r = distance-fits (normalized (question .query)) (r .vector)
 
-  row-trans : (r t u : ModelRow) → NoLaterRow call r t → NoLaterRow call t u → NoLaterRow call r u
+  row-trans : (r t u : ModelRow) → NoLaterRow question r t → NoLaterRow question t u → NoLaterRow question r u
   row-trans r t u h k =
-      let x = rowDistance call r in
-      let y = rowDistance call t in
-      let z = rowDistance call u in (
+      let x = rowDistance question r in
+      let y = rowDistance question t in
+      let z = rowDistance question u in (
         totalOrder-trans x y z (row-fits r) (row-fits t) (row-fits u) (h .0) (k .0),
         λ e.
-            (let back : totalOrder (rowDistance call t) (rowDistance call r) ≡ true = subst (λ (d : Float). totalOrder (rowDistance call t) d ≡ true) (sym e) (k .0) in
-            let same : rowDistance call r ≡ rowDistance call t = totalOrder-antisym x y (row-fits r) (row-fits t) (h .0) back in
+            (let back : totalOrder (rowDistance question t) (rowDistance question r) ≡ true = subst (λ (d : Float). totalOrder (rowDistance question t) d ≡ true) (sym e) (k .0) in
+            let same : rowDistance question r ≡ rowDistance question t = totalOrder-antisym x y (row-fits r) (row-fits t) (h .0) back in
             le-trans (h .1 same) (k .1 (sym same ∙ e))),
       )
 
   -- of two rows one is no later
-  by-tests : (r t : ModelRow) (a b : Bool) → totalOrder (rowDistance call r) (rowDistance call t) ≡ a → totalOrder (rowDistance call t) (rowDistance call r) ≡ b
-      → NoLaterRow call r t ⊎ NoLaterRow call t r
+  by-tests : (r t : ModelRow) (a b : Bool) → totalOrder (rowDistance question r) (rowDistance question t) ≡ a → totalOrder (rowDistance question t) (rowDistance question r) ≡ b
+      → NoLaterRow question r t ⊎ NoLaterRow question t r
   by-tests r t true true p q = either (le-or-lt (r .document) (t .document)) (λ le. inl (p, λ e. le)) (λ lt. inr (q, λ e. le-of-lt lt))
   by-tests r t true false p q =
-      inl (p, λ e. absurd (false≢true (sym q ∙ subst (λ (d : Float). totalOrder d (rowDistance call r) ≡ true) e (totalOrder-refl (rowDistance call r) (row-fits r)))))
+      inl (p, λ e. absurd (false≢true (sym q ∙ subst (λ (d : Float). totalOrder d (rowDistance question r) ≡ true) e (totalOrder-refl (rowDistance question r) (row-fits r)))))
   by-tests r t false true p q =
-      inr (q, λ e. absurd (false≢true (sym p ∙ subst (λ (d : Float). totalOrder d (rowDistance call t) ≡ true) e (totalOrder-refl (rowDistance call t) (row-fits t)))))
+      inr (q, λ e. absurd (false≢true (sym p ∙ subst (λ (d : Float). totalOrder d (rowDistance question t) ≡ true) e (totalOrder-refl (rowDistance question t) (row-fits t)))))
   by-tests r t false false p q =
-      either (totalOrder-total (rowDistance call r) (rowDistance call t) (row-fits r) (row-fits t)) (λ h. absurd (false≢true (sym p ∙ h))) (λ h. absurd (false≢true (sym q ∙ h)))
+      either (totalOrder-total (rowDistance question r) (rowDistance question t) (row-fits r) (row-fits t)) (λ h. absurd (false≢true (sym p ∙ h))) (λ h. absurd (false≢true (sym q ∙ h)))
 
-  row-total : (r t : ModelRow) → NoLaterRow call r t ⊎ NoLaterRow call t r
-  row-total r t = by-tests r t (totalOrder (rowDistance call r) (rowDistance call t)) (totalOrder (rowDistance call t) (rowDistance call r)) refl refl
+  row-total : (r t : ModelRow) → NoLaterRow question r t ⊎ NoLaterRow question t r
+  row-total r t = by-tests r t (totalOrder (rowDistance question r) (rowDistance question t)) (totalOrder (rowDistance question t) (rowDistance question r)) refl refl
 
 -- ---- rows put in order
 
 -- a list with one row more, in its place
-record Placed (call : SearchCall) (r : ModelRow) (rows : List ModelRow) : Type 0 where
+record Placed (question : Question) (r : ModelRow) (rows : List ModelRow) : Type 0 where
   list : List ModelRow
   same : List·Permᴰ (r ∷ rows) list
-  ordered : InOrder call list
+  ordered : InOrder question list
 
-placed : (call : SearchCall) (r x : ModelRow) (rows : List ModelRow) → InOrder call (x ∷ rows) → NoLaterRow call r x ⊎ NoLaterRow call x r → Placed call r rows
-    → Placed call r (x ∷ rows)
-placed call r x rows h (inl le) later =
+placed : (question : Question) (r x : ModelRow) (rows : List ModelRow) → InOrder question (x ∷ rows) → NoLaterRow question r x ⊎ NoLaterRow question x r → Placed question r rows
+    → Placed question r (x ∷ rows)
+placed question r x rows h (inl le) later =
     record {
       list = r ∷ x ∷ rows;
       same = Permᴰ·refl (r ∷ x ∷ rows);
-      ordered = (λ t k. either (List·Memᴰ·cases-cons k) (λ e. subst (NoLaterRow call r) (sym e) le) (λ n. row-trans call r x t le (h .0 t n)), h);
+      ordered = (λ t k. either (List·Memᴰ·cases-cons k) (λ e. subst (NoLaterRow question r) (sym e) le) (λ n. row-trans question r x t le (h .0 t n)), h);
     }
-placed call r x rows h (inr le) later =
+placed question r x rows h (inr le) later =
     record {
       list = x ∷ later .list;
       same = List·Permᴰ·trans (List·Permᴰ·swap refl refl) (List·Permᴰ·cons refl (later .same));
       ordered =
-          (λ t k. either (List·Memᴰ·cases-cons (perm-Memᴰ (Permᴰ·symm (later .same)) k)) (λ e. subst (NoLaterRow call x) (sym e) le) (λ n. h .0 t n), later .ordered);
+          (λ t k. either (List·Memᴰ·cases-cons (perm-Memᴰ (Permᴰ·symm (later .same)) k)) (λ e. subst (NoLaterRow question x) (sym e) le) (λ n. h .0 t n), later .ordered);
     }
 
-place : (call : SearchCall) (r : ModelRow) (rows : List ModelRow) → InOrder call rows → Placed call r rows
-place call r [] h = record { list = r ∷ []; same = Permᴰ·refl (r ∷ []); ordered = (λ t k. absurd (List·Memᴰ·not-nil k), tt) }
-place call r (x ∷ rows) h = placed call r x rows h (row-total call r x) (place call r rows (h .1))
+place : (question : Question) (r : ModelRow) (rows : List ModelRow) → InOrder question rows → Placed question r rows
+place question r [] h = record { list = r ∷ []; same = Permᴰ·refl (r ∷ []); ordered = (λ t k. absurd (List·Memᴰ·not-nil k), tt) }
+place question r (x ∷ rows) h = placed question r x rows h (row-total question r x) (place question r rows (h .1))
 
-sorted : (call : SearchCall) (rows : List ModelRow) → (list : List ModelRow) × List·Permᴰ list rows × InOrder call list
-sorted call [] = ([], List·Permᴰ·nil, tt)
-sorted call (r ∷ rows) =
-    let s = sorted call rows in
-    let p = place call r (s .0) (s .2) in
+sorted : (question : Question) (rows : List ModelRow) → (list : List ModelRow) × List·Permᴰ list rows × InOrder question list
+sorted question [] = ([], List·Permᴰ·nil, tt)
+sorted question (r ∷ rows) =
+    let s = sorted question rows in
+    let p = place question r (s .0) (s .2) in
     (p .list, List·Permᴰ·trans (Permᴰ·symm (p .same)) (List·Permᴰ·cons refl (s .1)), p .ordered)
 
-pub reference-exists : (m : Model) (call : SearchCall) → (reference : List ModelRow) × Reference m call reference
-reference-exists m call = let s = sorted call (about (wantedOf (call .question .asked)) m) in (s .0, record { same = s .1; ordered = s .2 })
+pub reference-exists : (m : Model) (question : Question) → (reference : List ModelRow) × Reference m question reference
+reference-exists m question = let s = sorted question (about question m) in (s .0, record { same = s .1; ordered = s .2 })

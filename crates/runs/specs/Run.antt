@@ -1,16 +1,17 @@
 -- Document 01, 'Runs': how a call ends, and runs.
 use Prim.Native.Nat.{ℕ}
-use mathlib.Core.List.{List, [], _∷_, _++_}
+use mathlib.Core.List.{List, [], _∷_}
 use mathlib.Core.Path.{_≡_}
-use lib.ListN.{length}
 use Rattle.store.specs.Store.{Store}
+use Rattle.store.specs.declared.Lengths.{Lengths}
+use Rattle.store.specs.Lent.{lengthsOf, joinStores}
 use Rattle.curator.specs.declared.CuratorIndex.{CuratorIndex}
 use Rattle.curator.specs.declared.Changed.{Changed}
 use Rattle.curator.specs.declared.Changed.the-variants.{Index, Refused}
 use Rattle.curator.specs.Changes.{created, Adds, Builds}
 use Rattle.curator.specs.Searches.{SearchEnd, Searches}
 use Rattle.curator.specs.Arguments.{SearchCall}
-use Rattle.runs.specs.Calls.{Fronts, Change, add, build, Call, change, search, Typed}
+use Rattle.runs.specs.Calls.{Change, add, build, Call, change, search, Typed}
 use Rattle.runs.specs.Model.{Setting}
 
 -- what a call ended with: the answer; a search also with its answer lists
@@ -18,20 +19,9 @@ pub data Ended : Type 0 where
   changed : Changed → Ended
   found : SearchEnd → Ended
 
--- two stores one behind the other, list by list
-abbrev pub joinStores : Store → Store → Store
-joinStores front rest =
-    record {
-      floats = front .floats ++ rest .floats;
-      numbers = front .numbers ++ rest .numbers;
-      hashes = front .hashes ++ rest .hashes;
-    }
-
 -- a front has the lengths that a call is lent
-pub record Lent (fronts : Fronts) (front : Store) : Type 0 where
-  pub floats : length (front .floats) ≡ fronts .floats
-  pub numbers : length (front .numbers) ≡ fronts .numbers
-  pub hashes : length (front .hashes) ≡ fronts .hashes
+abbrev pub Lent : Lengths → Store → Type 0
+Lent fronts front = lengthsOf front ≡ fronts
 
 -- 'the state last returned': a refused call returns none
 unfoldable pub nextIndex : CuratorIndex → Changed → CuratorIndex
@@ -45,7 +35,7 @@ Changes build index store work answer store′ work′ = Builds index store work
 
 -- One call on an index and its lists: each list is a front, which is lent, and a rest, which 'stays as it was'; the step is the entry point's own
 -- relation on the fronts.
-pub record ChangeStep (index : CuratorIndex) (store : Store) (fronts : Fronts) (work : List ℕ) (c : Change) (end : Ended) (index′ : CuratorIndex) (store′ : Store) : Type 0 where
+pub record ChangeStep (index : CuratorIndex) (store : Store) (fronts : Lengths) (work : List ℕ) (c : Change) (end : Ended) (index′ : CuratorIndex) (store′ : Store) : Type 0 where
   pub front : Store
   pub rest : Store
   pub front′ : Store
@@ -60,7 +50,7 @@ pub record ChangeStep (index : CuratorIndex) (store : Store) (fronts : Fronts) (
   pub index-next : index′ ≡ nextIndex index answer
   pub store-next : store′ ≡ joinStores front′ rest
 
-pub record SearchStep (index : CuratorIndex) (store : Store) (fronts : Fronts) (work : List ℕ) (call : SearchCall) (end : Ended) (index′ : CuratorIndex) (store′ : Store) : Type 0 where
+pub record SearchStep (index : CuratorIndex) (store : Store) (fronts : Lengths) (work : List ℕ) (call : SearchCall) (end : Ended) (index′ : CuratorIndex) (store′ : Store) : Type 0 where
   pub front : Store
   pub rest : Store
   pub search-end : SearchEnd

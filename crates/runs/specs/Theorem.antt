@@ -20,7 +20,7 @@ use Rattle.curator.specs.declared.Found.the-variants.{Hits}
 use Rattle.curator.specs.Outcome.{changedNumber, foundNumber}
 use Rattle.settings.specs.Refusals.{checkNumber}
 use Rattle.curator.specs.Searches.{SearchEnd, wantedOf}
-use Rattle.curator.specs.Arguments.{SearchCall}
+use Rattle.curator.specs.Arguments.{Question, SearchCall}
 use Rattle.runs.specs.Calls.{Call, change, search, AllAlike}
 use Rattle.runs.specs.Model.{Setting, Model, ModelRow, emptyModel, nodeCount, modelCheck, Expected, returns, answers, nothing, expected, after, modelFrom}
 use Rattle.runs.specs.Run.{Ended, changed, found, Run}
@@ -120,26 +120,27 @@ unfolding hasLabel
 carries Everything r = true
 carries (Label hash) r = hasLabel hash (r .hashes)
 
-unfoldable pub about : Wanted → Model → List ModelRow
-unfolding keep carries
-about wanted m = keep (carries wanted) (m .rows)
+unfoldable pub about : Question → Model → List ModelRow
+unfolding keep carries wantedOf
+about question m = keep (carries (wantedOf (question .asked))) (m .rows)
 
 -- 'Distances are from the normalised query to the lines' vectors and rank in total order.'
-abbrev pub rowDistance : SearchCall → ModelRow → Float
-rowDistance call r = distance (normalized (call .question .query)) (r .vector)
+abbrev pub rowDistance : Question → ModelRow → Float
+rowDistance question r = distance (normalized (question .query)) (r .vector)
 
 -- by distance in total order, then by document id
-abbrev pub NoLaterRow : SearchCall → ModelRow → ModelRow → Type 0
-NoLaterRow call r t = (totalOrder (rowDistance call r) (rowDistance call t) ≡ true) × (rowDistance call r ≡ rowDistance call t → r .document ≤ t .document)
+abbrev pub NoLaterRow : Question → ModelRow → ModelRow → Type 0
+NoLaterRow question r t =
+    (totalOrder (rowDistance question r) (rowDistance question t) ≡ true) × (rowDistance question r ≡ rowDistance question t → r .document ≤ t .document)
 
-abbrev pub InOrder : SearchCall → List ModelRow → Type 0
-InOrder call [] = Unit {0}
-InOrder call (r ∷ rows) = ((t : ModelRow) → List·Memᴰ t rows → NoLaterRow call r t) × InOrder call rows
+abbrev pub InOrder : Question → List ModelRow → Type 0
+InOrder question [] = Unit {0}
+InOrder question (r ∷ rows) = ((t : ModelRow) → List·Memᴰ t rows → NoLaterRow question r t) × InOrder question rows
 
 -- A reference list: the rows that the search is about, in order. One exists (Reference.antt), and any will do.
-pub record Reference (m : Model) (call : SearchCall) (reference : List ModelRow) : Type 0 where
-  pub same : List·Permᴰ reference (about (wantedOf (call .question .asked)) m)
-  pub ordered : InOrder call reference
+pub record Reference (m : Model) (question : Question) (reference : List ModelRow) : Type 0 where
+  pub same : List·Permᴰ reference (about question m)
+  pub ordered : InOrder question reference
 
 -- ---- the parts of the claim about one call
 
@@ -158,16 +159,17 @@ abbrev pub Better : Ended → Ended → Type 0
 Better end end′ = (reply reply′ : Reply) → AnsweredWith end reply → AnsweredWith end′ reply′ → NotWorse reply reply′
 
 -- (b) an answer equals, in hit count, ids and distances, the first k of a reference list
-pub record FirstOf (call : SearchCall) (reference : List ModelRow) (reply : Reply) : Type 0 where
-  pub count : reply .hits ≡ length (take (call .k) reference)
-  pub ids : take (reply .hits) (reply .ids) ≡ map (λ r. r .document) (take (call .k) reference)
-  pub distances : take (reply .hits) (reply .distances) ≡ map (rowDistance call) (take (call .k) reference)
+pub record FirstOf (question : Question) (k : ℕ) (reference : List ModelRow) (reply : Reply) : Type 0 where
+  pub count : reply .hits ≡ length (take k reference)
+  pub ids : take (reply .hits) (reply .ids) ≡ map (λ r. r .document) (take k reference)
+  pub distances : take (reply .hits) (reply .distances) ≡ map (rowDistance question) (take k reference)
 
 -- an answer marked whole equals the first k of every reference list
 abbrev pub WholeIsFirst : Model → Call → Ended → Type 0
 WholeIsFirst m (change fronts work c) end = Unit {0}
 WholeIsFirst m (search fronts work call) end =
-    (reply : Reply) → AnsweredWith end reply → reply .complete ≡ true → (reference : List ModelRow) → Reference m call reference → FirstOf call reference reply
+    (reply : Reply) → AnsweredWith end reply → reply .complete ≡ true → (reference : List ModelRow) → Reference m (call .question) reference
+    → FirstOf (call .question) (call .k) reference reply
 
 -- `ef_search` at or above the model's node count gives every answered search the mark
 abbrev pub Marked : Setting → Model → Ended → Type 0

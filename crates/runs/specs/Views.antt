@@ -1,23 +1,24 @@
 -- The store's view and the view of the rows' tree are the same at every node number: a node's six numbers, blocks, filter and centroid are read back
 -- from the layout, and its hits from what is held. So both walks are one, and nothing that a run has built shows damage.
-use Prim.Native.Nat.{ℕ, zero, suc, _+_, _*_, _^_, _≤_, _<_}
+use Prim.Native.Nat.{ℕ, zero, suc, _+_, _-_, _*_, _^_, _≤_, _<_}
 use native.Mathlib.Nat.{mul-comm, add-mul, mul-le-mul-right, suc-mul, zero-add}
 use native.Mathlib.Omega.{arith}
-use mathlib.Core.Bool.{Bool, true, not, _&&_, cond}
+use mathlib.Core.Bool.{Bool, true, _&&_, cond}
 use mathlib.Core.List.{List, [], _∷_, map, List·Memᴰ}
 use mathlib.Core.Path.{_≡_, refl, sym, ap, ap₂, _∙_, subst}
 use borrow.Author.Tests.{le-leb, lt-ltb, eq-eqb, ne-eqb}
 use lib.Dec.{ltb, eqb}
 use lib.Ieee.{Float}
 use lib.ListN.{length, getD}
+use Rattle.lists.specs.Lists.{part, joined, countFrom}
 use Rattle.lists.specs.Maps.{map-on, getD-map}
-use Rattle.lists.specs.Lists.{part, joined, keep, countFrom}
-use Rattle.lists.specs.Counting.{getD-Memᴰ, keep-congr, Memᴰ-keep, getD-countFrom, length-countFrom}
+use Rattle.lists.specs.Tests.{chosen, allPass, all-pass}
+use Rattle.lists.specs.Counting.{getD-Memᴰ, getD-countFrom, length-countFrom}
 use Rattle.lists.specs.Parts.{getD-part, part-part}
 use Rattle.distance.specs.Distance.{distance}
 use Rattle.total_order.specs.TotalOrder.{keyOf}
-use Rattle.label.specs.Filter.{mayContain}
-use Rattle.store.specs.Store.{Store, vectorAt, orderAt, nodesAt, linksAt, entryOrderAt, filtersAt}
+use Rattle.store.specs.declared.Shape.{Shape}
+use Rattle.store.specs.Store.{Store, vectorAt, nodesAt, linksAt, filtersAt}
 use Rattle.tree.specs.Tree.{treeOf}
 use Rattle.tree.specs.Nodes.{Node, nodesOf, entriesOf}
 use Rattle.tree.specs.Layout.{startOf, sixFrom}
@@ -25,33 +26,24 @@ use Rattle.tree.specs.NodeLaws.{length-ids, length-entries, id-below, entry-bel
 use Rattle.tree.specs.Subtrees.{node-entries, node-children}
 use Rattle.tree.specs.LayoutLaws.{blockAt, row-read, start-read, start-end, six-getD, sixOf, length-sixFrom, length-blocks}
 use Rattle.walk.specs.declared.Wanted.{Wanted}
-use Rattle.walk.specs.declared.Wanted.the-variants.{Everything, Label}
-use Rattle.store.specs.declared.Counts.{Counts}
 use Rattle.walk.specs.Walk.{Shown, children, hits, damage, shown, walk}
 use Rattle.walk.specs.WalkLaws.{same-below}
 use Rattle.walk.specs.Answer.{hitOf}
-use Rattle.walk.specs.StoreView.{blockHeld, nodeField, ownerOf, hitAt, childrenShown, vectorsShown, entriesShown, leafShown, nodeShown, nodeDenied, mostHits, storeView}
-use Rattle.lists.specs.Tests.{allPass}
+use Rattle.walk.specs.Wanted.{LeafList, vector-list, entry-list, denies, listRead, passes, given, heldIn}
+use Rattle.walk.specs.WantedLaws.{SameNumber, numbers-same, passes-same, given-same, given-read}
+use Rattle.walk.specs.StoreView.{blockHeld, hitAt, fieldOf, partOf, nodeField, entryRead, childrenShown, listShown, leafShown, nodeShown, storeView}
 use Rattle.walk.specs.StoreViewLaws.{store-shown, store-children-below}
 use Rattle.curator.specs.Calls.{splittingOf}
-use Rattle.runs.specs.Model.{Setting, Model, noRow, noNode, rowHashes, rowVectors, rowEntries, nodeCount, modelNodes, settingShape, rowHit, leafHits, nodeGives, nodeDenies, mostRows, treeView}
-use Rattle.runs.specs.ListLaws.{all-pass}
+use Rattle.runs.specs.Model.{Setting, Model, noRow, noNode, rowHashes, rowVectors, rowEntries, nodeCount, modelNodes, modelCounts, settingShape, rowHit, rowRead, nodeList, leafHits, nodeGives, treeView}
 use Rattle.runs.specs.State.{Allowed, Within, limits, some-nodes}
 use Rattle.runs.specs.Held.{Held, owner-below, owners-length, length-vectors}
-use Rattle.runs.specs.Built.{Laid, NodeFacts}
-
--- the counts of a built model
-abbrev pub builtCounts : Setting → Model → Counts
-builtCounts s m = record { vectors = length (m .rows); entries = length (rowHashes m); nodes = nodeCount s m }
+use Rattle.runs.specs.Built.{StandsAt, Laid, NodeFacts}
+use Rattle.runs.specs.WantedLaws.{held-passes}
 
 block-held : (start count held : ℕ) → start + count ≤ held → blockHeld start count held ≡ true
 unfolding blockHeld
 block-held start zero held h = refl
 block-held start (suc count) held h = le-leb (start + suc count) held h
-
--- a choice whose test passes
-chosen : {A : Type 0} (b : Bool) (x y : A) → b ≡ true → cond b x y ≡ x
-chosen {A} b x y e = ap (λ (c : Bool). cond c x y) e
 
 -- the tree's view, case by case
 pub gives-none : (m : Model) (query : List Float) (wanted : Wanted) (node : Node) → nodeGives m query wanted node [] ≡ hits (leafHits m query wanted node)
@@ -65,13 +57,16 @@ gives-some m query wanted node c cs = refl
 
 pub tree-shown : (s : Setting) (m : Model) (query : List Float) (wanted : Wanted) (i : ℕ)
     → shown (treeView s m query wanted) i
-    ≡ cond (nodeDenies wanted (getD (modelNodes s m) i noNode)) (hits [])
+    ≡ cond (denies wanted (getD (modelNodes s m) i noNode .filter)) (hits [])
     (nodeGives m query wanted (getD (modelNodes s m) i noNode) (getD (modelNodes s m) i noNode .children))
 unfolding shown treeView
 tree-shown s m query wanted i = refl
 
 module _ (s : Setting) (m : Model) (store : Store) (a : Allowed s) (w : Within s m) (facts : NodeFacts s m) (held : Held s m store)
     (laid : Laid s m store) where
+  abbrev shape : Shape
+  shape = settingShape s
+
   -- ---- what is held, by number
 
   vector-at : (i : ℕ) → i < length (m .rows) → vectorAt (s .dimension) (store .floats) i ≡ getD (m .rows) i noRow .vector
@@ -100,8 +95,8 @@ module _ (s : Setting) (m : Model) (store : Store) (a : Allowed s) (w : Within s
       ap (λ (k : ℕ). getD (store .hashes) k 0) (sym (zero-add e)) ∙ sym (getD-part 0 (length (rowHashes m)) (store .hashes) e 0 h)
       ∙ ap (λ (l : List ℕ). getD l e 0) (held .hashes)
 
-  hit-at : (query : List Float) (i : ℕ) → i < length (m .rows) → hitAt (settingShape s) (builtCounts s m) store query i ≡ rowHit m query i
-  unfolding hitAt rowHit
+  hit-at : (query : List Float) (i : ℕ) → i < length (m .rows) → hitAt shape (store .floats) (store .numbers) query i ≡ rowHit m query i
+  unfolding rowHit
   hit-at query i h = ap₂ (λ (v : List Float) (d : ℕ). hitOf (distance query v) d i) (vector-at i h) (document-at i h)
 
   -- ---- what is laid out, by node number
@@ -110,11 +105,11 @@ module _ (s : Setting) (m : Model) (store : Store) (a : Allowed s) (w : Within s
   nodeAt i = getD (modelNodes s m) i noNode
 
   field-at : (i field : ℕ) → i < length (modelNodes s m) → field < 6
-      → nodeField (settingShape s) (builtCounts s m) store i field
+      → nodeField shape (modelCounts s m) store i field
       ≡ getD (sixOf (blockAt (λ node. node .children) (modelNodes s m) i) (blockAt (λ node. node .ids) (modelNodes s m) i) (blockAt (λ node. node .entries) (modelNodes s m) i) (nodeAt i)) field 0
   field-at i field h g =
       let N = modelNodes s m in
-      let at = nodesAt (settingShape s) in
+      let at = nodesAt shape in
       let n = length-sixFrom 0 0 0 N in
       let e : at + i * 6 + field ≡ at + (i * 6 + field) = omega arith in
       ap (λ (k : ℕ). getD (store .numbers) k 0) e
@@ -146,11 +141,11 @@ module _ (s : Setting) (m : Model) (store : Store) (a : Allowed s) (w : Within s
       ∙ ap (λ (l : List Float). part (i * d) d l) (laid .centroids)
       ∙ row-read (λ node. node .centroid) d N i noNode (facts .wide) h
 
-  filter-at : (i : ℕ) → i < length (modelNodes s m) → part (filtersAt (settingShape s) + i * 4) 4 (store .hashes) ≡ nodeAt i .filter
+  filter-at : (i : ℕ) → i < length (modelNodes s m) → part (filtersAt shape + i * 4) 4 (store .hashes) ≡ nodeAt i .filter
   filter-at i h =
       let N = modelNodes s m in
       let e = length-blocks (λ node. node .filter) 4 N (facts .four) in
-      sym (part-part (filtersAt (settingShape s)) (length (joined (λ node. node .filter) N)) (i * 4) 4 (store .hashes) (omega arith))
+      sym (part-part (filtersAt shape) (length (joined (λ node. node .filter) N)) (i * 4) 4 (store .hashes) (omega arith))
       ∙ ap (λ (l : List ℕ). part (i * 4) 4 l) (laid .filters)
       ∙ row-read (λ node. node .filter) 4 N i noNode (facts .four) h
 
@@ -188,74 +183,74 @@ module _ (s : Setting) (m : Model) (store : Store) (a : Allowed s) (w : Within s
       (λ k b. subst (λ (n : ℕ). getD (rowEntries m .owners) k 0 < n) (sym (length-vectors m)) (owner-below m k b))
       ∙ owners-length m
 
-  vectors-shown : (query : List Float) (ids : List ℕ) → ((x : ℕ) → List·Memᴰ x ids → x < length (m .rows))
-      → vectorsShown (settingShape s) (builtCounts s m) store query ids ≡ hits (map (rowHit m query) ids)
-  unfolding vectorsShown
-  vectors-shown query ids below =
-      let sh = settingShape s in
-      let c = builtCounts s m in
-      chosen (allPass (λ vector. ltb vector (length (m .rows))) ids) (hits (map (hitAt sh c store query) ids)) damage
-      (all-pass (λ vector. ltb vector (length (m .rows))) ids (λ x k. lt-ltb x (length (m .rows)) (below x k)))
-      ∙ ap hits (map-on (hitAt sh c store query) (rowHit m query) ids (λ x k. hit-at query x (below x k)))
-
   owned : (x : ℕ) → x < length (rowHashes m) → getD (rowEntries m .owners) x 0 < length (m .rows)
   owned x h = owner-below m x (subst (λ (n : ℕ). x < n) (sym (owners-length m)) h)
 
-  entries-shown : (query : List Float) (hash : ℕ) (entries : List ℕ) → ((x : ℕ) → List·Memᴰ x entries → x < length (rowHashes m))
-      → entriesShown (settingShape s) (builtCounts s m) store query hash entries
-      ≡ hits (map (λ entry. rowHit m query (getD (rowEntries m .owners) entry 0)) (keep (λ entry. eqb (getD (rowEntries m .hashes) entry 0) hash) entries))
-  unfolding entriesShown
-  entries-shown query hash entries below =
-      let sh = settingShape s in
-      let c = builtCounts s m in
-      let E = length (rowHashes m) in
-      let n = length (m .rows) in
-      let owner : ℕ → ℕ = ownerOf sh c store in
-      let test : ℕ → Bool = λ entry. ltb entry E && ltb (ownerOf sh c store entry) n in
-      let has : ℕ → Bool = λ entry. eqb (getD (store .hashes) entry 0) hash in
-      let has′ : ℕ → Bool = λ entry. eqb (getD (rowEntries m .hashes) entry 0) hash in
-      chosen (allPass test entries) (hits (map (λ entry. hitAt sh c store query (owner entry)) (keep has entries))) damage
-      (all-pass test entries
-      (λ x k. ap₂ _&&_ (lt-ltb x E (below x k)) (lt-ltb (owner x) n (subst (λ (o : ℕ). o < n) (sym (owner-at x (below x k))) (owned x (below x k))))))
+  -- a list of which all is held gives the same hits
+  list-shown : (query : List Float) (wanted : Wanted) (l : List ℕ) → ((x : ℕ) → List·Memᴰ x l → x < heldIn (listRead wanted) (modelCounts s m))
+      → listShown shape (modelCounts s m) store query wanted l ≡ hits (map (rowHit m query) (given wanted (rowRead m) l))
+  unfolding listShown
+  list-shown query wanted l below =
+      let c = modelCounts s m in
+      let held-by = entryRead shape (modelCounts s m) store in
+      let hit = hitAt shape (store .floats) (store .numbers) query in
+      let Same : ℕ → Type 0 = λ v. hitAt shape (store .floats) (store .numbers) query v ≡ rowHit m query v in
+      let same : (x : ℕ) → List·Memᴰ x l → SameNumber wanted (modelCounts s m) held-by (rowRead m) Same x =
+      λ x k. numbers-same c held-by (rowRead m) Same wanted owner-at hash-at (hit-at query) x in
+      let pass : allPass (passes wanted (modelCounts s m) held-by) l ≡ true =
+      passes-same c held-by (rowRead m) Same wanted l same ∙ held-passes wanted c (rowRead m) l below owned in
+      chosen (allPass (passes wanted c held-by) l) (hits (map hit (given wanted held-by l))) damage pass
       ∙ ap hits
-      (ap (map (λ entry. hitAt sh c store query (owner entry))) (keep-congr has has′ entries (λ x k. ap (λ (h : ℕ). eqb h hash) (hash-at x (below x k))))
-      ∙ map-on (λ entry. hitAt sh c store query (owner entry)) (λ entry. rowHit m query (getD (rowEntries m .owners) entry 0)) (keep has′ entries)
-      (λ x k. let b = below x (Memᴰ-keep has′ x entries k .1) in
-      ap (hitAt sh c store query) (owner-at x b) ∙ hit-at query (getD (rowEntries m .owners) x 0) (owned x b)))
+      (map-on hit (rowHit m query) (given wanted held-by l) (given-read c held-by (rowRead m) Same wanted l same pass)
+      ∙ ap (map (rowHit m query)) (given-same c held-by (rowRead m) Same wanted l same pass))
+
+  -- ---- the lists of a node
+
+  -- their numbers are held, all of them together are as many as are held, and where they stand
+  list-below : (list : LeafList) (i x : ℕ) → i < length (modelNodes s m) → List·Memᴰ x (nodeList list (nodeAt i)) → x < heldIn list (modelCounts s m)
+  list-below vector-list i x h k = ids-below i x h k
+  list-below entry-list i x h k = entries-below i x h k
+
+  list-held : (list : LeafList) → length (joined (nodeList list) (modelNodes s m)) ≡ heldIn list (modelCounts s m)
+  list-held vector-list = ids-held
+  list-held entry-list = entries-held
+
+  list-stands : (list : LeafList) → StandsAt (partOf shape list) (joined (nodeList list) (modelNodes s m)) (store .numbers)
+  list-stands vector-list = laid .order
+  list-stands entry-list = laid .entries
+
+  list-start : (list : LeafList) (i : ℕ) → i < length (modelNodes s m)
+      → nodeField shape (modelCounts s m) store i (fieldOf list) ≡ startOf (blockAt (nodeList list) (modelNodes s m) i) (nodeList list (nodeAt i))
+  unfolding sixOf
+  list-start vector-list i h = field-at i 2 h (omega arith)
+  list-start entry-list i h = field-at i 4 h (omega arith)
+
+  list-count : (list : LeafList) (i : ℕ) → i < length (modelNodes s m)
+      → nodeField shape (modelCounts s m) store i (fieldOf list + 1) ≡ length (nodeList list (nodeAt i))
+  unfolding sixOf
+  list-count vector-list i h = field-at i 3 h (omega arith)
+  list-count entry-list i h = field-at i 5 h (omega arith)
 
   leaf-shown : (query : List Float) (wanted : Wanted) (i : ℕ) → i < length (modelNodes s m)
-      → leafShown (settingShape s) (builtCounts s m) store query wanted i ≡ hits (leafHits m query wanted (nodeAt i))
-  unfolding leafShown leafHits sixOf
-  leaf-shown query Everything i h =
+      → leafShown shape (modelCounts s m) store query wanted i ≡ hits (leafHits m query wanted (nodeAt i))
+  unfolding leafShown leafHits
+  leaf-shown query wanted i h =
       let N = modelNodes s m in
-      let sh = settingShape s in
-      let c = builtCounts s m in
-      let ids = nodeAt i .ids in
-      let start = field-at i 2 h (omega arith) in
-      let count = field-at i 3 h (omega arith) in
-      let at = startOf (blockAt (λ node. node .ids) N i) ids in
-      ap₂ (λ (f g : ℕ). cond (blockHeld f g (length (m .rows))) (vectorsShown sh c store query (part (orderAt sh + f) g (store .numbers))) damage) start count
-      ∙ chosen (blockHeld at (length ids) (length (m .rows))) (vectorsShown sh c store query (part (orderAt sh + at) (length ids) (store .numbers))) damage
-      (block-held at (length ids) (length (m .rows)) (subst (λ (n : ℕ). at + length ids ≤ n) ids-held (start-end (λ node. node .ids) N i noNode h)))
-      ∙ ap (vectorsShown sh c store query) (block-at (λ node. node .ids) (orderAt sh) i (laid .order) h)
-      ∙ vectors-shown query ids (λ x k. ids-below i x h k)
-  leaf-shown query (Label hash) i h =
-      let N = modelNodes s m in
-      let sh = settingShape s in
-      let c = builtCounts s m in
-      let entries = nodeAt i .entries in
-      let start = field-at i 4 h (omega arith) in
-      let count = field-at i 5 h (omega arith) in
-      let at = startOf (blockAt (λ node. node .entries) N i) entries in
-      ap₂ (λ (f g : ℕ). cond (blockHeld f g (length (rowHashes m))) (entriesShown sh c store query hash (part (entryOrderAt sh + f) g (store .numbers))) damage) start count
-      ∙ chosen (blockHeld at (length entries) (length (rowHashes m))) (entriesShown sh c store query hash (part (entryOrderAt sh + at) (length entries) (store .numbers))) damage
-      (block-held at (length entries) (length (rowHashes m)) (subst (λ (n : ℕ). at + length entries ≤ n) entries-held (start-end (λ node. node .entries) N i noNode h)))
-      ∙ ap (entriesShown sh c store query hash) (block-at (λ node. node .entries) (entryOrderAt sh) i (laid .entries) h)
-      ∙ entries-shown query hash entries (λ x k. entries-below i x h k)
+      let list = listRead wanted in
+      let l = nodeList (listRead wanted) (nodeAt i) in
+      let at = startOf (blockAt (nodeList list) N i) l in
+      let held = heldIn list (modelCounts s m) in
+      let shows = listShown shape (modelCounts s m) store query wanted in
+      ap₂ (λ (f g : ℕ). cond (blockHeld f g held) (shows (part (partOf shape list + f) g (store .numbers))) damage) (list-start list i h) (list-count list i h)
+      ∙ chosen (blockHeld at (length l) held) (shows (part (partOf shape list + at) (length l) (store .numbers))) damage
+      (block-held at (length l) held (subst (λ (n : ℕ). at + length l ≤ n) (list-held list) (start-end (nodeList list) N i noNode h)))
+      ∙ ap shows (block-at (nodeList list) (partOf shape list) i (list-stands list) h)
+      ∙ list-shown query wanted l (λ x k. list-below list i x h k)
 
-  -- the links of all nodes are at most the nodes
+  -- ---- the children of a node
+
   children-shown : (i : ℕ) → i < nodeCount s m
-      → childrenShown (settingShape s) (builtCounts s m) store i (nodeAt i .children) ≡ children (nodeAt i .children)
+      → childrenShown shape (modelCounts s m) store i (nodeAt i .children) ≡ children (nodeAt i .children)
   unfolding childrenShown
   children-shown i h =
       let cs = nodeAt i .children in
@@ -264,25 +259,26 @@ module _ (s : Setting) (m : Model) (store : Store) (a : Allowed s) (w : Within s
       (all-pass (λ child. ltb i child && ltb child n) cs
       (λ x k. let b = children-between i x h k in ap₂ _&&_ (lt-ltb i x (b .0)) (lt-ltb x n (b .1))))
 
-  links-held : length (joined (λ node. node .children) (modelNodes s m)) ≤ nodeCount s m
+  -- child links held: one for each node but the root
+  links-held : length (joined (λ node. node .children) (modelNodes s m)) ≡ nodeCount s m - 1
   unfolding modelNodes nodeCount
-  links-held = let c = length-links (splittingOf (s .dimension) (s .params)) (rowVectors m) (rowEntries m) in omega arith
+  links-held = length-links (splittingOf (s .dimension) (s .params)) (rowVectors m) (rowEntries m)
 
   -- what a node shows by its start and count of children
   byFields : List Float → Wanted → ℕ → ℕ → ℕ → Shown
   byFields query wanted i start count =
-      cond (eqb count 0) (leafShown (settingShape s) (builtCounts s m) store query wanted i)
+      cond (eqb count 0) (leafShown shape (modelCounts s m) store query wanted i)
       (cond (blockHeld start count (nodeCount s m))
-      (childrenShown (settingShape s) (builtCounts s m) store i (part (linksAt (settingShape s) + start) count (store .numbers))) damage)
+      (childrenShown shape (modelCounts s m) store i (part (linksAt shape + start) count (store .numbers))) damage)
 
   by-fields : (query : List Float) (wanted : Wanted) (i : ℕ)
-      → nodeShown (settingShape s) (builtCounts s m) store query wanted i
-      ≡ byFields query wanted i (nodeField (settingShape s) (builtCounts s m) store i 0) (nodeField (settingShape s) (builtCounts s m) store i 1)
+      → nodeShown shape (modelCounts s m) store query wanted i
+      ≡ byFields query wanted i (nodeField shape (modelCounts s m) store i 0) (nodeField shape (modelCounts s m) store i 1)
   unfolding nodeShown byFields
   by-fields query wanted i = refl
 
   fields : (query : List Float) (wanted : Wanted) (i : ℕ) → i < length (modelNodes s m)
-      → nodeShown (settingShape s) (builtCounts s m) store query wanted i
+      → nodeShown shape (modelCounts s m) store query wanted i
       ≡ byFields query wanted i (startOf (blockAt (λ node. node .children) (modelNodes s m) i) (nodeAt i .children)) (length (nodeAt i .children))
   unfolding sixOf
   fields query wanted i h = by-fields query wanted i ∙ ap₂ (byFields query wanted i) (field-at i 0 h (omega arith)) (field-at i 1 h (omega arith))
@@ -296,11 +292,11 @@ module _ (s : Setting) (m : Model) (store : Store) (a : Allowed s) (w : Within s
       let ks = nodeAt i .children in
       let at = startOf (blockAt (λ node. node .children) N i) ks in
       let long : length ks ≡ suc (length cs) = ap length e in
-      let inner = cond (blockHeld at (length ks) (nodeCount s m)) (childrenShown sh (builtCounts s m) store i (part (linksAt sh + at) (length ks) (store .numbers))) damage in
-      ap (λ (b : Bool). cond b (leafShown sh (builtCounts s m) store query wanted i) inner) (ne-eqb (length ks) 0 (λ z. omega arith))
-      ∙ chosen (blockHeld at (length ks) (nodeCount s m)) (childrenShown sh (builtCounts s m) store i (part (linksAt sh + at) (length ks) (store .numbers))) damage
+      let inner = cond (blockHeld at (length ks) (nodeCount s m)) (childrenShown sh (modelCounts s m) store i (part (linksAt sh + at) (length ks) (store .numbers))) damage in
+      ap (λ (b : Bool). cond b (leafShown sh (modelCounts s m) store query wanted i) inner) (ne-eqb (length ks) 0 (λ z. omega arith))
+      ∙ chosen (blockHeld at (length ks) (nodeCount s m)) (childrenShown sh (modelCounts s m) store i (part (linksAt sh + at) (length ks) (store .numbers))) damage
       (block-held at (length ks) (nodeCount s m) (let t = start-end (λ node. node .children) N i noNode h in omega (arith, t, links-held)))
-      ∙ ap (childrenShown sh (builtCounts s m) store i) (block-at (λ node. node .children) (linksAt sh) i (laid .links) h)
+      ∙ ap (childrenShown sh (modelCounts s m) store i) (block-at (λ node. node .children) (linksAt sh) i (laid .links) h)
       ∙ children-shown i g
 
   gives-leaf : (query : List Float) (wanted : Wanted) (i : ℕ) → nodeAt i .children ≡ [] → i < length (modelNodes s m)
@@ -311,13 +307,13 @@ module _ (s : Setting) (m : Model) (store : Store) (a : Allowed s) (w : Within s
       let sh = settingShape s in
       let ks = nodeAt i .children in
       let at = startOf (blockAt (λ node. node .children) N i) ks in
-      chosen (eqb (length ks) 0) (leafShown sh (builtCounts s m) store query wanted i)
-      (cond (blockHeld at (length ks) (nodeCount s m)) (childrenShown sh (builtCounts s m) store i (part (linksAt sh + at) (length ks) (store .numbers))) damage)
+      chosen (eqb (length ks) 0) (leafShown sh (modelCounts s m) store query wanted i)
+      (cond (blockHeld at (length ks) (nodeCount s m)) (childrenShown sh (modelCounts s m) store i (part (linksAt sh + at) (length ks) (store .numbers))) damage)
       (eq-eqb (length ks) 0 (ap length e))
       ∙ leaf-shown query wanted i h
 
   node-shown : (query : List Float) (wanted : Wanted) (i : ℕ) → i < length (modelNodes s m) → i < nodeCount s m
-      → nodeShown (settingShape s) (builtCounts s m) store query wanted i ≡ nodeGives m query wanted (nodeAt i) (nodeAt i .children)
+      → nodeShown shape (modelCounts s m) store query wanted i ≡ nodeGives m query wanted (nodeAt i) (nodeAt i .children)
   node-shown query wanted i h g = fields query wanted i h ∙ go (nodeAt i .children) refl
     where
       go : (cs : List ℕ) → nodeAt i .children ≡ cs
@@ -327,34 +323,27 @@ module _ (s : Setting) (m : Model) (store : Store) (a : Allowed s) (w : Within s
       go (c ∷ cs) e = gives-inner query wanted i c cs e h g ∙ ap children e
           ∙ sym (ap (nodeGives m query wanted (nodeAt i)) e ∙ gives-some m query wanted (nodeAt i) c cs)
 
-  node-denied : (wanted : Wanted) (i : ℕ) → i < length (modelNodes s m)
-      → nodeDenied (settingShape s) (builtCounts s m) store wanted i ≡ nodeDenies wanted (nodeAt i)
-  unfolding nodeDenied nodeDenies
-  node-denied Everything i h = refl
-  node-denied (Label hash) i h = ap (λ (f : List ℕ). not (mayContain f hash)) (filter-at i h)
-
   most-same : (query : List Float) (wanted : Wanted)
-      → storeView (settingShape s) (builtCounts s m) store query wanted .most ≡ treeView s m query wanted .most
-  unfolding storeView treeView mostHits mostRows
-  most-same query Everything = refl
-  most-same query (Label hash) = refl
+      → storeView shape (modelCounts s m) store query wanted .most ≡ treeView s m query wanted .most
+  unfolding storeView treeView
+  most-same query wanted = refl
 
   key-same : (query : List Float) (wanted : Wanted) (i : ℕ) → i < length (modelNodes s m)
-      → storeView (settingShape s) (builtCounts s m) store query wanted .key i ≡ treeView s m query wanted .key i
+      → storeView shape (modelCounts s m) store query wanted .key i ≡ treeView s m query wanted .key i
   unfolding storeView treeView
   key-same query wanted i h = ap (λ (v : List Float). keyOf (distance query v)) (centroid-at i h)
 
   -- The walk over the store is the walk over the rows' tree
   pub same-walks : (query : List Float) (wanted : Wanted) (ef : ℕ) → nodeCount s m ≤ s .capacities .nodes
-      → walk (storeView (settingShape s) (builtCounts s m) store query wanted) ef ≡ walk (treeView s m query wanted) ef
+      → walk (storeView shape (modelCounts s m) store query wanted) ef ≡ walk (treeView s m query wanted) ef
   same-walks query wanted ef fits =
-      let v = storeView (settingShape s) (builtCounts s m) store query wanted in
+      let v = storeView shape (modelCounts s m) store query wanted in
       let n = nodeCount s m in
       let small : nodeCount s m ≤ 2 ^ 64 = omega (arith, fits, limits s a .nodes-high) in
       let within : (i : ℕ) → i < nodeCount s m → i < length (modelNodes s m) = λ i h. subst (λ (k : ℕ). i < k) (sym (facts .count)) h in
-      same-below v (treeView s m query wanted) n small (some-nodes s m) (store-children-below (settingShape s) (builtCounts s m) store query wanted)
+      same-below v (treeView s m query wanted) n small (some-nodes s m) (store-children-below shape (modelCounts s m) store query wanted)
       (most-same query wanted) (λ i h. key-same query wanted i (within i h))
-      (λ i h. store-shown (settingShape s) (builtCounts s m) store query wanted i
-      ∙ ap₂ (λ (d : Bool) (sh : Shown). cond d (hits []) sh) (node-denied wanted i (within i h)) (node-shown query wanted i (within i h) h)
+      (λ i h. store-shown shape (modelCounts s m) store query wanted i
+      ∙ ap₂ (λ (f : List ℕ) (sh : Shown). cond (denies wanted f) (hits []) sh) (filter-at i (within i h)) (node-shown query wanted i (within i h) h)
       ∙ sym (tree-shown s m query wanted i))
       ef

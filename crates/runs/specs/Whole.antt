@@ -7,7 +7,7 @@ use mathlib.Core.List.{List, [], _∷_, map, map-map, List·Memᴰ, List·Memᴰ
 use mathlib.Core.Path.{_≡_, refl, sym, ap, ap₂, _∙_, subst}
 use lib.Ieee.{Float}
 use lib.ListN.{length, take, length-map, length-take}
-use Rattle.lists.specs.Maps.{map-on}
+use Rattle.lists.specs.Maps.{map-on, map-take, take-Memᴰ}
 use Rattle.lists.specs.Parts.{part-sets-same}
 use Rattle.lists.specs.Partition.{perm-Memᴰ, perm-of-eq}
 use Rattle.order.specs.Sorted.{sort, Sorted, Least}
@@ -22,19 +22,18 @@ use Rattle.walk.specs.Answer.{documentOf, distanceOf, ranked}
 use Rattle.walk.specs.SoundWalk.{sound-enough}
 use Rattle.settings.specs.Refusals.{checkNumber}
 use Rattle.curator.specs.Searches.{wantedOf}
-use Rattle.curator.specs.Arguments.{SearchCall}
-use Rattle.runs.specs.Calls.{Call, change, search, lentBy}
+use Rattle.curator.specs.Arguments.{Question}
+use Rattle.runs.specs.Calls.{Call, change, search}
 use Rattle.runs.specs.Model.{Setting, Model, ModelRow, changeCheck, expected}
 use Rattle.runs.specs.Run.{Ended}
 use Rattle.runs.specs.Theorem.{Reply, Matches, Distinct, rowDistance, NoLaterRow, InOrder, Reference, FirstOf, WholeIsFirst, Marked}
-use Rattle.runs.specs.ListLaws.{map-take, take-Memᴰ}
 use Rattle.runs.specs.State.{Allowed, Within, Small}
 use Rattle.runs.specs.Refusals.{search-room, SearchRoom}
 use Rattle.runs.specs.Search.{walk-is}
 use Rattle.runs.specs.Reached.{Finds, answered-finds, not-answered}
 use Rattle.runs.specs.Due.{dueBelow, sizeAt, IsNode, sound-tree, root-size}
-use Rattle.runs.specs.Eligible.{ranks-about, rowRank, hitRank}
-use Rattle.runs.specs.Hits.{searchView, hitsAbout, about-rows, rank-document, rank-distance, hit-distance, found-ranked, found-whole}
+use Rattle.runs.specs.Eligible.{hitsAbout, ranks-about, rowRank, hitRank}
+use Rattle.runs.specs.Hits.{searchView, about-rows, rank-document, rank-distance, hit-distance, found-ranked, found-whole}
 use Rattle.runs.specs.Larger.{Listed, listed}
 
 -- ---- lists in order
@@ -49,86 +48,85 @@ sorted-ranks [] h = tt
 sorted-ranks (x ∷ xs) h = (least-ranks x xs (h .0), sorted-ranks xs (h .1))
 
 -- ranks of rows in order are in order
-rank-le : (call : SearchCall) (r t : ModelRow) → r .document < 2 ^ 32 → NoLaterRow call r t → rowRank call r ≤ rowRank call t
-rank-le call r t low h =
-    let query = normalized (call .question .query) in
+rank-le : (question : Question) (r t : ModelRow) → r .document < 2 ^ 32 → NoLaterRow question r t → rowRank question r ≤ rowRank question t
+rank-le question r t low h =
+    let query = normalized (question .query) in
     let fr = distance-fits query (r .vector) in
     let ft = distance-fits query (t .vector) in
-    let x = keyOf (rowDistance call r) in
-    let y = keyOf (rowDistance call t) in
-    let le : keyOf (rowDistance call r) ≤ keyOf (rowDistance call t) = totalOrder-le (rowDistance call r) (rowDistance call t) fr ft (h .0) in
+    let x = keyOf (rowDistance question r) in
+    let y = keyOf (rowDistance question t) in
+    let le : keyOf (rowDistance question r) ≤ keyOf (rowDistance question t) = totalOrder-le (rowDistance question r) (rowDistance question t) fr ft (h .0) in
     either (le-or-lt y x)
-    (λ ge. let same : keyOf (rowDistance call r) ≡ keyOf (rowDistance call t) = omega arith in
-    let docs : r .document ≤ t .document = h .1 (keyOf-injective (rowDistance call r) (rowDistance call t) fr ft same) in
+    (λ ge. let same : keyOf (rowDistance question r) ≡ keyOf (rowDistance question t) = omega arith in
+    let docs : r .document ≤ t .document = h .1 (keyOf-injective (rowDistance question r) (rowDistance question t) fr ft same) in
     omega arith)
     (λ lt. omega arith)
 
-least-rows : (call : SearchCall) (r : ModelRow) (l : List ModelRow) → r .document < 2 ^ 32 → ((t : ModelRow) → List·Memᴰ t l → NoLaterRow call r t)
-    → Least (rowRank call r) (map (rowRank call) l)
-least-rows call r [] low h = tt
-least-rows call r (t ∷ l) low h = (rank-le call r t low (h t (List·Memᴰ·head refl)), least-rows call r l low (λ u k. h u (List·Memᴰ·tail k)))
+least-rows : (question : Question) (r : ModelRow) (l : List ModelRow) → r .document < 2 ^ 32 → ((t : ModelRow) → List·Memᴰ t l → NoLaterRow question r t)
+    → Least (rowRank question r) (map (rowRank question) l)
+least-rows question r [] low h = tt
+least-rows question r (t ∷ l) low h = (rank-le question r t low (h t (List·Memᴰ·head refl)), least-rows question r l low (λ u k. h u (List·Memᴰ·tail k)))
 
-sorted-rows : (call : SearchCall) (l : List ModelRow) → ((r : ModelRow) → List·Memᴰ r l → r .document < 2 ^ 32) → InOrder call l → Sorted (map (rowRank call) l)
-sorted-rows call [] low h = tt
-sorted-rows call (r ∷ l) low h = (least-rows call r l (low r (List·Memᴰ·head refl)) (h .0), sorted-rows call l (λ t k. low t (List·Memᴰ·tail k)) (h .1))
+sorted-rows : (question : Question) (l : List ModelRow) → ((r : ModelRow) → List·Memᴰ r l → r .document < 2 ^ 32) → InOrder question l → Sorted (map (rowRank question) l)
+sorted-rows question [] low h = tt
+sorted-rows question (r ∷ l) low h = (least-rows question r l (low r (List·Memᴰ·head refl)) (h .0), sorted-rows question l (λ t k. low t (List·Memᴰ·tail k)) (h .1))
 
 -- ---- a whole answer
 
-module _ (s : Setting) (m : Model) (a : Allowed s) (w : Within s m) (d : Distinct m) (small : Small m) (call : SearchCall) (reference : List ModelRow)
-    (ref : Reference m call reference) where
+module _ (s : Setting) (m : Model) (a : Allowed s) (w : Within s m) (d : Distinct m) (small : Small m) (question : Question) (reference : List ModelRow)
+    (ref : Reference m question reference) where
   low : (r : ModelRow) → List·Memᴰ r reference → r .document < 2 ^ 32
-  low r k = small r (about-rows m (wantedOf (call .question .asked)) r (perm-Memᴰ (ref .same) k))
+  low r k = small r (about-rows m question r (perm-Memᴰ (ref .same) k))
 
-  module _ (b : ℕ) (p : Progress) (e : walk (searchView s m call) b ≡ going p) (f : whole p ≡ true) where
+  module _ (b : ℕ) (p : Progress) (e : walk (searchView s m question) b ≡ going p) (f : whole p ≡ true) (k : ℕ) where
     -- the ranks of a whole walk's hits are those of the reference list
-    ranks-same : map hitRank (ranked p) ≡ map (rowRank call) reference
+    ranks-same : map hitRank (ranked p) ≡ map (rowRank question) reference
     ranks-same =
-        let wanted = wantedOf (call .question .asked) in
-        let all : ranked p ≡ sort (hitsAbout m call) = found-ranked s m a w d small call b p e ∙ found-whole s m a w d small call b p e f in
+        let all : ranked p ≡ sort (hitsAbout m question) = found-ranked s m a w d small question b p e ∙ found-whole s m a w d small question b p e f in
         ap (map hitRank) all
-        ∙ sorted-unique (sorted-ranks (sort (hitsAbout m call)) (sort-sorted (hitsAbout m call))) (sorted-rows call reference low (ref .ordered))
-        (List·Permᴰ·trans (Permᴰ·map hitRank (Permᴰ·symm (sort-perm (hitsAbout m call))))
-        (List·Permᴰ·trans (perm-of-eq (ranks-about s m a w call wanted)) (Permᴰ·map (rowRank call) (Permᴰ·symm (ref .same)))))
+        ∙ sorted-unique (sorted-ranks (sort (hitsAbout m question)) (sort-sorted (hitsAbout m question))) (sorted-rows question reference low (ref .ordered))
+        (List·Permᴰ·trans (Permᴰ·map hitRank (Permᴰ·symm (sort-perm (hitsAbout m question))))
+        (List·Permᴰ·trans (perm-of-eq (ranks-about s m a w question)) (Permᴰ·map (rowRank question) (Permᴰ·symm (ref .same)))))
 
-    first-ranks : map hitRank (take (call .k) (ranked p)) ≡ map (rowRank call) (take (call .k) reference)
-    first-ranks = map-take hitRank (call .k) (ranked p) ∙ ap (take (call .k)) ranks-same ∙ sym (map-take (rowRank call) (call .k) reference)
+    first-ranks : map hitRank (take k (ranked p)) ≡ map (rowRank question) (take k reference)
+    first-ranks = map-take hitRank k (ranked p) ∙ ap (take k) ranks-same ∙ sym (map-take (rowRank question) k reference)
 
-    first-low : (r : ModelRow) → List·Memᴰ r (take (call .k) reference) → r .document < 2 ^ 32
-    first-low r k = low r (take-Memᴰ (call .k) reference k)
+    first-low : (r : ModelRow) → List·Memᴰ r (take k reference) → r .document < 2 ^ 32
+    first-low r n = low r (take-Memᴰ k reference n)
 
-    first-documents : map documentOf (take (call .k) (ranked p)) ≡ map (λ r. r .document) (take (call .k) reference)
+    first-documents : map documentOf (take k (ranked p)) ≡ map (λ r. r .document) (take k reference)
     first-documents =
-        let rows = take (call .k) reference in
-        sym (map-map (λ n. n % 2 ^ 32) hitRank (take (call .k) (ranked p))) ∙ ap (map (λ n. n % 2 ^ 32)) first-ranks
-        ∙ map-map (λ n. n % 2 ^ 32) (rowRank call) rows
-        ∙ map-on (λ r. rowRank call r % 2 ^ 32) (λ r. r .document) rows (λ r k. rank-document call r (first-low r k))
+        let rows = take k reference in
+        sym (map-map (λ n. n % 2 ^ 32) hitRank (take k (ranked p))) ∙ ap (map (λ n. n % 2 ^ 32)) first-ranks
+        ∙ map-map (λ n. n % 2 ^ 32) (rowRank question) rows
+        ∙ map-on (λ r. rowRank question r % 2 ^ 32) (λ r. r .document) rows (λ r n. rank-document question r (first-low r n))
 
-    first-distances : map distanceOf (take (call .k) (ranked p)) ≡ map (rowDistance call) (take (call .k) reference)
+    first-distances : map distanceOf (take k (ranked p)) ≡ map (rowDistance question) (take k reference)
     first-distances =
-        let rows = take (call .k) reference in
-        let hits = take (call .k) (ranked p) in
-        map-on distanceOf (λ h. ofKey (hitRank h / 2 ^ 32)) hits (λ h k. hit-distance h)
+        let rows = take k reference in
+        let hits = take k (ranked p) in
+        map-on distanceOf (λ h. ofKey (hitRank h / 2 ^ 32)) hits (λ h n. hit-distance h)
         ∙ sym (map-map (λ n. ofKey (n / 2 ^ 32)) hitRank hits) ∙ ap (map (λ n. ofKey (n / 2 ^ 32))) first-ranks
-        ∙ map-map (λ n. ofKey (n / 2 ^ 32)) (rowRank call) rows
-        ∙ map-on (λ r. ofKey (rowRank call r / 2 ^ 32)) (rowDistance call) rows (λ r k. rank-distance call r (first-low r k))
+        ∙ map-map (λ n. ofKey (n / 2 ^ 32)) (rowRank question) rows
+        ∙ map-on (λ r. ofKey (rowRank question r / 2 ^ 32)) (rowDistance question) rows (λ r n. rank-distance question r (first-low r n))
 
-    pub first-of : (reply : Reply) → Listed (call .k) (call .ids) (call .distances) p reply → call .k ≤ length (call .ids) → call .k ≤ length (call .distances)
-        → FirstOf call reference reply
-    first-of reply l ids distances =
-        let hs = take (call .k) (ranked p) in
-        let n : length hs ≡ length (take (call .k) reference) =
-        sym (length-map hs hitRank) ∙ ap length first-ranks ∙ length-map (take (call .k) reference) (rowRank call) in
-        let most = length-take (call .k) (ranked p) in
+    pub first-of : (ids : List ℕ) (distances : List Float) (reply : Reply) → Listed k ids distances p reply → k ≤ length ids → k ≤ length distances
+        → FirstOf question k reference reply
+    first-of ids distances reply l ids-room distances-room =
+        let hs = take k (ranked p) in
+        let n : length hs ≡ length (take k reference) =
+        sym (length-map hs hitRank) ∙ ap length first-ranks ∙ length-map (take k reference) (rowRank question) in
+        let most = length-take k (ranked p) in
         let i : length (map documentOf hs) ≡ length hs = length-map hs documentOf in
         let j : length (map distanceOf hs) ≡ length hs = length-map hs distanceOf in
         record {
           count = l .count ∙ n;
           ids =
-              ap₂ (λ (k : ℕ) (x : List ℕ). take k x) (l .count ∙ sym i) (l .ids-are)
-              ∙ part-sets-same (call .ids) 0 (map documentOf hs) (omega (arith, i, most, ids)) ∙ first-documents;
+              ap₂ (λ (c : ℕ) (x : List ℕ). take c x) (l .count ∙ sym i) (l .ids-are)
+              ∙ part-sets-same ids 0 (map documentOf hs) (omega (arith, i, most, ids-room)) ∙ first-documents;
           distances =
-              ap₂ (λ (k : ℕ) (x : List Float). take k x) (l .count ∙ sym j) (l .distances-are)
-              ∙ part-sets-same (call .distances) 0 (map distanceOf hs) (omega (arith, j, most, distances)) ∙ first-distances;
+              ap₂ (λ (c : ℕ) (x : List Float). take c x) (l .count ∙ sym j) (l .distances-are)
+              ∙ part-sets-same distances 0 (map distanceOf hs) (omega (arith, j, most, distances-room)) ∙ first-distances;
         }
 
 -- ---- every call
@@ -139,16 +137,17 @@ module _ (s : Setting) (a : Allowed s) (m : Model) (w : Within s m) where
   call-whole d small (search fronts work call) end h = λ reply g e reference ref.
       (let x : Finds s m fronts work call reply = answered-finds s m fronts work call end reply h g in
       let l = listed call (x .progress) reply (x .is) in
-      let room : SearchRoom s m (lentBy fronts work) call = search-room s m (lentBy fronts work) call (x .check) in
-      first-of s m a w d small call reference ref (s .params .«ef_search») (x .progress) (sym (walk-is s m call) ∙ x .walked) (sym (l .whole-is) ∙ e) reply l (room .ids) (room .distances))
+      let room : SearchRoom s m fronts call = search-room s m fronts (length work) call (x .check) in
+      first-of s m a w d small (call .question) reference ref (s .params .«ef_search») (x .progress) (sym (walk-is s m (call .question)) ∙ x .walked)
+      (sym (l .whole-is) ∙ e) (call .k) (call .ids) (call .distances) reply l (room .ids) (room .distances))
 
   pub call-marked : (call : Call) (end : Ended) → Matches (expected s m call) call end → Marked s m end
   unfolding expected
-  call-marked (change fronts work c) end h = λ enough reply g. absurd (not-answered fronts work c (checkNumber (changeCheck s m (lentBy fronts work) c)) end reply h g)
+  call-marked (change fronts work c) end h = λ enough reply g. absurd (not-answered fronts work c (checkNumber (changeCheck s m fronts (length work) c)) end reply h g)
   call-marked (search fronts work call) end h = λ enough reply g.
       (let x : Finds s m fronts work call reply = answered-finds s m fronts work call end reply h g in
       let query = normalized (call .question .query) in
       let wanted = wantedOf (call .question .asked) in
       listed call (x .progress) reply (x .is) .whole-is
-      ∙ sound-enough (searchView s m call) (dueBelow s m query wanted) (sizeAt s m) (IsNode s m) (sound-tree s m a w query wanted) (s .params .«ef_search») (x .progress)
-      (subst (λ (n : ℕ). n ≤ s .params .«ef_search») (sym (root-size s m a w)) enough) (sym (walk-is s m call) ∙ x .walked))
+      ∙ sound-enough (searchView s m (call .question)) (dueBelow s m query wanted) (sizeAt s m) (IsNode s m) (sound-tree s m a w query wanted) (s .params .«ef_search») (x .progress)
+      (subst (λ (n : ℕ). n ≤ s .params .«ef_search») (sym (root-size s m a w)) enough) (sym (walk-is s m (call .question)) ∙ x .walked))
