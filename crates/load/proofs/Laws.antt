@@ -1,13 +1,14 @@
 -- Lemmas of the proofs in `load`.
-use Prim.Native.Nat.{ℕ, _+_, _-_, _*_, _≤_, _<_}
+use Prim.Native.Nat.{ℕ, _≤_, _<_}
 use native.Mathlib.Omega.{arith}
 use mathlib.Core.Bool.{Bool, true, false, cond}
-use mathlib.Core.List.{List, [], _∷_, map}
+use mathlib.Core.List.{List, [], _∷_, _++_}
 use mathlib.Core.Path.{_≡_, refl, sym, ap, _∙_, subst}
 use borrow.Author.Tests.{lt-ltb, le-ltb, le-leb, lt-leb}
 use lib.Dec.{leb}
 use lib.Ieee.{Float, binary32, ofBits}
-use lib.ListN.{length, take, drop, length-take, length-map}
+use lib.ListN.{length, take, drop, length-append, length-map}
+use lib.Seq.{take-at}
 use types.Run.{OneOf, miss}
 use denote.Enum.Declared.{tagOf}
 use Rattle.echo_file.proofs.Located.{the-type as located-type}
@@ -20,7 +21,7 @@ use Rattle.settings.specs.declared.refusal.Refusal.the-variants.{Settings, Inpu
 use Rattle.settings.specs.declared.refusal.SettingsRefusal.the-variants.{InvalidConfig}
 use Rattle.settings.specs.declared.refusal.InputRefusal.the-variants.{BadRecord, SettingsOrder, FileTooLong}
 use Rattle.curator.specs.Changes.{Adds, Builds}
-use Rattle.curator.specs.Arguments.{AddCall, SearchCall, Asked, everything, labelled}
+use Rattle.curator.specs.Arguments.{AddCall, SearchCall}
 use Rattle.curator.specs.Searches.{Searches}
 use Rattle.echo_file.specs.Format as format
 use Rattle.echo_file.specs.Format.{Bytes, Begins}
@@ -32,16 +33,16 @@ use Rattle.echo_file.specs.declared.Known.{Known}
 use Rattle.echo_file.specs.declared.Located.{Located}
 use Rattle.echo_file.specs.declared.Located.the-variants.{Settings as SettingsAt, Vector, Filtered, Search}
 use Rattle.echo_file.specs.declared.Reading.the-variants.{Found}
-use Rattle.echo_file.specs.Reads.{between, patternsAt, Stands, VectorStands, FilteredStands, SearchStands, Reads}
+use Rattle.echo_file.specs.Reads.{between, patternsAt, Stands, Reads}
 use Rattle.load.specs.declared.Loading.{Loading}
 use Rattle.load.specs.declared.Loading.the-variants.{Unset, Running}
 use Rattle.load.specs.declared.carry.Carried.{Carried}
 use Rattle.load.specs.declared.carry.Carried.the-variants.{End, Refused, Silent}
-use Rattle.load.specs.File.{addCall}
-use Rattle.load.specs.declared.carry.Floats.{Floats}
-use Rattle.load.specs.declared.carry.Floats.the-variants.{Absent, At}
-use Rattle.load.specs.Step.{Lent, known, openedBy, addedBy, foundBy, searchWith, searchEnd, SearchesBuilt, Keeps, CarriesOut, CarriesRead, CarriesAt, Carries}
-use Rattle.load.specs.Code.{asking, floatsOf, floatsAt, ComponentsAt, CarriesFirst, CarriesNext}
+use Rattle.load.specs.File.{floats, addCall}
+use Rattle.load.specs.declared.task.Task.{Task}
+use Rattle.load.specs.declared.task.Task.the-variants.{Done, Add, Find}
+use Rattle.load.specs.Step.{Lent, known, openedBy, addedBy, foundBy, searchEnd, AddsVector, SearchesBuilt, Keeps, CarriesOut, CarriesRead, CarriesAt, Carries}
+use Rattle.load.specs.Code.{floatsAt, CarriesFirst, CarriesNext, Asks, taskOf}
 
 -- ---- settings
 
@@ -90,90 +91,99 @@ build-refused index call next lent lent′ answer r b e i d =
       searches = (refl, refl, i, d);
     }
 
-pub build-searched : (index : CuratorIndex) (query : List Float) (k : ℕ) (filtered : Bool) (label : List ℕ) (asked : Asked) (next : ℕ) (lent lent′ : Lent)
-    (answer : Changed) (ready : CuratorIndex) (work : List ℕ) (reply : Reply) (carried : Carried) → asking filtered label ≡ asked
-    → Builds index (lent .store) (lent .work) answer (lent′ .store) work → answer ≡ Changed′.Index ready
-    → Searches ready (lent′ .store) work (searchWith query k asked lent) (searchEnd reply lent′) → carried ≡ foundBy ready reply next
-    → SearchesBuilt index (searchWith query k (asking filtered label)) next lent carried lent′
-build-searched index query k filtered label asked next lent lent′ answer ready work reply carried a b e s f =
+pub build-searched : (index : CuratorIndex) (call : Lent → SearchCall) (next : ℕ) (lent lent′ : Lent) (answer : Changed) (ready : CuratorIndex)
+    (work : List ℕ) (reply : Reply) (carried : Carried) → Builds index (lent .store) (lent .work) answer (lent′ .store) work → answer ≡ Changed′.Index ready
+    → Searches ready (lent′ .store) work (call lent) (searchEnd reply lent′) → carried ≡ foundBy ready reply next
+    → SearchesBuilt index call next lent carried lent′
+build-searched index call next lent lent′ answer ready work reply carried b e s f =
     record {
       answer = Changed′.Index ready;
       work = work;
       builds = subst (λ (x : Changed). Builds index (lent .store) (lent .work) x (lent′ .store) work) e b;
-      searches = (reply, subst (λ (x : Asked). Searches ready (lent′ .store) work (searchWith query k x lent) (searchEnd reply lent′)) (sym a) s, f);
+      searches = (reply, s, f);
     }
 
--- ---- a record after the settings
+-- ---- an add of the vector that was read
 
-module _ (index : CuratorIndex) (file : List ℕ) (at : ℕ) (lent : Lent) (carried : Carried) (lent′ : Lent) where
-  pub settings-carried : (d b l e w next : ℕ) → Stands (known (Running index)) file at (format.settings d b l e w) next
-      → Keeps lent (Refused (Input SettingsOrder)) carried lent′ → CarriesNext index file at lent carried lent′
-  settings-carried d b l e w next s k = stands-carried file at (Running index) lent carried lent′ (format.settings d b l e w) next s k
+pub adds-vector : (index : CuratorIndex) (document next : ℕ) (v vector : List Float) (lengths bytes : List ℕ) (lent lent′ : Lent) (answer : Changed) (carried : Carried)
+    → v ≡ vector → Adds index (lent .store) (record { document = document; vector = v; lengths = lengths; bytes = bytes }) answer (lent′ .store)
+    → lent′ .work ≡ lent .work → lent′ .ids ≡ lent .ids → lent′ .distances ≡ lent .distances → carried ≡ addedBy answer next
+    → AddsVector index (record { document = document; vector = vector; lengths = lengths; bytes = bytes }) next lent carried lent′
+adds-vector index document next v vector lengths bytes lent lent′ answer carried e a w i d k =
+    record {
+      answer = answer;
+      adds = subst (λ (x : List Float). Adds index (lent .store) (record { document = document; vector = x; lengths = lengths; bytes = bytes }) answer (lent′ .store)) e a;
+      work = w;
+      ids = i;
+      distances = d;
+      comes = k;
+    }
 
-  pub vector-carried : (document lengths-at labels-at floats-at next : ℕ) (components : List Float) (answer : Changed)
-      → VectorStands (known (Running index)) file at document lengths-at labels-at floats-at next → components ≡ floatsAt index file floats-at
-      → Adds index (lent .store)
-      (record { document = document; vector = components; lengths = between lengths-at labels-at file; bytes = between labels-at floats-at file })
-      answer
-      (lent′ .store)
-      → lent′ .work ≡ lent .work → lent′ .ids ≡ lent .ids → lent′ .distances ≡ lent .distances → carried ≡ addedBy answer next
-      → CarriesNext index file at lent carried lent′
-  vector-carried document lengths-at labels-at floats-at next components answer v e a w i d k =
-      let patterns = patternsAt (known (Running index)) file floats-at in
-      let same : record { document = document; vector = components; lengths = between lengths-at labels-at file; bytes = between labels-at floats-at file }
-      ≡ addCall document (v .labels) patterns =
-      λ j. record { document = document; vector = e j; lengths = v .lengths j; bytes = v .bytes j } in
-      stands-carried file at (Running index) lent carried lent′ (format.vector document (v .labels) patterns) next (v .stands)
-      (record {
-        answer = answer;
-        adds = subst (λ (x : AddCall). Adds index (lent .store) x answer (lent′ .store)) same a;
-        work = w;
-        ids = i;
-        distances = d;
-        comes = k;
-      })
+-- ---- what a record asks for
 
-  pub label-carried : (k label-at floats-at next : ℕ) (components : List Float) → FilteredStands (known (Running index)) file at k label-at floats-at next
-      → components ≡ floatsAt index file floats-at
-      → SearchesBuilt index (searchWith components k (labelled (between label-at floats-at file))) next lent carried lent′
-      → CarriesNext index file at lent carried lent′
-  label-carried k label-at floats-at next components v e s =
-      stands-carried file at (Running index) lent carried lent′
-      (format.filtered k (between label-at floats-at file) (patternsAt (known (Running index)) file floats-at))
-      next
-      (v .stands)
-      (subst (λ (q : List Float). SearchesBuilt index (searchWith q k (labelled (between label-at floats-at file))) next lent carried lent′) e s)
+-- floats that were read stand in front
+pub floats-front : (out rest : List Float) (file : List ℕ) (at : ℕ) {m n : ℕ} → m ≡ n → out ≡ floats (numbers m (drop at file))
+    → (n ≤ length (out ++ rest)) × (take n (out ++ rest) ≡ floats (numbers n (drop at file)))
+floats-front out rest file at {m} {n} e h =
+    let size : length out ≡ n = ap length h ∙ length-map (numbers m (drop at file)) (ofBits binary32) ∙ length-numbers m (drop at file) ∙ e in
+    (omega (arith, size, length-append out rest), take-at out rest n size ∙ h ∙ ap (λ (k : ℕ). floats (numbers k (drop at file))) e)
 
-  pub all-carried : (k floats-at next : ℕ) (components : List Float) → SearchStands (known (Running index)) file at k floats-at next
-      → components ≡ floatsAt index file floats-at → SearchesBuilt index (searchWith components k everything) next lent carried lent′
-      → CarriesNext index file at lent carried lent′
-  all-carried k floats-at next components v e s =
-      stands-carried file at (Running index) lent carried lent′ (format.unfiltered k (patternsAt (known (Running index)) file floats-at)) next (v .stands)
-      (subst (λ (q : List Float). SearchesBuilt index (searchWith q k everything) next lent carried lent′) e s)
+-- after the settings
+pub task-asks : (index : CuratorIndex) (file : List ℕ) (at : ℕ) (located : Located) → index .dimension ≤ 16
+    → Reads (known (Running index)) file at (Found located) → Asks file (CarriesNext index file at) (taskOf index located)
+task-asks index file at (SettingsAt d b l e w next) n s =
+    λ lent. stands-carried file at (Running index) lent (Refused (Input SettingsOrder)) lent (format.settings d b l e w) next s (refl, refl)
+task-asks index file at (Vector document lengths-at labels-at place next) n s =
+    let patterns = patternsAt (known (Running index)) file place in
+    let same : record { document = document; vector = floatsAt index file place; lengths = between lengths-at labels-at file; bytes = between labels-at place file }
+    ≡ addCall document (s .labels) patterns =
+    λ j. record { document = document; vector = floatsAt index file place; lengths = s .lengths j; bytes = s .bytes j } in
+    record {
+      narrow = n;
+      lengths-order = s .lengths-order;
+      labels-order = s .labels-order;
+      inside = omega (arith, s .floats-end, s .stands .inside);
+      comes = λ lent carried lent′ a.
+          stands-carried file at (Running index) lent carried lent′ (format.vector document (s .labels) patterns) next (s .stands)
+          (subst (λ (x : AddCall). AddsVector index x next lent carried lent′) same a);
+    }
+task-asks index file at (Filtered k label-at place next) n s =
+    record {
+      narrow = n;
+      label-order = s .label-order;
+      inside = omega (arith, s .floats-end, s .stands .inside);
+      comes = λ lent carried lent′ a.
+          stands-carried file at (Running index) lent carried lent′
+          (format.filtered k (between label-at place file) (patternsAt (known (Running index)) file place)) next (s .stands) a;
+    }
+task-asks index file at (Search k place next) n s =
+    record {
+      narrow = n;
+      label-order = omega arith;
+      inside = omega (arith, s .floats-end, s .stands .inside);
+      comes = λ lent carried lent′ a.
+          stands-carried file at (Running index) lent carried lent′ (format.unfiltered k (patternsAt (known (Running index)) file place)) next (s .stands) a;
+    }
 
-abbrev placeOf : Floats → ℕ
-placeOf Absent = 0
-placeOf (At place) = place
-
--- the floats of a record stand in the file
-pub floats-inside : (k : Known) (file : List ℕ) (at : ℕ) (located : Located) (place : ℕ) → Reads k file at (Found located) → floatsOf located ≡ At place
-    → place + 4 * k .dimension ≤ length file
-floats-inside k file at (SettingsAt d b l e w next) place s e′ = absurd (let z : _≡_ {A = ℕ} 0 1 = cc in omega arith)
-floats-inside k file at (Vector document lengths-at labels-at floats-at next) place s e =
-    let same : floats-at ≡ place = ap placeOf e in omega (arith, same, s .floats-end, s .stands .inside)
-floats-inside k file at (Filtered n label-at floats-at next) place s e =
-    let same : floats-at ≡ place = ap placeOf e in omega (arith, same, s .floats-end, s .stands .inside)
-floats-inside k file at (Search n floats-at next) place s e =
-    let same : floats-at ≡ place = ap placeOf e in omega (arith, same, s .floats-end, s .stands .inside)
-
--- a record without floats is settings
-pub no-floats : (index : CuratorIndex) (file : List ℕ) (at : ℕ) (lent : Lent) (carried : Carried) (lent′ : Lent) (located : Located)
-    → Reads (known (Running index)) file at (Found located) → floatsOf located ≡ Absent → Keeps lent (Refused (Input SettingsOrder)) carried lent′
-    → CarriesNext index file at lent carried lent′
-no-floats index file at lent carried lent′ (SettingsAt d b l e w next) s a k = settings-carried index file at lent carried lent′ d b l e w next s k
-no-floats index file at lent carried lent′ (Vector document lengths-at labels-at floats-at next) s a k = absurd (let z : _≡_ {A = ℕ} 0 1 = cc in omega arith)
-no-floats index file at lent carried lent′ (Filtered n label-at floats-at next) s a k = absurd (let z : _≡_ {A = ℕ} 0 1 = cc in omega arith)
-no-floats index file at lent carried lent′ (Search n floats-at next) s a k = absurd (let z : _≡_ {A = ℕ} 0 1 = cc in omega arith)
+-- what comes to one thing comes to what follows from it
+pub asks-as : (file : List ℕ) (P Q : Lent → Carried → Lent → Type 0) → ((lent : Lent) (carried : Carried) (lent′ : Lent) → P lent carried lent′ → Q lent carried lent′)
+    → (task : Task) → Asks file P task → Asks file Q task
+asks-as file P Q to (Done carried) a = λ lent. to lent carried lent (a lent)
+asks-as file P Q to (Add index document lengths-at labels-at place next) a =
+    record {
+      narrow = a .narrow;
+      lengths-order = a .lengths-order;
+      labels-order = a .labels-order;
+      inside = a .inside;
+      comes = λ lent carried lent′ h. to lent carried lent′ (a .comes lent carried lent′ h);
+    }
+asks-as file P Q to (Find index filtered label-at place k next) a =
+    record {
+      narrow = a .narrow;
+      label-order = a .label-order;
+      inside = a .inside;
+      comes = λ lent carried lent′ h. to lent carried lent′ (a .comes lent carried lent′ h);
+    }
 
 -- a first record that is not settings
 pub first-misplaced : (file : List ℕ) (at : ℕ) (lent : Lent) (carried : Carried) (located : Located)
@@ -217,24 +227,7 @@ module _ (file : List ℕ) (at : ℕ) (loading : Loading) where
       inside lent carried lent′ false h (lt-leb (length file) at l)
       (subst (λ (x : Loading). CarriesRead (decode (known x) (drop at file)) file at x lent carried lent′) (sym e) k)
 
--- ---- what is read and what is written
-
--- floats read into the front of a list
-front-length : (l : List Float) (n : ℕ) → n ≤ length l → length (take (n - 0) l) ≡ n
-front-length l n h = omega (arith, h, length-take (n - 0) l)
-
-pub components-read : (l out : List Float) (file : List ℕ) (place n : ℕ) → n ≤ length l
-    → out ≡ map (ofBits binary32) (numbers (length (take (n - 0) l)) (drop place file)) → out ≡ map (ofBits binary32) (numbers n (drop place file))
-components-read l out file place n h e = e ∙ ap (λ (k : ℕ). map (ofBits binary32) (numbers k (drop place file))) (front-length l n h)
-
-pub components-length : (l out : List Float) (file : List ℕ) (place n : ℕ) → n ≤ length l
-    → out ≡ map (ofBits binary32) (numbers (length (take (n - 0) l)) (drop place file)) → length out ≡ n
-components-length l out file place n h e =
-    ap length (components-read l out file place n h e) ∙ length-map (numbers n (drop place file)) (ofBits binary32) ∙ length-numbers n (drop place file)
+-- ---- what is written
 
 pub written-text : {l m : List ℕ} {i j : ℕ} {xs ys : List ℕ} → xs ≡ ys → Written l i xs m j → Written l i ys m j
 written-text {l} {m} {i} {j} e w = subst (λ (t : List ℕ). Written l i t m j) e w
-
-pub components-at : (index : CuratorIndex) (file : List ℕ) (located : Located) (components : List Float) (place : ℕ) → floatsOf located ≡ At place
-    → components ≡ floatsAt index file place → ComponentsAt index file (floatsOf located) components
-components-at index file located components place e h = subst (λ (x : Floats). ComponentsAt index file x components) (sym e) h

@@ -1,24 +1,22 @@
 // A record carried out on the index.
+ghost use Prim.Native.Nat.{_+_, _*_, _≤_};
+ghost use lib.ListN.{length, take, drop};
 ghost use mathlib.Core.Path.{_≡_};
-ghost use Prim.Native.Nat.{_≤_};
-ghost use Rattle.curator.specs.Changes.{created};
-ghost use Rattle.load.specs.File.{capacities};
-ghost use Rattle.load.specs.Step.{Carries, SearchesBuilt, searchWith, openedBy, addedBy, foundBy};
-ghost use Rattle.load.specs.Code.{lists, asking, Narrow, floatsOf, WithComponents, CarriesFirst, CarriesNext};
+ghost use Rattle.store.specs.Lent.{lent};
+ghost use Rattle.curator.specs.Searches.{Searches};
+ghost use Rattle.echo_file.specs.Decode.{numbers as Decode·numbers};
+ghost use Rattle.search.specs.Lent.{looking, leaving};
+ghost use Rattle.load.specs.File.{floats as File·floats};
+ghost use Rattle.load.specs.Step.{Carries, SearchesBuilt, searchWith, addedBy, foundBy};
+ghost use Rattle.load.specs.Code.{lists, asking, Narrow};
 use crate::Loading;
+use crate::task;
+use crate::task::Task;
 use curator::Changed;
 use curator::CuratorIndex;
 use curator::Found;
-use echo_file::Known;
-use echo_file::Located;
-use echo_file::Reading;
-use echo_file::floats::read_floats;
-use echo_file::read_record;
-use settings::Capacities;
-use settings::CuratorParams;
-use settings::refusal::InputRefusal;
 use settings::refusal::Refusal;
-use settings::refusal::SettingsRefusal;
+use echo_file::floats::read_floats;
 
 // What came of a record: a refusal, after which the file is left; nothing to print; or an answer. `End` where no record is left.
 pub enum Carried {
@@ -35,30 +33,6 @@ pub enum Carried {
         opened: usize,
         whole: bool,
     },
-}
-
-// Settings that come first open the index. The lists have no room for a dimension above 16.
-fn open(dimension: usize, params: CuratorParams, next: usize) -> Carried
-    ensures { λ r. ⌜ r ≡ openedBy (created dimension params capacities) dimension next ⌝ }
-{
-    let room = Capacities {
-        vectors: 128,
-        entries: 256,
-        nodes: 512,
-    };
-    let answer = CuratorIndex::new(dimension, params, room);
-    match answer {
-        Changed::Refused(refusal) => Carried::Refused(refusal),
-        Changed::Index(index) => {
-            if 16 < dimension {
-                return Carried::Refused(Refusal::Settings(SettingsRefusal::InvalidConfig));
-            }
-            Carried::Silent {
-                loading: Loading::Running(index),
-                next,
-            }
-        }
-    }
 }
 
 // What an add comes to.
@@ -94,35 +68,52 @@ fn found(index: CuratorIndex, answer: Found, next: usize) -> Carried
     }
 }
 
-// The first record has to be settings.
-fn carry_first(file: &[u8], at: usize) -> Carried
-    ensures { λ r. ⌜ CarriesFirst (now (file .entry)) at r ⌝ }
+// Looks up the nearest: with a label where the search is filtered, else among all.
+fn find(
+    index: CuratorIndex,
+    floats: &[f32],
+    numbers: &[u32],
+    hashes: &[u64],
+    work: &mut [u32],
+    query: &[f32],
+    filtered: bool,
+    label: &[u8],
+    k: usize,
+    ids: &mut [u32],
+    distances: &mut [f32],
+) -> Found
+    ensures { λ r. ⌜ Searches index (lent (floats .entry) (numbers .entry) (hashes .entry)) (now (work .entry))
+        (looking (query .entry) k (ids .entry) (distances .entry) (asking filtered (now (label .entry))))
+        (leaving r (work .exit) (ids .exit) (distances .exit)) ⌝ }
 {
-    let reading = read_record(Known { dimension: 0 }, file, at);
-    let Reading::Found(located) = reading else {
-        return Carried::Refused(Refusal::Input(InputRefusal::BadRecord));
-    };
-    let Located::Settings {
-        dimension,
-        branching_factor,
-        max_leaf_size,
-        ef_search,
-        beam_width,
-        next,
-    } = located
-    else {
-        return Carried::Refused(Refusal::Input(InputRefusal::SettingsOrder));
-    };
-    let params = CuratorParams {
-        branching_factor,
-        max_leaf_size,
-        ef_search,
-        beam_width,
-    };
-    open(dimension, params, next)
+    if filtered {
+        return search::search_filtered(
+            index,
+            floats,
+            numbers,
+            hashes,
+            work,
+            query,
+            label,
+            k,
+            ids,
+            distances,
+        );
+    }
+    search::search(
+        index,
+        floats,
+        numbers,
+        hashes,
+        work,
+        query,
+        k,
+        ids,
+        distances,
+    )
 }
 
-// Builds, and looks up the nearest: with a label where the search is filtered, else among all.
+// Builds, and looks up the nearest.
 fn look_up(
     index: CuratorIndex,
     query: &[f32],
@@ -145,28 +136,15 @@ fn look_up(
     match built {
         Changed::Refused(refusal) => Carried::Refused(refusal),
         Changed::Index(ready) => {
-            if filtered {
-                let answer = search::search_filtered(
-                    ready,
-                    floats,
-                    numbers,
-                    hashes,
-                    work,
-                    query,
-                    label,
-                    k,
-                    ids,
-                    distances,
-                );
-                return found(ready, answer, next);
-            }
-            let answer = search::search(
+            let answer = find(
                 ready,
                 floats,
                 numbers,
                 hashes,
                 work,
                 query,
+                filtered,
+                label,
                 k,
                 ids,
                 distances,
@@ -176,140 +154,16 @@ fn look_up(
     }
 }
 
-// Carries out a record whose floats are `components`.
-fn carry_located(
-    index: CuratorIndex,
-    file: &[u8],
-    at: usize,
-    located: Located,
-    components: &[f32],
-    floats: &mut [f32],
-    numbers: &mut [u32],
-    hashes: &mut [u64],
-    work: &mut [u32],
-    ids: &mut [u32],
-    distances: &mut [f32],
-) -> Carried
-    requires { ⌜ WithComponents index (now file) at located (now components) ⌝ }
-    ensures { λ r. ⌜ CarriesNext index (now (file .entry)) at
-        (lists (floats .entry) (numbers .entry) (hashes .entry) (work .entry) (ids .entry) (distances .entry)) r
-        (lists (floats .exit) (numbers .exit) (hashes .exit) (work .exit) (ids .exit) (distances .exit)) ⌝ }
+// The floats that start at a place, in front.
+fn floats_at(file: &[u8], at: usize, count: usize) -> [f32; 16]
+    requires { ⌜ count ≤ 16 ⌝ }
+    requires { ⌜ at + 4 * count ≤ length (now file) ⌝ }
+    ensures room { λ r. ⌜ count ≤ length r ⌝ }
+    ensures front { λ r. ⌜ take count r ≡ File·floats (Decode·numbers count (drop at (now (file .entry)))) ⌝ }
 {
-    match located {
-        Located::Settings { .. } => Carried::Refused(Refusal::Input(InputRefusal::SettingsOrder)),
-        Located::Vector {
-            doc_id,
-            lengths_at,
-            labels_at,
-            floats_at,
-            next,
-        } => {
-            let lengths = &file[lengths_at..labels_at];
-            let labels = &file[labels_at..floats_at];
-            let answer = index.add(floats, numbers, hashes, doc_id, components, lengths, labels);
-            added(answer, next)
-        }
-        Located::Filtered {
-            k,
-            label_at,
-            floats_at,
-            next,
-        } => {
-            let label = &file[label_at..floats_at];
-            look_up(
-                index,
-                components,
-                true,
-                label,
-                k,
-                next,
-                floats,
-                numbers,
-                hashes,
-                work,
-                ids,
-                distances,
-            )
-        }
-        Located::Search { k, next, .. } => look_up(
-            index,
-            components,
-            false,
-            b"",
-            k,
-            next,
-            floats,
-            numbers,
-            hashes,
-            work,
-            ids,
-            distances,
-        ),
-    }
-}
-
-// Where the floats of a record stand, if it has any.
-enum Floats {
-    Absent,
-    At(usize),
-}
-
-fn floats_of(located: Located) -> Floats
-    ensures { λ r. ⌜ r ≡ floatsOf located ⌝ }
-{
-    match located {
-        Located::Settings { .. } => Floats::Absent,
-        Located::Vector { floats_at, .. } => Floats::At(floats_at),
-        Located::Filtered { floats_at, .. } => Floats::At(floats_at),
-        Located::Search { floats_at, .. } => Floats::At(floats_at),
-    }
-}
-
-// A record after the settings.
-fn carry_next(
-    index: CuratorIndex,
-    file: &[u8],
-    at: usize,
-    floats: &mut [f32],
-    numbers: &mut [u32],
-    hashes: &mut [u64],
-    work: &mut [u32],
-    ids: &mut [u32],
-    distances: &mut [f32],
-) -> Carried
-    requires { ⌜ index .dimension ≤ 16 ⌝ }
-    ensures { λ r. ⌜ CarriesNext index (now (file .entry)) at
-        (lists (floats .entry) (numbers .entry) (hashes .entry) (work .entry) (ids .entry) (distances .entry)) r
-        (lists (floats .exit) (numbers .exit) (hashes .exit) (work .exit) (ids .exit) (distances .exit)) ⌝ }
-{
-    let known = Known {
-        dimension: index.dimension,
-    };
-    let reading = read_record(known, file, at);
-    let Reading::Found(located) = reading else {
-        return Carried::Refused(Refusal::Input(InputRefusal::BadRecord));
-    };
-    let place = floats_of(located);
-    let Floats::At(floats_at) = place else {
-        return Carried::Refused(Refusal::Input(InputRefusal::SettingsOrder));
-    };
-    let start = 0;
-    let end = index.dimension;
-    let mut components: [f32; 16] = [0.0; 16];
-    read_floats(file, floats_at, &mut components[start..end]);
-    carry_located(
-        index,
-        file,
-        at,
-        located,
-        &components[start..end],
-        floats,
-        numbers,
-        hashes,
-        work,
-        ids,
-        distances,
-    )
+    let mut values: [f32; 16] = [0.0; 16];
+    read_floats(file, at, &mut values[..count]);
+    values
 }
 
 // The record at a place, if one is left.
@@ -329,24 +183,57 @@ pub fn carry(
         (lists (floats .entry) (numbers .entry) (hashes .entry) (work .entry) (ids .entry) (distances .entry)) r
         (lists (floats .exit) (numbers .exit) (hashes .exit) (work .exit) (ids .exit) (distances .exit)) ⌝ }
 {
-    if 65536 < file.len() {
-        return Carried::Refused(Refusal::Input(InputRefusal::FileTooLong));
-    }
-    if file.len() <= at {
-        return Carried::End;
-    }
-    match loading {
-        Loading::Unset => carry_first(file, at),
-        Loading::Running(index) => carry_next(
+    let task = task::task_at(loading, file, at);
+    match task {
+        Task::Done(carried) => carried,
+        Task::Add {
             index,
-            file,
-            at,
-            floats,
-            numbers,
-            hashes,
-            work,
-            ids,
-            distances,
-        ),
+            doc_id,
+            lengths_at,
+            labels_at,
+            place,
+            next,
+        } => {
+            let count = index.dimension;
+            let vector = floats_at(file, place, count);
+            let lengths = &file[lengths_at..labels_at];
+            let labels = &file[labels_at..place];
+            let answer = index.add(
+                floats,
+                numbers,
+                hashes,
+                doc_id,
+                &vector[..count],
+                lengths,
+                labels,
+            );
+            added(answer, next)
+        }
+        Task::Find {
+            index,
+            filtered,
+            label_at,
+            place,
+            k,
+            next,
+        } => {
+            let count = index.dimension;
+            let query = floats_at(file, place, count);
+            let label = &file[label_at..place];
+            look_up(
+                index,
+                &query[..count],
+                filtered,
+                label,
+                k,
+                next,
+                floats,
+                numbers,
+                hashes,
+                work,
+                ids,
+                distances,
+            )
+        }
     }
 }

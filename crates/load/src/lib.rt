@@ -9,6 +9,7 @@ use curator::CuratorIndex;
 
 mod carry;
 mod print;
+mod task;
 
 // How far a file has come: to its settings or not.
 pub enum Loading {

@@ -1,19 +1,29 @@
--- A refused build ends the record; after another, the search is the one that was asked for.
-use mathlib.Core.Bool.{Bool}
-use mathlib.Core.Path.{refl, ap}
-use Rattle.curator.specs.Arguments.{everything, labelled}
-use Rattle.load.specs.Code.{asking}
+-- A refused build ends the record; after another the nearest are looked up.
+use mathlib.Core.Path.{refl}
+use Rattle.load.specs.Step.{Lent}
+use Rattle.load.specs.Code.{lists}
 use Rattle.load.proofs.Laws.{build-refused, build-searched}
 use borrow.Author.Needs.{needs}
 use Rattle.load.proofs.carry.look_up.Statement.{statement}
 use Rattle.load.proofs.carry.look_up.Tie as tie
 
--- the function's entry, and the build, from where it is known to have an index
-abbrev start : tie.After-known-told2 → tie.Start
-start c = c .before .before .before .before .before .before .before .before .before .before .before .before .before .before .before .before .before .before .before .before .before .before .before .before
+-- the function's entry, and what it is lent
+abbrev start : tie.After-build → tie.Start
+start c = c .before .before .before .before .before .before .before .before .before .before .before .before .before
 
-abbrev building : tie.After-known-told2 → tie.After-build
-building c = c .before .before .before .before .before .before .before .before .before .before .before
+abbrev lent : tie.Start → Lent
+lent s = lists (s .args .floats) (s .args .numbers) (s .args .hashes) (s .args .work) (s .args .ids) (s .args .distances)
+
+-- the build, from where its answer is known
+abbrev refused : tie.After-known-told → tie.After-build
+refused c = c .before .before .before .before .before .before .before .before .before .before .before
+
+abbrev ready : tie.After-known-told2 → tie.After-build
+ready c = c .before .before .before .before .before .before .before .before .before .before .before
+
+-- where the nearest have been looked up, from there
+abbrev known : tie.After-find → tie.After-known-told2
+known c = c .before .before .before .before .before .before .before
 
 build-requires : tie.Need-build-requires
 build-requires c κs = search needs
@@ -24,8 +34,8 @@ enum-known-built c = search needs
 enum-known-built-2 : tie.Need-enum-known-built-2
 enum-known-built-2 c = search needs
 
-search-filtered-requires : tie.Need-search-filtered-requires
-search-filtered-requires c κs = search needs
+find-requires : tie.Need-find-requires
+find-requires c κs = search needs
 
 found-requires : tie.Need-found-requires
 found-requires c κs = search needs
@@ -42,26 +52,17 @@ same-length-3 c = search needs
 same-length-4 : tie.Need-same-length-4
 same-length-4 c = search needs
 
+returns : tie.Need-returns
+returns c =
+    let b = refused c in
+    let s = start b in
+    build-refused (s .args .index) _ (s .args .next) (lent s) _ (b .build .result) (c .before .built .given .0 .0) (b .build .ensures) (c .before .built .given .1) refl refl
+
 same-length-5 : tie.Need-same-length-5
 same-length-5 c = search needs
 
 same-length-6 : tie.Need-same-length-6
 same-length-6 c = search needs
-
-returns : tie.Need-returns
-returns c =
-    let t = c .before .before .before .before .before .before .before .before .before .before .before .before .before .before in
-    let v = t .before in
-    let s = start v in
-    let label = s .args .label .now in
-    build-searched (s .args .index) (s .args .query .now) (s .args .k) (s .args .filtered) label (labelled label) (s .args .next) _ _ _ _ _ _ _ (ap (λ (b : Bool). asking b label) (t .if1 .taken))
-    (building v .build .ensures) (v .before .built2 .given .1) (c .before .before .before .before .before .before .before .search-filtered .ensures) (c .found .ensures)
-
-search-requires : tie.Need-search-requires
-search-requires c κs = search needs
-
-found-requires-2 : tie.Need-found-requires-2
-found-requires-2 c κs = search needs
 
 same-length-7 : tie.Need-same-length-7
 same-length-7 c = search needs
@@ -76,34 +77,13 @@ same-length-10 : tie.Need-same-length-10
 same-length-10 c = search needs
 
 returns-2 : tie.Need-returns-2
-returns-2 c = build-refused _ _ _ _ _ _ _ (c .before .before .before .before .before .before .before .before .before .before .before .build .ensures) (c .before .built .given .1) refl refl
-
-same-length-11 : tie.Need-same-length-11
-same-length-11 c = search needs
-
-same-length-12 : tie.Need-same-length-12
-same-length-12 c = search needs
-
-same-length-13 : tie.Need-same-length-13
-same-length-13 c = search needs
-
-same-length-14 : tie.Need-same-length-14
-same-length-14 c = search needs
-
-same-length-15 : tie.Need-same-length-15
-same-length-15 c = search needs
-
-same-length-16 : tie.Need-same-length-16
-same-length-16 c = search needs
-
-returns-3 : tie.Need-returns-3
-returns-3 c =
-    let t = c .before .before .before .before .before .before .before .before .before .before .before .before .before .before in
-    let v = t .before in
-    let s = start v in
-    let label = s .args .label .now in
-    build-searched (s .args .index) (s .args .query .now) (s .args .k) (s .args .filtered) label everything (s .args .next) _ _ _ _ _ _ _ (ap (λ (b : Bool). asking b label) (t .if1 .left))
-    (building v .build .ensures) (v .before .built2 .given .1) (c .before .before .before .before .before .before .before .search .ensures) (c .found2 .ensures)
+returns-2 c =
+    let f = c .before .before .before .before .before .before .before in
+    let k = known f in
+    let b = ready k in
+    let s = start b in
+    build-searched (s .args .index) _ (s .args .next) (lent s) _ (b .build .result) (k .before .built2 .given .0 .0) _ (f .find .result) (c .found .result)
+    (b .build .ensures) (k .before .built2 .given .1) (f .find .ensures) (c .found .ensures)
 
 pub look-up-spec : {M : Type 1} → statement M
 look-up-spec =
@@ -112,26 +92,17 @@ look-up-spec =
     build-requires
     enum-known-built
     enum-known-built-2
-    search-filtered-requires
+    find-requires
     found-requires
     same-length
     same-length-2
     same-length-3
     same-length-4
+    returns
     same-length-5
     same-length-6
-    returns
-    search-requires
-    found-requires-2
     same-length-7
     same-length-8
     same-length-9
     same-length-10
-    returns-2
-    same-length-11
-    same-length-12
-    same-length-13
-    same-length-14
-    same-length-15
-    same-length-16
-    returns-3)
+    returns-2)

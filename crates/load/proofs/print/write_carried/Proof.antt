@@ -1,5 +1,5 @@
 -- Nothing is printed but of a refusal and of an answer: its hits, then its closing line.
-use mathlib.Core.Path.{refl, sym, ap, _∙_, subst}
+use mathlib.Core.Path.{_≡_, refl, sym, ap, subst}
 use Prim.Native.Nat.{ℕ}
 use native.Mathlib.Omega.{arith}
 use mathlib.Core.List.{List, []}
@@ -18,15 +18,32 @@ use Rattle.load.proofs.print.write_carried.Tie as tie
 nothing : (l : List ℕ) → Written l 0 [] l 0
 nothing l = written l 0 [] l 0 refl (omega arith) (omega arith)
 
--- the function's entry, from where the record is known to be answered, and room for its hits
-abbrev start : tie.After-carried2 → tie.Start
-start c = c .before .before .before .before .before
+-- the function's entry, by what came of the record
+abbrev start : tie.After-shared-slice-known2 → tie.Start
+start c = c .before .before .before
+
+text-as : (s : tie.Start) {x : Carried} {l : List ℕ} {n : ℕ} → s .args .carried ≡ x
+    → Written (s .args .out .now) 0 (carriedText x (s .args .ids .now) (s .args .distances .now)) l n
+    → Written (s .args .out .now) 0 (carriedText (s .args .carried) (s .args .ids .now) (s .args .distances .now)) l n
+text-as s e w = written-text (ap (λ (x : Carried). carriedText x (s .args .ids .now) (s .args .distances .now)) (sym e)) w
+
+-- where it was refused
+abbrev refused : tie.After-carried → tie.Start
+refused c = start (c .before .before)
+
+-- and where it was answered: room for its hits
+abbrev found : tie.After-carried2 → tie.Start
+found c = start (c .before .before)
 
 abbrev answered : tie.After-carried2 → Carried
 answered c = let v = c .carried2 .given .0 in Answered (v .0) (v .1 .0) (v .1 .1 .0) (v .1 .1 .1 .0) (v .1 .1 .1 .1 .0)
 
-fit : (c : tie.After-carried2) → HitsFit (answered c) (start c .args .ids .now) (start c .args .distances .now)
-fit c = subst (λ (x : Carried). HitsFit x (start c .args .ids .now) (start c .args .distances .now)) (c .carried2 .given .1) (start c .pre .0)
+fit : (c : tie.After-carried2) → HitsFit (answered c) (found c .args .ids .now) (found c .args .distances .now)
+fit c = subst (λ (x : Carried). HitsFit x (found c .args .ids .now) (found c .args .distances .now)) (c .carried2 .given .1) (found c .pre .0)
+
+-- from where the hits have been written
+abbrev hits : tie.After-write-hits → tie.After-carried2
+hits c = c .before .before .before
 
 enum-told : tie.Need-enum-told
 enum-told c = search needs
@@ -48,22 +65,22 @@ enum-known-carried-2 c = search needs
 
 write-hits-requires : tie.Need-write-hits-requires
 write-hits-requires c κs =
-    let f = fit (c .before .before) in
-    (omega (arith, f .0, start (c .before .before) .pre .1), f)
+    let k = c .before .before in
+    let f = fit k in
+    (omega (arith, f .0, found k .pre .1), f)
 
 write-closing-requires : tie.Need-write-closing-requires
 write-closing-requires c κs =
-    let k = c .before .before .before .before .before .before in
+    let h = c .before .before .before in
+    let k = hits h in
     let f = fit k in
-    let s = start k in
-    let w = c .before .before .before .write-hits .ensures in
+    let s = found k in
+    let w = h .write-hits .ensures in
     let few = hits-le (s .args .ids .now) (s .args .distances .now) (λ i. omega (arith, k .before .before .before .shared-slice-known .given i)) (k .carried2 .given .0 .1 .1 .0) in
     omega (arith, f .0, s .pre .1, w .end, length-written w, few)
 
 returns : tie.Need-returns
-returns c =
-    let s = c .before .before .before .before .before in
-    written-text (ap (λ (x : Carried). carriedText x (s .args .ids .now) (s .args .distances .now)) (sym (c .enum-told .given .1))) (nothing (s .args .out .now))
+returns c = let s = start (c .before .before) in text-as s (c .enum-told .given .1) (nothing (s .args .out .now))
 
 same-length : tie.Need-same-length
 same-length c = search needs
@@ -71,24 +88,22 @@ same-length c = search needs
 returns-2 : tie.Need-returns-2
 unfolding refusedText
 returns-2 c =
-    let s = c .before .before .before .before .before .before .before .before .before .before .before in
-    written-text (ap refusedLine (c .before .before .before .number .ensures) ∙ ap (λ (x : Carried). carriedText x (s .args .ids .now) (s .args .distances .now)) (sym (c .before .before .before .before .before .before .carried .given .1)))
-    (c .before .before .write-refused .ensures)
+    let w = c .before .before in
+    let k = w .before .before .before .before in
+    text-as (refused k) (k .carried .given .1) (written-text (ap refusedLine (w .before .number .ensures)) (w .write-refused .ensures))
 
 returns-3 : tie.Need-returns-3
-returns-3 c =
-    let s = c .before .before .before .before .before in
-    written-text (ap (λ (x : Carried). carriedText x (s .args .ids .now) (s .args .distances .now)) (sym (c .enum-told2 .given .1))) (nothing (s .args .out .now))
+returns-3 c = let s = start (c .before .before) in text-as s (c .enum-told2 .given .1) (nothing (s .args .out .now))
 
 same-length-2 : tie.Need-same-length-2
 same-length-2 c = search needs
 
 returns-4 : tie.Need-returns-4
 returns-4 c =
-    let k = c .before .before .before .before .before .before .before .before .before in
-    let s = start k in
-    written-text (ap (λ (x : Carried). carriedText x (s .args .ids .now) (s .args .distances .now)) (sym (k .carried2 .given .1)))
-    (written-then (c .before .before .before .before .before .before .write-hits .ensures) (c .before .before .write-closing .ensures))
+    let w = c .before .before in
+    let h = w .before .before .before .before in
+    let k = hits h in
+    text-as (found k) (k .carried2 .given .1) (written-then (h .write-hits .ensures) (w .write-closing .ensures))
 
 pub write-carried-spec : {M : Type 1} → statement M
 write-carried-spec =

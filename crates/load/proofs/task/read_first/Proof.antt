@@ -9,8 +9,8 @@ use Rattle.load.specs.declared.Loading.the-variants.{Unset}
 use Rattle.load.specs.Step.{known}
 use Rattle.load.proofs.Laws.{stands-carried, bad-carried, first-misplaced}
 use borrow.Author.Needs.{needs}
-use Rattle.load.proofs.carry.carry_first.Statement.{statement}
-use Rattle.load.proofs.carry.carry_first.Tie as tie
+use Rattle.load.proofs.task.read_first.Statement.{statement}
+use Rattle.load.proofs.task.read_first.Tie as tie
 
 read-record-requires : tie.Need-read-record-requires
 read-record-requires c κs = search needs
@@ -56,8 +56,8 @@ returns-3 c =
     (subst (Reads (known Unset) file (s .args .at)) (found .reading .given .1) (read .read-record .ensures)))
     (c .«open» .ensures, refl)
 
-pub carry-first-spec : {M : Type 1} → statement M
-carry-first-spec =
+pub read-first-spec : {M : Type 1} → statement M
+read-first-spec =
     tie.close
     (tie.spec
     read-record-requires

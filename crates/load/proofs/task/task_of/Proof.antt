@@ -1,9 +1,9 @@
 -- By the kinds of records.
 use mathlib.Core.Path.{sym, ap}
-use Rattle.load.specs.Code.{floatsOf}
+use Rattle.load.specs.Code.{taskOf}
 use borrow.Author.Needs.{needs}
-use Rattle.load.proofs.carry.floats_of.Statement.{statement}
-use Rattle.load.proofs.carry.floats_of.Tie as tie
+use Rattle.load.proofs.task.task_of.Statement.{statement}
+use Rattle.load.proofs.task.task_of.Tie as tie
 
 enum-told : tie.Need-enum-told
 enum-told c = search needs
@@ -18,19 +18,19 @@ enum-known-located-3 : tie.Need-enum-known-located-3
 enum-known-located-3 c = search needs
 
 returns : tie.Need-returns
-returns c = search needs
+returns c = ap (taskOf (c .before .before .args .index)) (sym (c .enum-told .given .1))
 
 returns-2 : tie.Need-returns-2
-returns-2 c = ap floatsOf (sym (c .before .located .given .1))
+returns-2 c = ap (taskOf (c .before .before .before .args .index)) (sym (c .before .located .given .1))
 
 returns-3 : tie.Need-returns-3
-returns-3 c = ap floatsOf (sym (c .before .located2 .given .1))
+returns-3 c = ap (taskOf (c .before .before .before .args .index)) (sym (c .before .located2 .given .1))
 
 returns-4 : tie.Need-returns-4
-returns-4 c = ap floatsOf (sym (c .before .located3 .given .1))
+returns-4 c = ap (taskOf (c .before .before .before .args .index)) (sym (c .before .located3 .given .1))
 
-pub floats-of-spec : {M : Type 1} → statement M
-floats-of-spec =
+pub task-of-spec : {M : Type 1} → statement M
+task-of-spec =
     tie.close
     (tie.spec
     enum-told

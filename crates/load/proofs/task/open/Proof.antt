@@ -2,8 +2,8 @@
 use mathlib.Core.Path.{sym, _∙_}
 use Rattle.load.proofs.Laws.{open-refused, open-wide, open-narrow}
 use borrow.Author.Needs.{needs}
-use Rattle.load.proofs.carry.open.Statement.{statement}
-use Rattle.load.proofs.carry.open.Tie as tie
+use Rattle.load.proofs.task.open.Statement.{statement}
+use Rattle.load.proofs.task.open.Tie as tie
 
 new-requires : tie.Need-new-requires
 new-requires c κs = search needs

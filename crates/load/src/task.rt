@@ -1,0 +1,171 @@
+// What a record asks for: found with no list lent.
+ghost use mathlib.Core.Path.{_≡_};
+ghost use Prim.Native.Nat.{_≤_};
+ghost use Rattle.curator.specs.Changes.{created};
+ghost use Rattle.load.specs.File.{capacities};
+ghost use Rattle.load.specs.Step.{Carries, openedBy};
+ghost use Rattle.load.specs.Code.{Narrow, CarriesFirst, CarriesNext, Asks, taskOf};
+use crate::Loading;
+use crate::carry::Carried;
+use settings::Capacities;
+use curator::Changed;
+use curator::CuratorIndex;
+use settings::CuratorParams;
+use settings::refusal::InputRefusal;
+use settings::refusal::Refusal;
+use settings::refusal::SettingsRefusal;
+use echo_file::Known;
+use echo_file::Located;
+use echo_file::Reading;
+use echo_file::read_record;
+
+// What there is to do: no more than what came of the record, an add, or a search. Its floats start at `place`.
+pub enum Task {
+    Done(Carried),
+    Add {
+        index: CuratorIndex,
+        doc_id: u32,
+        lengths_at: usize,
+        labels_at: usize,
+        place: usize,
+        next: usize,
+    },
+    Find {
+        index: CuratorIndex,
+        filtered: bool,
+        label_at: usize,
+        place: usize,
+        k: usize,
+        next: usize,
+    },
+}
+
+// Settings that come first open the index. The lists have no room for a dimension above 16.
+fn open(dimension: usize, params: CuratorParams, next: usize) -> Carried
+    ensures { λ r. ⌜ r ≡ openedBy (created dimension params capacities) dimension next ⌝ }
+{
+    let room = Capacities {
+        vectors: 128,
+        entries: 256,
+        nodes: 512,
+    };
+    let answer = CuratorIndex::new(dimension, params, room);
+    match answer {
+        Changed::Refused(refusal) => Carried::Refused(refusal),
+        Changed::Index(index) => {
+            if 16 < dimension {
+                return Carried::Refused(Refusal::Settings(SettingsRefusal::InvalidConfig));
+            }
+            Carried::Silent {
+                loading: Loading::Running(index),
+                next,
+            }
+        }
+    }
+}
+
+// The first record has to be settings.
+fn read_first(file: &[u8], at: usize) -> Carried
+    ensures { λ r. ⌜ CarriesFirst (now (file .entry)) at r ⌝ }
+{
+    let reading = read_record(Known { dimension: 0 }, file, at);
+    let Reading::Found(located) = reading else {
+        return Carried::Refused(Refusal::Input(InputRefusal::BadRecord));
+    };
+    let Located::Settings {
+        dimension,
+        branching_factor,
+        max_leaf_size,
+        ef_search,
+        beam_width,
+        next,
+    } = located
+    else {
+        return Carried::Refused(Refusal::Input(InputRefusal::SettingsOrder));
+    };
+    let params = CuratorParams {
+        branching_factor,
+        max_leaf_size,
+        ef_search,
+        beam_width,
+    };
+    open(dimension, params, next)
+}
+
+// Of a record after the settings.
+fn task_of(index: CuratorIndex, located: Located) -> Task
+    ensures { λ r. ⌜ r ≡ taskOf index located ⌝ }
+{
+    match located {
+        Located::Settings { .. } => {
+            Task::Done(Carried::Refused(Refusal::Input(InputRefusal::SettingsOrder)))
+        }
+        Located::Vector {
+            doc_id,
+            lengths_at,
+            labels_at,
+            floats_at,
+            next,
+        } => Task::Add {
+            index,
+            doc_id,
+            lengths_at,
+            labels_at,
+            place: floats_at,
+            next,
+        },
+        Located::Filtered {
+            k,
+            label_at,
+            floats_at,
+            next,
+        } => Task::Find {
+            index,
+            filtered: true,
+            label_at,
+            place: floats_at,
+            k,
+            next,
+        },
+        Located::Search { k, floats_at, next } => Task::Find {
+            index,
+            filtered: false,
+            label_at: floats_at,
+            place: floats_at,
+            k,
+            next,
+        },
+    }
+}
+
+// A record after the settings.
+fn read_next(index: CuratorIndex, file: &[u8], at: usize) -> Task
+    requires { ⌜ index .dimension ≤ 16 ⌝ }
+    ensures { λ r. ⌜ Asks (now (file .entry)) (CarriesNext index (now (file .entry)) at) r ⌝ }
+{
+    let known = Known {
+        dimension: index.dimension,
+    };
+    let reading = read_record(known, file, at);
+    let Reading::Found(located) = reading else {
+        return Task::Done(Carried::Refused(Refusal::Input(InputRefusal::BadRecord)));
+    };
+    task_of(index, located)
+}
+
+// The record at a place, if one is left.
+pub fn task_at(loading: Loading, file: &[u8], at: usize) -> Task
+    requires { ⌜ Narrow loading ⌝ }
+    ensures { λ r. ⌜ Asks (now (file .entry)) (Carries (now (file .entry)) at loading) r ⌝ }
+{
+    if 65536 < file.len() {
+        return Task::Done(Carried::Refused(Refusal::Input(InputRefusal::FileTooLong)));
+    }
+    if file.len() <= at {
+        return Task::Done(Carried::End);
+    }
+    match loading {
+        Loading::Unset => Task::Done(read_first(file, at)),
+        Loading::Running(index) => read_next(index, file, at),
+    }
+}
