@@ -76,9 +76,9 @@ module _ (s : Setting) (allowed : Allowed s) (m : Model) (front rest front′ : 
   unfolding AddsBy changedBy nextIndex
   ends (Check′.Refused r) e by =
       let same : joinStores front rest ≡ joinStores front′ rest = ap (λ (f : Store). joinStores f rest) (sym (by .1)) in (
-        ap changedNumber (by .0),
+        by .0 .number-is,
         record {
-          state = ap (nextIndex (stateOf s m)) (by .0);
+          state = ap (nextIndex (stateOf s m)) (refused-is r answer (by .0));
           within = inv .within;
           held = subst (Held s m) same (inv .held);
           laid = λ b. subst (Laid s m) same (inv .laid b);
@@ -92,9 +92,9 @@ module _ (s : Setting) (allowed : Allowed s) (m : Model) (front rest front′ : 
       let w : Within s m′ = within-added s m call front (found .unbuilt) room in
       let long′ : Long (settingShape s) (lengthsOf front′) =
       subst (Long (settingShape s)) (wrote-lengths (stateOf s m) front call front′ (by .1)) (room .long) in (
-        ap changedNumber (by .0),
+        by .0 .number-is,
         record {
-          state = ap (nextIndex (stateOf s m)) (by .0) ∙ state-added s m call (found .unbuilt);
+          state = ap (nextIndex (stateOf s m)) (carried-is (grown (stateOf s m) (length (call .lengths))) answer (by .0)) ∙ state-added s m call (found .unbuilt);
           within = w;
           held = held-back s m′ front′ rest w long′ h′;
           laid = λ b. absurd (false≢true (sym (found .unbuilt) ∙ b));
@@ -137,9 +137,9 @@ add-lengths index store call answer store′ Check′.Fine by = wrote-lengths in
 
 add-by : (index : CuratorIndex) (store : Store) (call : AddCall) (c : Check) → (answer : Changed) × (store′ : Store) × AddsBy c index store call answer store′
 unfolding AddsBy
-add-by index store call (Check′.Refused r) = (Changed′.Refused r, store, (refl, refl))
+add-by index store call (Check′.Refused r) = (Changed′.Refused r, store, (is-refused r (Changed′.Refused r) refl, refl))
 add-by index store call Check′.Fine =
-    let w = writes index store call in (Changed′.Index (grown index (length (call .lengths))), w .0, (refl, w .1))
+    let w = writes index store call in (Changed′.Index (grown index (length (call .lengths))), w .0, (is-carried _ _ refl, w .1))
 
 add-outcome : (index : CuratorIndex) (store : Store) (work : List ℕ) (call : AddCall) → ChangeOutcome index store work (add call)
 unfolding Adds

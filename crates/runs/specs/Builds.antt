@@ -111,7 +111,7 @@ module _ (s : Setting) (allowed : Allowed s) (m : Model) (work work′ : List �
       let same : SameHeld s (joinStores front rest) (joinStores front′ rest) =
       agree-join (rowsEnd s) front front′ rest lengths (left-held s front front′ work work′ r (by .1)) in
       record {
-        state = ap (nextIndex (stateOf s m)) (by .0);
+        state = ap (nextIndex (stateOf s m)) (refused-is r answer (by .0));
         within = inv .within;
         held = held-same s m (joinStores front rest) (joinStores front′ rest) (inv .within) same (inv .held);
         laid = λ b.
@@ -125,10 +125,10 @@ module _ (s : Setting) (allowed : Allowed s) (m : Model) (work work′ : List �
   unfolding BuildsFine nextIndex
   fine-ends true b e by =
       let same : joinStores front rest ≡ joinStores front′ rest = ap (λ (f : Store). joinStores f rest) (sym (by .1)) in (
-        ap changedNumber (by .0),
+        by .0 .number-is,
         subst (λ (x : Model). Invariant s x (nextIndex (stateOf s m) answer) (joinStores front′ rest)) (sym (built-again m b))
             (record {
-              state = ap (nextIndex (stateOf s m)) (by .0);
+              state = ap (nextIndex (stateOf s m)) (carried-is (stateOf s m) answer (by .0));
               within = inv .within;
               held = subst (Held s m) same (inv .held);
               laid = λ t. subst (Laid s m) same (inv .laid t);
@@ -145,9 +145,9 @@ module _ (s : Setting) (allowed : Allowed s) (m : Model) (work work′ : List �
       let h′ : Held s m front′ = held-same s m front front′ (inv .within) (built-held s m front front′ work work′ facts (room .long) h out) h in
       let all = joinStores front′ rest in
       let count : length (heldNodes (stateOf s m) front) ≡ nodeCount s m = ap length (held-nodes s m front h) ∙ facts .count in (
-        ap changedNumber (by .0),
+        by .0 .number-is,
         record {
-          state = ap (nextIndex (stateOf s m)) (by .0) ∙ state-built s m (length (heldNodes (stateOf s m) front)) count;
+          state = ap (nextIndex (stateOf s m)) (carried-is (builtWith (stateOf s m) (length (heldNodes (stateOf s m) front))) answer (by .0)) ∙ state-built s m (length (heldNodes (stateOf s m) front)) count;
           within = within-rows s m (inv .within) (room .rows) (room .nodes);
           held = held-rows s m all (held-back s m front′ rest (inv .within) long′ h′);
           laid = λ t. laid-rows s m all (laid-same s m front′ all facts (agree-sym (long-same s front′ rest long′)) l);
@@ -157,7 +157,7 @@ module _ (s : Setting) (allowed : Allowed s) (m : Model) (work work′ : List �
   ends : (c : Check) → check ≡ c → BuildsBy c (stateOf s m) front work answer front′ work′
       → (changedNumber answer ≡ checkNumber c) × Invariant s (changedBy c build m) (nextIndex (stateOf s m) answer) (joinStores front′ rest)
   unfolding BuildsBy changedBy
-  ends (Check′.Refused r) e by = (ap changedNumber (by .0), refused-ends r e by)
+  ends (Check′.Refused r) e by = (by .0 .number-is, refused-ends r e by)
   ends Check′.Fine e by = fine-ends (m .built) refl e by
 
   build-keeps : Builds (stateOf s m) front work answer front′ work′
@@ -205,16 +205,16 @@ module _ (index : CuratorIndex) (store : Store) (work : List ℕ) (answer : Chan
 build-fine : (index : CuratorIndex) (store : Store) (work : List ℕ) (b : Bool)
     → (answer : Changed) × (store′ : Store) × (work′ : List ℕ) × BuildsFine b index store work answer store′ work′
 unfolding BuildsFine
-build-fine index store work true = (Changed′.Index index, store, work, (refl, refl, refl))
+build-fine index store work true = (Changed′.Index index, store, work, (is-carried index (Changed′.Index index) refl, refl, refl))
 build-fine index store work false =
-    let out = lays-out index store work in (Changed′.Index (builtWith index (length (heldNodes index store))), out .0, out .1, (refl, out .2))
+    let out = lays-out index store work in (Changed′.Index (builtWith index (length (heldNodes index store))), out .0, out .1, (is-carried _ _ refl, out .2))
 
 build-by : (index : CuratorIndex) (store : Store) (work : List ℕ) (c : Check)
     → (answer : Changed) × (store′ : Store) × (work′ : List ℕ) × BuildsBy c index store work answer store′ work′
 unfolding BuildsBy
 build-by index store work Check′.Fine = build-fine index store work (index .built)
 build-by index store work (Check′.Refused r) =
-    let left = leaves (indexShape index) r store work in (Changed′.Refused r, left .0, left .1, (refl, left .2))
+    let left = leaves (indexShape index) r store work in (Changed′.Refused r, left .0, left .1, (is-refused r (Changed′.Refused r) refl, left .2))
 
 build-outcome : (index : CuratorIndex) (store : Store) (work : List ℕ) → ChangeOutcome index store work build
 unfolding Builds

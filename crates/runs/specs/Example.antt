@@ -120,7 +120,8 @@ typed =
 
 pub example-run : (ends : List Ended) × Run (sample 5 5) calls ends
 unfolding created
-example-run = every-run (sample 5 5) (fresh 2 (sample 5 5 .params) (sample 5 5 .capacities)) refl calls typed
+example-run = every-run (sample 5 5) (fresh 2 (sample 5 5 .params) (sample 5 5 .capacities))
+    (is-created 2 (sample 5 5 .params) (sample 5 5 .capacities) _ refl) calls typed
 
 -- so in every run the eighth call finds 7 and 9 and is whole
 eighth-expected : expected (sample 5 5) (modelFrom (sample 5 5) emptyModel (take 7 calls)) (searches 0 nan 4 label-a) ≡ hits (7 ∷ 9 ∷ []) (0 ∷ 0x3ecccccc ∷ []) 5 true

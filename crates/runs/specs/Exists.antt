@@ -20,7 +20,7 @@ use Rattle.curator.specs.declared.Found.the-variants as Found′
 use Rattle.settings.specs.declared.refusal.Refusal.the-variants as Refusal′
 use Rattle.settings.specs.declared.refusal.StoreRefusal.the-variants as StoreRefusal′
 use Rattle.curator.specs.Limits.{indexShape}
-use Rattle.curator.specs.Changes.{workPart, created}
+use Rattle.curator.specs.Changes.{workPart, Creates}
 use Rattle.curator.specs.Searches.{SearchEnd, wantedOf, Searches, SearchesBy, searchCheck, WalkedTo}
 use Rattle.curator.specs.Arguments.{SearchCall}
 use Rattle.runs.specs.Calls.{Call, change, search, TypedCall, AllTyped}
@@ -41,19 +41,19 @@ unfolding WalkedTo
 walked-by index work call damaged =
     let w = freed 0 (workPart (indexShape index) ∷ []) work in (
       record { answer = Found′.Refused (Refusal′.Store StoreRefusal′.Damaged); work = w .0; ids = call .ids; distances = call .distances },
-      record { answer = refl; work = w .1; ids = refl; distances = refl },
+      record { answer = is-search-refused _ _ refl; work = w .1; ids = refl; distances = refl },
     )
 walked-by index work call (going p) =
     let w = freed 0 (workPart (indexShape index) ∷ []) work in
     let a = answer (call .k) p in (
       record { answer = Found′.Hits (length (a .ids)) (a .opened) (a .complete); work = w .0; ids = sets (call .ids) 0 (a .ids); distances = sets (call .distances) 0 (a .distances) },
-      record { answer = refl; work = w .1; ids = refl; distances = refl },
+      record { answer = is-found _ _ _ _ refl; work = w .1; ids = refl; distances = refl },
     )
 
 search-by : (index : CuratorIndex) (store : Store) (work : List ℕ) (call : SearchCall) (c : Check) → (end : SearchEnd) × SearchesBy c index store work call end
 unfolding SearchesBy
 search-by index store work call (Check′.Refused r) =
-    (record { answer = Found′.Refused r; work = work; ids = call .ids; distances = call .distances }, record { answer = refl; work = refl; ids = refl; distances = refl })
+    (record { answer = Found′.Refused r; work = work; ids = call .ids; distances = call .distances }, record { answer = is-search-refused r (Found′.Refused r) refl; work = refl; ids = refl; distances = refl })
 search-by index store work call Check′.Fine =
     let view = storeView (indexShape index) (index .counts) store (normalized (call .question .query)) (wantedOf (call .question .asked)) in
     let r = walked-by index work call (walk view (index .params .«ef_search»)) in
@@ -144,7 +144,7 @@ run-from index store (call ∷ calls) t f =
     (o .end ∷ r .0, next (o .step) (r .1))
 
 -- from any lists of which no call is lent more than they have
-pub run-exists : (s : Setting) (index : CuratorIndex) → created (s .dimension) (s .params) (s .capacities) ≡ Changed′.Index index → (store : Store) (calls : List Call)
+pub run-exists : (s : Setting) (index : CuratorIndex) → Creates (s .dimension) (s .params) (s .capacities) (Changed′.Index index) → (store : Store) (calls : List Call)
     → AllTyped calls → AllFit (lengthsOf store) calls → (ends : List Ended) × Run s calls ends
 run-exists s index e store calls t f =
     let r = run-from index store calls t f in
@@ -160,7 +160,7 @@ all-fit [] lengths f = tt
 all-fit (call ∷ calls) lengths f = let (one, others) = both-fit (frontsOf call) (lentInAll calls) lengths f in (one, all-fit calls lengths others)
 
 -- Every list of calls has a run, for every setting that `new` accepts; that document ids are u32s is by the type of the argument.
-pub every-run : (s : Setting) (index : CuratorIndex) → created (s .dimension) (s .params) (s .capacities) ≡ Changed′.Index index → (calls : List Call) → AllTyped calls
+pub every-run : (s : Setting) (index : CuratorIndex) → Creates (s .dimension) (s .params) (s .capacities) (Changed′.Index index) → (calls : List Call) → AllTyped calls
     → (ends : List Ended) × Run s calls ends
 every-run s index e calls t =
     let n = lentInAll calls in

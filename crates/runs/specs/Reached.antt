@@ -168,7 +168,7 @@ search-number fronts work call (changed answer) (Check′.Refused r) walked h = 
 search-number fronts work call (found end) (Check′.Refused r) walked h = h .0
 search-number fronts work call end Check′.Fine damaged h = absurd h
 search-number fronts work call (changed answer) Check′.Fine (going p) h = absurd h
-search-number fronts work call (found end) Check′.Fine (going p) h = ap foundNumber (h .0)
+search-number fronts work call (found end) Check′.Fine (going p) h = h .0 .number-is
 
 pub numbered : (s : Setting) (m : Model) (call : Call) (end : Ended) → Matches (expected s m call) call end → endNumber end ≡ checkNumber (modelCheck s m call)
 unfolding expected modelCheck
@@ -192,7 +192,8 @@ never s m call end h = let o = subst Other (sym (numbered s m call end h)) (call
 answered-one : (end : Ended) (reply reply′ : Reply) → AnsweredWith end reply → AnsweredWith end reply′ → reply ≡ reply′
 answered-one (changed answer) reply reply′ h k = absurd h
 answered-one (found end) reply reply′ h k =
-    let same : Hits (reply .hits) (reply .opened) (reply .complete) ≡ Hits (reply′ .hits) (reply′ .opened) (reply′ .complete) = sym (h .0) ∙ k .0 in
+    let same : Hits (reply .hits) (reply .opened) (reply .complete) ≡ Hits (reply′ .hits) (reply′ .opened) (reply′ .complete) =
+    sym (found-is (reply .hits) (reply .opened) (reply .complete) (end .answer) (h .0)) ∙ found-is (reply′ .hits) (reply′ .opened) (reply′ .complete) (end .answer) (k .0) in
     let hits : reply .hits ≡ reply′ .hits = cc in
     let opened : reply .opened ≡ reply′ .opened = cc in
     let complete : reply .complete ≡ reply′ .complete = cc in
@@ -202,7 +203,7 @@ answered-one (found end) reply reply′ h k =
 not-refused : (fronts : Lengths) (work : List ℕ) (call : SearchCall) (n : ℕ) (end : Ended) (reply : Reply) → Matches (returns n) (search fronts work call) end
     → AnsweredWith end reply → 0 ≡ n
 not-refused fronts work call n (changed answer) reply h k = absurd h
-not-refused fronts work call n (found end) reply h k = ap foundNumber (sym (k .0)) ∙ h .0
+not-refused fronts work call n (found end) reply h k = sym (k .0 .number-is) ∙ h .0
 
 -- a change is none
 pub not-answered : (fronts : Lengths) (work : List ℕ) (c : Change) (n : ℕ) (end : Ended) (reply : Reply) → Matches (returns n) (change fronts work c) end

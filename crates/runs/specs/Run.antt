@@ -8,7 +8,7 @@ use Rattle.store.specs.Lent.{lengthsOf, joinStores}
 use Rattle.curator.specs.declared.CuratorIndex.{CuratorIndex}
 use Rattle.curator.specs.declared.Changed.{Changed}
 use Rattle.curator.specs.declared.Changed.the-variants.{Index, Refused}
-use Rattle.curator.specs.Changes.{created, Adds, Builds}
+use Rattle.curator.specs.Changes.{Creates, Adds, Builds}
 use Rattle.curator.specs.Searches.{SearchEnd, Searches}
 use Rattle.curator.specs.Arguments.{SearchCall}
 use Rattle.runs.specs.Calls.{Change, add, build, Call, change, search, Typed}
@@ -75,6 +75,6 @@ pub data RunFrom : CuratorIndex → Store → List Call → List Ended → Type 
 -- 'A run begins with the state from an accepted `new` and with lists of any length and content.'
 pub record Run (setting : Setting) (calls : List Call) (ends : List Ended) : Type 0 where
   pub index : CuratorIndex
-  pub accepted : created (setting .dimension) (setting .params) (setting .capacities) ≡ Index index
+  pub accepted : Creates (setting .dimension) (setting .params) (setting .capacities) (Index index)
   pub store : Store
   pub run : RunFrom index store calls ends

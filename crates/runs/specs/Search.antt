@@ -81,7 +81,7 @@ module _ (s : Setting) (allowed : Allowed s) (m : Model) (front rest : Store) (i
   ends : (c : Check) → modelSearchCheck s m (lengthsOf front) (length work) call ≡ c → SearchesBy c (stateOf s m) front work call end
       → Matches (searchedBy c (call .k) (modelWalk s m (call .question))) (search (lengthsOf front) work call) (found end)
   unfolding SearchesBy searchedBy
-  ends (Check′.Refused r) e by = (ap foundNumber (by .answer), record { ids = by .ids; distances = by .distances })
+  ends (Check′.Refused r) e by = (by .answer .number-is, record { ids = by .ids; distances = by .distances })
   ends Check′.Fine e by =
       let room : SearchRoom s m (lengthsOf front) call = search-room s m (lengthsOf front) (length work) call e in
       walked-holds (lengthsOf front) (modelWalk s m (call .question)) refl

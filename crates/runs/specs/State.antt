@@ -15,7 +15,7 @@ use Rattle.curator.specs.declared.Changed.the-variants as Changed′
 use Rattle.curator.specs.Limits.{stateSound}
 use Rattle.settings.specs.Limits.{builtAllowed}
 use Rattle.curator.specs.Calls.{fresh, splittingOf}
-use Rattle.curator.specs.Changes.{created}
+use Rattle.curator.specs.Changes.{Creates}
 use Rattle.curator.specs.StateLaws.{Sound, sound-facts, facts-sound, created-accepted, created-sound}
 use Rattle.runs.specs.Model.{Setting, Model, ModelRow, emptyModel, rowHashes, rowVectors, nodeCount, settingShape}
 
@@ -25,7 +25,7 @@ use Rattle.runs.specs.Model.{Setting, Model, ModelRow, emptyModel, rowHa
 abbrev pub Allowed : Setting → Type 0
 Allowed s = Sound (fresh (s .dimension) (s .params) (s .capacities))
 
-pub created-is : (s : Setting) (index : CuratorIndex) → created (s .dimension) (s .params) (s .capacities) ≡ Changed′.Index index
+pub created-is : (s : Setting) (index : CuratorIndex) → Creates (s .dimension) (s .params) (s .capacities) (Changed′.Index index)
     → (index ≡ fresh (s .dimension) (s .params) (s .capacities)) × Allowed s
 created-is s index e =
     let is = created-accepted (s .dimension) (s .params) (s .capacities) index e .0 in

@@ -16,7 +16,6 @@ use Rattle.vector.specs.Normalized.{normalized}
 use Rattle.walk.specs.declared.Wanted.{Wanted}
 use Rattle.walk.specs.declared.Wanted.the-variants.{Everything, Label}
 use Rattle.walk.specs.Answer.{Answer}
-use Rattle.curator.specs.declared.Found.the-variants.{Hits}
 use Rattle.curator.specs.Outcome.{changedNumber, foundNumber}
 use Rattle.settings.specs.Refusals.{checkNumber}
 use Rattle.curator.specs.Searches.{SearchEnd, wantedOf}
@@ -44,7 +43,7 @@ pub record Reply : Type 0 where
 abbrev pub AnsweredWith : Ended → Reply → Type 0
 AnsweredWith (changed answer) reply = ⊥
 AnsweredWith (found end) reply =
-    (end .answer ≡ Hits (reply .hits) (reply .opened) (reply .complete)) × (end .ids ≡ reply .ids) × (end .distances ≡ reply .distances)
+    SearchFound (reply .hits) (reply .opened) (reply .complete) (end .answer) × (end .ids ≡ reply .ids) × (end .distances ≡ reply .distances)
 
 -- 'Hits are compared by hit count and, in the places below it, ids and distance bits'; 'Answer places from the hit count on keep what they held'
 abbrev pub replyOf : Answer → SearchCall → Reply
