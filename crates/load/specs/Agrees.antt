@@ -4,7 +4,7 @@ use Prim.Native.Nat.{ℕ, zero, suc, _≤_, _<_}
 use native.Mathlib.Nat.{zero-add}
 use native.Mathlib.Omega.{arith}
 use mathlib.Core.Bool.{Bool, true, false, cond}
-use mathlib.Core.List.{List, [], _∷_, _++_, append-nil}
+use mathlib.Core.List.{List, [], _++_, append-nil}
 use mathlib.Core.Path.{_≡_, refl, sym, ap, ap₂, _∙_, subst}
 use lib.Dec.{ltb}
 use lib.Ieee.{Float, nan, binary32, toBits}
@@ -13,8 +13,9 @@ use lib.Seq.{sets}
 use Rattle.lists.specs.Lists.{countFrom}
 use Rattle.lists.specs.Counting.{joined-congr, Memᴰ-countFrom}
 use Rattle.lists.specs.Parts.{getD-sets-in}
+use Rattle.store.specs.declared.Lengths.{Lengths}
 use Rattle.store.specs.Store.{Store, workSize}
-use Rattle.tree.specs.LayoutLaws.{length-floatsOf, length-numbersOf, length-hashesOf}
+use Rattle.store.specs.Lent.{lengthsOf}
 use Rattle.walk.specs.Walk as walk
 use Rattle.walk.specs.Walk.{State, damaged, going}
 use Rattle.walk.specs.Answer.{answer, ranked, documentOf, distanceOf}
@@ -32,24 +33,21 @@ use Rattle.settings.specs.declared.refusal.SettingsRefusal.the-variants.{Invali
 use Rattle.settings.specs.declared.refusal.InputRefusal.the-variants.{SettingsOrder}
 use Rattle.curator.specs.Outcome.{changedNumber}
 use Rattle.settings.specs.Refusals.{number, checkNumber}
-use Rattle.curator.specs.Limits.{indexShape}
-use Rattle.store.specs.declared.Lengths.{Lengths}
 use Rattle.curator.specs.RowLaws.{number-positive}
-use Rattle.curator.specs.Changes.{Builds, BuildsBy, BuildsFine, buildCheck, heldNodes, created, freeOf, workPart}
+use Rattle.curator.specs.Changes.{created}
 use Rattle.curator.specs.Arguments.{AddCall, SearchCall, Asked, everything, labelled}
 use Rattle.curator.specs.Searches.{Searches}
-use Rattle.runs.specs.Calls.{Change, add, build, change, search, lentBy, Alike}
+use Rattle.runs.specs.Calls.{Change, add, build, change, search, Alike}
 use Rattle.runs.specs.Model.{Setting, Model, emptyModel, changeCheck, changedBy, modelSearchCheck, modelWalk, Expected, returns, answers, answered, searchedBy, expected, after}
-use Rattle.runs.specs.Run.{found, Lent, joinStores, nextIndex, Changes, SearchStep}
+use Rattle.runs.specs.Run.{found, Lent, nextIndex, Changes, SearchStep}
 use Rattle.runs.specs.Theorem.{AnsweredWith, replyOf, Matches}
-use Rattle.runs.specs.Agree.{SameLengths}
+use Rattle.runs.specs.Fronts.{nothing, join-nothing}
 use Rattle.runs.specs.State.{Allowed, created-is}
 use Rattle.runs.specs.Refusals.{SearchRoom, search-room}
 use Rattle.runs.specs.Invariant.{Invariant, begins}
 use Rattle.runs.specs.ChangeLaws.{ChangeEnds}
-use Rattle.runs.specs.Builds.{freed-length}
-use Rattle.runs.specs.Search.{search-step}
-use Rattle.runs.specs.Reached.{change-keeps}
+use Rattle.runs.specs.Builds.{build-lengths}
+use Rattle.runs.specs.Reached.{change-keeps, search-step}
 use Rattle.runs.specs.Contents.{alike-expected}
 use Rattle.echo_file.specs.Format.{Record, settings, vector, filtered, unfiltered}
 use Rattle.text.specs.Lines.{hitLines, hitAt, hitLine, closingLine, refusedLine}
@@ -77,28 +75,16 @@ Agrees (stops text) next carried lent = (q : Refusal) × (carried ≡ Refused q)
 Agrees (printed text progress) next carried lent =
     (loading : Loading) × ((n : ℕ) → stepOf carried n ≡ Next loading next n) × (carriedText carried (lent .ids) (lent .distances) ≡ text) × Stands progress loading (lent .store)
 
--- ---- whole lists are lent: nothing stands behind them
-
-abbrev nothing : Store
-nothing = record { floats = []; numbers = []; hashes = [] }
-
-join-nothing : (store : Store) → store ≡ joinStores store nothing
-join-nothing store = λ i. record {
-  floats = sym (append-nil (store .floats)) i;
-  numbers = sym (append-nil (store .numbers)) i;
-  hashes = sym (append-nil (store .hashes)) i;
-}
-
-whole-lent : (lent : step.Lent) → Sized lent → Lent fronts (lent .store)
-whole-lent lent z = record { floats = z .floats; numbers = z .numbers; hashes = z .hashes }
+-- ---- whole lists are lent
 
 -- a change of the whole lists
 change-whole : (s : Setting) → Allowed s → (m : Model) (index : CuratorIndex) (lent : step.Lent) → Sized lent → (work work′ : List ℕ) (store′ : Store) (what : Change) (answer : Changed)
     → Invariant s m index (lent .store) → Changes what index (lent .store) work answer store′ work′
-    → ChangeEnds s m (lentBy fronts work) what answer (nextIndex index answer) store′
+    → ChangeEnds s m fronts (length work) what answer (nextIndex index answer) store′
 change-whole s allowed m index lent z work work′ store′ what answer inv by =
-    subst (λ (x : Store). ChangeEnds s m (lentBy fronts work) what answer (nextIndex index answer) x) (sym (join-nothing store′))
-    (change-keeps s allowed m index fronts work work′ (lent .store) nothing store′ what answer (subst (Invariant s m index) (join-nothing (lent .store)) inv) (whole-lent lent z) by)
+    subst (λ (n : Lengths). ChangeEnds s m n (length work) what answer (nextIndex index answer) store′) (z .store)
+    (subst (ChangeEnds s m (lengthsOf (lent .store)) (length work) what answer (nextIndex index answer)) (sym (join-nothing store′))
+    (change-keeps s allowed m index work work′ (lent .store) nothing store′ what answer (subst (Invariant s m index) (join-nothing (lent .store)) inv) by))
 
 -- ---- settings
 
@@ -148,52 +134,9 @@ module _ (s : Setting) (allowed : Allowed s) (index : CuratorIndex) where
   unfolding outcomeOf expected after
   add-agrees m call next lent c lent′ z inv a =
       let k = change-whole s allowed m index lent z [] [] (lent′ .store) (add call) (a .answer) inv (a .adds) in
-      add-by (after s m (change fronts [] (add call))) next c lent′ (checkNumber (changeCheck s m (lentBy fronts []) (add call))) (a .answer) (k .number-is) (k .invariant) (a .comes)
+      add-by (after s m (change fronts [] (add call))) next c lent′ (checkNumber (changeCheck s m fronts 0 (add call))) (a .answer) (k .number-is) (k .invariant) (a .comes)
 
 -- ---- a search
-
--- a build keeps the lengths of all lists
-built-lengths : (b : Bool) (index : CuratorIndex) (store : Store) (work : List ℕ) (answer : Changed) (store′ : Store) (work′ : List ℕ)
-    → BuildsFine b index store work answer store′ work′ → SameLengths store store′ × (length work ≡ length work′)
-unfolding BuildsFine
-built-lengths true index store work answer store′ work′ f = (
-  record {
-    floats = ap (λ (x : Store). length (x .floats)) (sym (f .1));
-    numbers = ap (λ (x : Store). length (x .numbers)) (sym (f .1));
-    hashes = ap (λ (x : Store). length (x .hashes)) (sym (f .1));
-  },
-  ap length (sym (f .2)),
-)
-built-lengths false index store work answer store′ work′ f =
-    let sh = indexShape index in
-    let out = f .1 in (
-      record {
-        floats = sym (ap length (out .floats) ∙ length-floatsOf sh (heldNodes index store) (out .centres) (store .floats));
-        numbers = sym (ap length (out .numbers) ∙ length-numbersOf sh (heldNodes index store) (store .numbers));
-        hashes = sym (ap length (out .hashes) ∙ length-hashesOf sh (heldNodes index store) (store .hashes));
-      },
-      freed-length (workPart sh ∷ []) work work′ (out .work),
-    )
-
-build-lengths-by : (c : Check) (index : CuratorIndex) (store : Store) (work : List ℕ) (answer : Changed) (store′ : Store) (work′ : List ℕ)
-    → BuildsBy c index store work answer store′ work′ → SameLengths store store′ × (length work ≡ length work′)
-unfolding BuildsBy
-build-lengths-by Check′.Fine index store work answer store′ work′ b = built-lengths (index .built) index store work answer store′ work′ b
-build-lengths-by (Check′.Refused r) index store work answer store′ work′ b =
-    let free = freeOf (indexShape index) r in
-    let left = b .1 in (
-      record {
-        floats = freed-length (free .floats) (store .floats) (store′ .floats) (left .floats);
-        numbers = freed-length (free .numbers) (store .numbers) (store′ .numbers) (left .numbers);
-        hashes = freed-length (free .hashes) (store .hashes) (store′ .hashes) (left .hashes);
-      },
-      freed-length (free .work) work work′ (left .work),
-    )
-
-build-lengths : (index : CuratorIndex) (store : Store) (work : List ℕ) (answer : Changed) (store′ : Store) (work′ : List ℕ)
-    → Builds index store work answer store′ work′ → SameLengths store store′ × (length work ≡ length work′)
-unfolding Builds
-build-lengths index store work answer store′ work′ b = build-lengths-by (buildCheck index store work) index store work answer store′ work′ b
 
 -- the hits stand in front in the answer lists
 getD-front : {A : Type 0} (l vs : List A) (k : ℕ) (d : A) → k < length vs → length vs ≤ length l → getD (sets l 0 vs) k d ≡ getD vs k d
@@ -248,17 +191,16 @@ module _ (s : Setting) (m : Model) (k : ℕ) (asked : Asked) (patterns : List �
   brought = searchWith (file.floats patterns) k asked lent
 
   brought-alike : (work : List ℕ) → length work ≡ workSize largest → Alike (search fronts work brought) (search fronts file.work (searchCall k asked patterns))
-  brought-alike work e =
-      let w : length work ≡ length file.work = e ∙ sym (length-replicate {A = ℕ} (workSize largest) 0) in (
-        λ i. record { floats = fronts .floats; numbers = fronts .numbers; hashes = fronts .hashes; work = w i },
-        record {
-          query = refl;
-          asked = refl;
-          k = refl;
-          ids = z .ids ∙ sym (length-replicate {A = ℕ} answerPlaces 0);
-          distances = z .distances ∙ sym (length-replicate answerPlaces nan);
-        },
-      )
+  brought-alike work e = (
+    refl,
+    e ∙ sym (length-replicate {A = ℕ} (workSize largest) 0),
+    record {
+      question = refl;
+      k = refl;
+      ids = z .ids ∙ sym (length-replicate {A = ℕ} answerPlaces 0);
+      distances = z .distances ∙ sym (length-replicate answerPlaces nan);
+    },
+  )
 
   search-agrees : (index : CuratorIndex) (next : ℕ) (c : Carried) (lent′ : step.Lent) (work : List ℕ) (reply : Found) → Allowed s → Lent fronts (lent′ .store)
       → length work ≡ workSize largest
@@ -279,11 +221,11 @@ module _ (s : Setting) (m : Model) (k : ℕ) (asked : Asked) (patterns : List �
         store-next = refl;
       } in
       let r = search-step s allowed m index (lent′ .store) inv fronts work brought (found (searchEnd reply lent′)) index (lent′ .store) st in
-      let check = modelSearchCheck s m (lentBy fronts work) brought in
+      let check = modelSearchCheck s m fronts (length work) brought in
       subst (λ (x : Expected). Agrees (called x (printed [] (running s m))) next c lent′)
       (alike-expected s m (search fronts work brought) (search fronts file.work (searchCall k asked patterns)) (brought-alike work w))
-      (search-by s allowed m index next c check (modelWalk s m brought) brought lent′ work reply
-      (λ e. let room : SearchRoom s m (lentBy fronts work) brought = search-room s m (lentBy fronts work) brought e in (room .ids, room .distances))
+      (search-by s allowed m index next c check (modelWalk s m (brought .question)) brought lent′ work reply
+      (λ e. let room : SearchRoom s m fronts brought = search-room s m fronts (length work) brought e in (room .ids, room .distances))
       (r .0) comes inv)
 
 -- a build, and the search after it
@@ -306,15 +248,9 @@ module _ (s : Setting) (allowed : Allowed s) (index : CuratorIndex) (k : ℕ) (a
   build-agrees m inv a =
       let ends = change-whole s allowed m index lent z (lent .work) (a .work) (lent′ .store) build (a .answer) inv (a .builds) in
       let same = build-lengths index (lent .store) (lent .work) (a .answer) (lent′ .store) (a .work) (a .builds) in
-      let sizes : Lent fronts (lent′ .store) =
-      record {
-        floats = sym (same .0 .floats) ∙ z .floats;
-        numbers = sym (same .0 .numbers) ∙ z .numbers;
-        hashes = sym (same .0 .hashes) ∙ z .hashes;
-      } in
+      let sizes : Lent fronts (lent′ .store) = sym (same .0) ∙ z .store in
       let w : length (lent .work) ≡ length file.work = z .work ∙ sym (length-replicate {A = ℕ} (workSize largest) 0) in
-      let at : ℕ → Lengths = λ n. record { floats = fronts .floats; numbers = fronts .numbers; hashes = fronts .hashes; work = n } in
-      let check : ℕ → Check = λ n. changeCheck s m (at n) build in
+      let check : ℕ → Check = λ n. changeCheck s m fronts n build in
       subst (λ (n : ℕ). Agrees (called (returns (checkNumber (check n))) (called (expected s (changedBy (check n) build m) (search fronts file.work (searchCall k asked patterns)))
       (printed [] (running s (changedBy (check n) build m))))) next c lent′) w
       (build-by (changedBy (check (length (lent .work))) build m) (checkNumber (check (length (lent .work)))) (a .answer) (a .work) (ends .number-is) (ends .invariant) sizes (sym (same .1) ∙ z .work) (a .searches))

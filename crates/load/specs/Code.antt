@@ -9,7 +9,7 @@ use denote.Ref.{RefT, now}
 use Rattle.curator.specs.declared.CuratorIndex.{CuratorIndex}
 use Rattle.settings.specs.declared.refusal.Refusal.the-variants.{Input}
 use Rattle.settings.specs.declared.refusal.InputRefusal.the-variants.{SettingsOrder}
-use Rattle.curator.specs.Lent as curator
+use Rattle.store.specs.Lent as store
 use Rattle.curator.specs.Arguments.{Asked, everything, labelled}
 use Rattle.echo_file.specs.declared.Located.{Located}
 use Rattle.echo_file.specs.declared.Located.the-variants.{Settings, Vector, Filtered, Search}
@@ -29,7 +29,7 @@ use Rattle.load.specs.Step.{Lent, known, AddsVector, SearchesBuilt, sear
 -- the lists that a step is lent
 abbrev pub lists : RefT (List Float) → RefT (List ℕ) → RefT (List ℕ) → RefT (List ℕ) → RefT (List ℕ) → RefT (List Float) → Lent
 lists floats numbers hashes work ids distances =
-    record { store = curator.lent floats numbers hashes; work = now work; ids = now ids; distances = now distances }
+    record { store = store.lent floats numbers hashes; work = now work; ids = now ids; distances = now distances }
 
 -- what a search asks for: a label where it is filtered
 abbrev pub asking : Bool → List ℕ → Asked

@@ -11,7 +11,8 @@ use lib.Ieee.{nan}
 use lib.ListN.{length, drop, replicate, length-replicate, length-append, length-drop}
 use lib.Seq.{sets, length-sets, length-take-le, drop-drop, drop-append-seam}
 use Rattle.lists.specs.Lists.{joined}
-use Rattle.store.specs.Store.{Store, floatsSize, numbersSize, hashesSize, workSize}
+use Rattle.store.specs.Store.{Store, workSize}
+use Rattle.store.specs.Lent.{lengthsOf, sizesOf}
 use Rattle.curator.specs.declared.CuratorIndex.{CuratorIndex}
 use Rattle.curator.specs.declared.Changed.{Changed}
 use Rattle.curator.specs.declared.Changed.the-variants as Changed′
@@ -19,7 +20,7 @@ use Rattle.settings.specs.declared.refusal.Refusal.the-variants.{Input}
 use Rattle.settings.specs.declared.refusal.InputRefusal.the-variants.{BadRecord, SettingsOrder, FileTooLong}
 use Rattle.curator.specs.Changes.{created, Builds}
 use Rattle.curator.specs.Arguments.{AddCall, SearchCall, everything, labelled}
-use Rattle.runs.specs.Agree.{SameLengths}
+use Rattle.runs.specs.Fronts.{zeros}
 use Rattle.runs.specs.Calls.{add, build}
 use Rattle.runs.specs.Reached.{change-laws}
 use Rattle.runs.specs.Exists.{search-outcome}
@@ -47,14 +48,14 @@ record Outcome (P : Carried → Lent → Type 0) (lent : Lent) : Type 0 where
   carried : Carried
   lent′ : Lent
   holds : P carried lent′
-  lengths : SameLengths (lent .store) (lent′ .store)
+  lengths : lengthsOf (lent .store) ≡ lengthsOf (lent′ .store)
 
 kept : (lent : Lent) (what : Carried) → Outcome (Keeps lent what) lent
-kept lent what = record { carried = what; lent′ = lent; holds = (refl, refl); lengths = record { floats = refl; numbers = refl; hashes = refl } }
+kept lent what = record { carried = what; lent′ = lent; holds = (refl, refl); lengths = refl }
 
 -- after a build
 built : (index : CuratorIndex) (call : Lent → SearchCall) (next : ℕ) (lent : Lent) (answer : Changed) (store : Store) (work : List ℕ)
-    → Builds index (lent .store) (lent .work) answer store work → SameLengths (lent .store) store → Outcome (SearchesBuilt index call next lent) lent
+    → Builds index (lent .store) (lent .work) answer store work → lengthsOf (lent .store) ≡ lengthsOf store → Outcome (SearchesBuilt index call next lent) lent
 built index call next lent (Changed′.Refused r) store work b same =
     record {
       carried = Refused r;
@@ -73,7 +74,9 @@ built index call next lent (Changed′.Index ready) store work b same =
 
 looked-up : (index : CuratorIndex) (call : Lent → SearchCall) (next : ℕ) (lent : Lent) → Outcome (SearchesBuilt index call next lent) lent
 looked-up index call next lent =
-    let b = change-laws build .outcome index (lent .store) (lent .work) in built index call next lent (b .answer) (b .store′) (b .work′) (b .changes) (b .lengths)
+    let b = change-laws build .outcome index (lent .store) (lent .work) in
+    built index call next lent (b .answer) (b .store′) (b .work′) (b .changes)
+    (change-laws build .lengths index (lent .store) (lent .work) (b .answer) (b .store′) (b .work′) (b .changes))
 
 added : (index : CuratorIndex) (call : AddCall) (next : ℕ) (lent : Lent) → Outcome (AddsVector index call next lent) lent
 added index call next lent =
@@ -82,7 +85,7 @@ added index call next lent =
       carried = addedBy (a .answer) next;
       lent′ = record { store = a .store′; work = lent .work; ids = lent .ids; distances = lent .distances };
       holds = record { answer = a .answer; adds = a .changes; work = refl; ids = refl; distances = refl; comes = refl };
-      lengths = a .lengths;
+      lengths = change-laws (add call) .lengths index (lent .store) [] (a .answer) (a .store′) (a .work′) (a .changes);
     }
 
 carried-out : (loading : Loading) (r : Record) (next : ℕ) (lent : Lent) → Outcome (CarriesOut loading r next lent) lent
@@ -134,7 +137,7 @@ module _ (file : List ℕ) (bytes : Bytes file) where
     text : List ℕ
     text′ : List ℕ
     steps : Steps file at loading lent text step lent′ text′
-    lengths : SameLengths (lent .store) (lent′ .store)
+    lengths : lengthsOf (lent .store) ≡ lengthsOf (lent′ .store)
 
   stepped : (at : ℕ) (loading : Loading) (lent : Lent) → Stepped at loading lent
   stepped at loading lent =
@@ -155,22 +158,15 @@ module _ (file : List ℕ) (bytes : Bytes file) where
   abbrev onto : Lent → Store → Lent
   onto lent store = record { store = store; work = lent .work; ids = lent .ids; distances = lent .distances }
 
-  sized-onto : (lent : Lent) (store : Store) → Sized lent → SameLengths (lent .store) store → Sized (onto lent store)
+  sized-onto : (lent : Lent) (store : Store) → Sized lent → lengthsOf (lent .store) ≡ lengthsOf store → Sized (onto lent store)
   sized-onto lent store z same =
-      record {
-        floats = sym (same .floats) ∙ z .floats;
-        numbers = sym (same .numbers) ∙ z .numbers;
-        hashes = sym (same .hashes) ∙ z .hashes;
-        work = z .work;
-        ids = z .ids;
-        distances = z .distances;
-      }
+      record { store = sym same ∙ z .store; work = z .work; ids = z .ids; distances = z .distances }
 
   abbrev Goes-on : ℕ → Loading → Store → Type 0
   Goes-on at loading store = (texts : List (List ℕ)) × Chain file at loading store texts
 
   step-by : (left at : ℕ) → length file - at ≤ left → (loading : Loading) (lent : Lent) → Sized lent → (step : Step) (lent′ : Lent) (text text′ : List ℕ)
-      → Steps file at loading lent text step lent′ text′ → SameLengths (lent .store) (lent′ .store) → Onward file at step
+      → Steps file at loading lent text step lent′ text′ → lengthsOf (lent .store) ≡ lengthsOf (lent′ .store) → Onward file at step
       → ((at′ : ℕ) (loading′ : Loading) (lent′ : Lent) → length file - at′ < left → Sized lent′ → Goes-on at′ loading′ (lent′ .store))
       → Goes-on at loading (lent .store)
   step-by left at le loading lent z (Ended n) lent′ text text′ st same h later = (_, last z st)
@@ -194,34 +190,23 @@ module _ (file : List ℕ) (bytes : Bytes file) where
 
 -- ---- every file
 
--- lists of the sizes that the program lends
-zeros : Lent
-zeros =
-    record {
-      store =
-          record {
-            floats = replicate (floatsSize largest) nan;
-            numbers = replicate (numbersSize largest) 0;
-            hashes = replicate (hashesSize largest) 0;
-          };
-      work = replicate (workSize largest) 0;
-      ids = replicate answerPlaces 0;
-      distances = replicate answerPlaces nan;
-    }
-
+-- there are lists of the sizes that the program lends
 pub sized-lists : (lent : Lent) × Sized lent
-unfolding zeros
-sized-lists = (
-  zeros,
-  record {
-    floats = length-replicate (floatsSize largest) nan;
-    numbers = length-replicate {A = ℕ} (numbersSize largest) 0;
-    hashes = length-replicate {A = ℕ} (hashesSize largest) 0;
-    work = length-replicate {A = ℕ} (workSize largest) 0;
-    ids = length-replicate {A = ℕ} answerPlaces 0;
-    distances = length-replicate answerPlaces nan;
-  },
-)
+sized-lists =
+    let (store, is) = zeros (sizesOf largest) in (
+      record {
+        store = store;
+        work = replicate (workSize largest) 0;
+        ids = replicate answerPlaces 0;
+        distances = replicate answerPlaces nan;
+      },
+      record {
+        store = is;
+        work = length-replicate {A = ℕ} (workSize largest) 0;
+        ids = length-replicate {A = ℕ} answerPlaces 0;
+        distances = length-replicate answerPlaces nan;
+      },
+    )
 
 -- Every file has a chain of steps from its beginning, whatever the lists hold; by `Prints` its texts, joined, are `fileText`.
 pub chain-exists : (file : List ℕ) → Bytes file → (lent : Lent) → Sized lent

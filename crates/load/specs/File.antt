@@ -7,7 +7,9 @@ use lib.Dec.{ltb}
 use lib.Ieee.{Float, binary32, ofBits, nan}
 use lib.ListN.{length, replicate}
 use Rattle.store.specs.declared.Shape.{Shape}
-use Rattle.store.specs.Store.{floatsSize, numbersSize, hashesSize, workSize}
+use Rattle.store.specs.declared.Lengths.{Lengths}
+use Rattle.store.specs.Store.{workSize}
+use Rattle.store.specs.Lent.{sizesOf}
 use Rattle.walk.specs.Answer.{Answer}
 use Rattle.settings.specs.declared.CuratorParams.{CuratorParams}
 use Rattle.settings.specs.declared.Capacities.{Capacities}
@@ -21,7 +23,7 @@ use Rattle.settings.specs.declared.refusal.StoreRefusal.the-variants.{Damaged}
 use Rattle.settings.specs.Refusals.{number}
 use Rattle.curator.specs.Changes.{created}
 use Rattle.curator.specs.Arguments.{AddCall, SearchCall, Asked, everything, labelled}
-use Rattle.runs.specs.Calls.{Fronts, add, build, Call, change, search}
+use Rattle.runs.specs.Calls.{add, build, Call, change, search}
 use Rattle.runs.specs.Model.{Setting, Model, emptyModel, Expected, returns, answers, nothing, expected, after}
 use Rattle.echo_file.specs.declared.Known.{Known}
 use Rattle.echo_file.specs.Format as format
@@ -43,9 +45,9 @@ answerPlaces = 256
 abbrev pub largest : Shape
 largest = record { dimension = 16; branching = 64; vectors = 128; entries = 256; nodes = 512 }
 
--- the three lists of the store are lent whole
-abbrev pub fronts : Fronts
-fronts = record { floats = floatsSize largest; numbers = numbersSize largest; hashes = hashesSize largest }
+-- the lists of the store are lent whole
+abbrev pub fronts : Lengths
+fronts = sizesOf largest
 
 -- ---- the calls of a record
 
@@ -63,7 +65,12 @@ addCall document labels patterns = record { document = document; vector = floats
 -- The contents of work and answer lists do not matter (crates/runs/specs/Contents.antt): here they are zeros.
 abbrev pub searchCall : ℕ → Asked → List ℕ → SearchCall
 searchCall k asked patterns =
-    record { query = floats patterns; asked = asked; k = k; ids = replicate answerPlaces 0; distances = replicate answerPlaces nan }
+    record {
+      question = record { query = floats patterns; asked = asked };
+      k = k;
+      ids = replicate answerPlaces 0;
+      distances = replicate answerPlaces nan;
+    }
 
 abbrev pub work : List ℕ
 work = replicate (workSize largest) 0

@@ -68,7 +68,8 @@ foundBy index (Found′.Refused r) next = Refused r
 foundBy index (Found′.Hits count opened complete) next = Answered index next count opened complete
 
 abbrev pub searchWith : List Float → ℕ → Asked → Lent → SearchCall
-searchWith query k asked lent = record { query = query; asked = asked; k = k; ids = lent .ids; distances = lent .distances }
+searchWith query k asked lent =
+    record { question = record { query = query; asked = asked }; k = k; ids = lent .ids; distances = lent .distances }
 
 abbrev pub searchEnd : Found → Lent → SearchEnd
 searchEnd answer lent = record { answer = answer; work = lent .work; ids = lent .ids; distances = lent .distances }

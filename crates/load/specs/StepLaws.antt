@@ -1,13 +1,14 @@
 -- Laws of a step: the hits of an answer stand in the answer lists, and no call changes the dimension.
 use Prim.Native.Nat.{ℕ, _≤_}
 use native.Mathlib.Omega.{arith}
-use mathlib.Core.Bool.{Bool, true, false, _||_, cond, false≢true}
+use mathlib.Core.Bool.{Bool, true, false, cond}
 use mathlib.Core.List.{List, _∷_}
 use mathlib.Core.Path.{_≡_, refl, sym, ap, _∙_, subst}
 use borrow.Author.Tests.{ltb-false}
 use lib.Dec.{ltb, leb}
 use lib.ListN.{length, take, drop, length-take, length-map}
 use lib.Seq.{length-sets}
+use Rattle.lists.specs.Tests.{or-left, or-right}
 use Rattle.store.specs.Store.{Store}
 use Rattle.walk.specs.Walk.{State, damaged, going}
 use Rattle.walk.specs.Answer.{answer, ranked, documentOf}
@@ -29,7 +30,7 @@ use Rattle.curator.specs.Calls.{factsOf}
 use Rattle.store.specs.Lent.{lengthsOf}
 use Rattle.curator.specs.Limits.{stateSound}
 use Rattle.curator.specs.Changes.{Adds, AddsBy, addCheck, Builds, BuildsBy, BuildsFine, buildCheck, created}
-use Rattle.curator.specs.Arguments.{AddCall, everything, labelled, SearchCall}
+use Rattle.curator.specs.Arguments.{AddCall, everything, labelled, SearchCall, askingOf}
 use Rattle.curator.specs.Searches.{SearchEnd, Searches, SearchesBy, searchCheck, WalkedTo}
 use Rattle.runs.specs.State.{created-is}
 use Rattle.echo_file.specs.Format as format
@@ -44,10 +45,6 @@ use Rattle.load.specs.Code.{Narrow, NarrowStep, HitsFit}
 
 -- ---- the hits of an answer
 
-or-none : (a b : Bool) → (a || b) ≡ false → (a ≡ false) × (b ≡ false)
-or-none true b e = absurd (false≢true (sym e))
-or-none false b e = (refl, e)
-
 not-hits : {C : Type 0} {r : Refusal} {count opened : ℕ} {complete : Bool} → Found′.Refused r ≡ Found′.Hits count opened complete → C
 not-hits e = absurd (let z : _≡_ {A = ℕ} 0 1 = cc in omega arith)
 
@@ -59,8 +56,10 @@ room-of index store work call e =
     let none = fine-none
     (stateRow (stateSound index)
     ∷ searchRows (factsOf index) (lengthsOf store) (length work) (askingOf call)) e in
-    let both = or-none (ltb (length (call .ids)) (call .k)) (ltb (length (call .distances)) (call .k)) (none .1 .1 .1 .1 .1 .0) in
-    (ltb-false (length (call .ids)) (call .k) (both .0), ltb-false (length (call .distances)) (call .k) (both .1))
+    let few = ltb (length (call .ids)) (call .k) in
+    let fewer = ltb (length (call .distances)) (call .k) in
+    let row = none .1 .1 .1 .1 .1 .0 in
+    (ltb-false (length (call .ids)) (call .k) (or-left few fewer row), ltb-false (length (call .distances)) (call .k) (or-right few fewer row))
 
 walked-fits : (w : State) (index : CuratorIndex) (work : List ℕ) (call : SearchCall) (end : SearchEnd) → call .k ≤ length (call .ids)
     → call .k ≤ length (call .distances)

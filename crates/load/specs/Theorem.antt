@@ -4,7 +4,8 @@ use mathlib.Core.List.{List, [], _∷_}
 use mathlib.Core.Path.{_≡_}
 use lib.ListN.{length, take}
 use Rattle.lists.specs.Lists.{joined}
-use Rattle.store.specs.Store.{Store, floatsSize, numbersSize, hashesSize, workSize}
+use Rattle.store.specs.Store.{Store, workSize}
+use Rattle.store.specs.Lent.{lengthsOf, sizesOf}
 use Rattle.load.specs.declared.Loading.{Loading}
 use Rattle.load.specs.declared.Loading.the-variants.{Unset}
 use Rattle.load.specs.declared.Step.the-variants.{Ended, Next}
@@ -13,9 +14,7 @@ use Rattle.load.specs.Step.{Lent, Steps}
 
 -- the sizes of the lists that the program lends
 pub record Sized (lent : Lent) : Type 0 where
-  pub floats : length (lent .store .floats) ≡ floatsSize largest
-  pub numbers : length (lent .store .numbers) ≡ numbersSize largest
-  pub hashes : length (lent .store .hashes) ≡ hashesSize largest
+  pub store : lengthsOf (lent .store) ≡ sizesOf largest
   pub work : length (lent .work) ≡ workSize largest
   pub ids : length (lent .ids) ≡ answerPlaces
   pub distances : length (lent .distances) ≡ answerPlaces

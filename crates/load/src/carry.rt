@@ -15,8 +15,8 @@ use crate::task::Task;
 use curator::Changed;
 use curator::CuratorIndex;
 use curator::Found;
-use settings::refusal::Refusal;
 use echo_file::floats::read_floats;
+use settings::refusal::Refusal;
 
 // What came of a record: a refusal, after which the file is left; nothing to print; or an answer. `End` where no record is left.
 pub enum Carried {

@@ -7,17 +7,17 @@ ghost use Rattle.load.specs.Step.{Carries, openedBy};
 ghost use Rattle.load.specs.Code.{Narrow, CarriesFirst, CarriesNext, Asks, taskOf};
 use crate::Loading;
 use crate::carry::Carried;
-use settings::Capacities;
 use curator::Changed;
 use curator::CuratorIndex;
-use settings::CuratorParams;
-use settings::refusal::InputRefusal;
-use settings::refusal::Refusal;
-use settings::refusal::SettingsRefusal;
 use echo_file::Known;
 use echo_file::Located;
 use echo_file::Reading;
 use echo_file::read_record;
+use settings::Capacities;
+use settings::CuratorParams;
+use settings::refusal::InputRefusal;
+use settings::refusal::Refusal;
+use settings::refusal::SettingsRefusal;
 
 // What there is to do: no more than what came of the record, an add, or a search. Its floats start at `place`.
 pub enum Task {

@@ -23,7 +23,7 @@ use Rattle.curator.specs.Limits.{indexShape}
 use Rattle.curator.specs.Changes.{workPart, Creates}
 use Rattle.curator.specs.Searches.{SearchEnd, wantedOf, Searches, SearchesBy, searchCheck, WalkedTo}
 use Rattle.curator.specs.Arguments.{SearchCall}
-use Rattle.runs.specs.Calls.{Call, change, search, TypedCall, AllTyped}
+use Rattle.runs.specs.Calls.{Change, Call, change, search, Typed, TypedCall, AllTyped}
 use Rattle.runs.specs.Model.{Setting}
 use Rattle.runs.specs.Run.{Ended, changed, found, nextIndex, Step, RunFrom, done, next, Run}
 use Rattle.runs.specs.Fronts.{frontOf, restOf, front-rest, front-lent, join-lengths, noLengths, addLengths, both-fit, same-fit, zeros}
@@ -82,10 +82,10 @@ pub record StepOutcome (index : CuratorIndex) (store : Store) (call : Call) : Ty
   pub step : Step index store call end index′ store′
   pub lengths : lengthsOf store ≡ lengthsOf store′
 
-pub step-outcome : (index : CuratorIndex) (store : Store) (call : Call) → TypedCall call → NoShorter (frontsOf call) (lengthsOf store)
-    → StepOutcome index store call
+change-outcome : (index : CuratorIndex) (store : Store) (fronts : Lengths) (work : List ℕ) (c : Change) → Typed c → NoShorter fronts (lengthsOf store)
+    → StepOutcome index store (change fronts work c)
 unfolding Step
-step-outcome index store (change fronts work c) t f =
+change-outcome index store fronts work c t f =
     let front = frontOf fronts store in
     let rest = restOf fronts store in
     let r = change-laws c .outcome index front work in
@@ -112,7 +112,11 @@ step-outcome index store (change fronts work c) t f =
           ap lengthsOf (front-rest fronts store)
           ∙ join-lengths front (r .store′) rest (change-laws c .lengths index front work (r .answer) (r .store′) (r .work′) (r .changes));
     }
-step-outcome index store (search fronts work call) t f =
+
+found-outcome : (index : CuratorIndex) (store : Store) (fronts : Lengths) (work : List ℕ) (call : SearchCall) → NoShorter fronts (lengthsOf store)
+    → StepOutcome index store (search fronts work call)
+unfolding Step
+found-outcome index store fronts work call f =
     let r = search-outcome index (frontOf fronts store) work call in
     record {
       end = found (r .end);
@@ -132,6 +136,11 @@ step-outcome index store (search fronts work call) t f =
           };
       lengths = refl;
     }
+
+pub step-outcome : (index : CuratorIndex) (store : Store) (call : Call) → TypedCall call → NoShorter (frontsOf call) (lengthsOf store)
+    → StepOutcome index store call
+step-outcome index store (change fronts work c) t f = change-outcome index store fronts work c t f
+step-outcome index store (search fronts work call) t f = found-outcome index store fronts work call f
 
 -- ---- every run
 

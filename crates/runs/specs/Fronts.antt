@@ -2,6 +2,7 @@
 use Prim.Native.Nat.{ℕ, _+_}
 use native.Mathlib.Nat.{le-of-eq}
 use native.Mathlib.Omega.{arith}
+use mathlib.Core.List.{[], append-nil}
 use mathlib.Core.Path.{_≡_, sym, ap, _∙_}
 use lib.Ieee.{nan}
 use lib.ListN.{take, drop, replicate, length-replicate, length-append, take-append-drop}
@@ -68,6 +69,18 @@ front-lent fronts store f =
       floats = length-take-le (fronts .floats) (store .floats) (f .floats) i;
       numbers = length-take-le (fronts .numbers) (store .numbers) (f .numbers) i;
       hashes = length-take-le (fronts .hashes) (store .hashes) (f .hashes) i;
+    }
+
+-- whole lists: nothing stands behind them
+abbrev pub nothing : Store
+nothing = storeOf [] [] []
+
+pub join-nothing : (store : Store) → store ≡ joinStores store nothing
+join-nothing store =
+    λ i. record {
+      floats = sym (append-nil (store .floats)) i;
+      numbers = sym (append-nil (store .numbers)) i;
+      hashes = sym (append-nil (store .hashes)) i;
     }
 
 -- the lengths of joined lists

@@ -85,6 +85,7 @@ unfoldable pub modelNodes : Setting → Model → List Node
 unfolding nodesOf rowVectors rowEntries
 modelNodes s m = nodesOf (splittingOf (s .dimension) (s .params)) (rowVectors m) (rowEntries m)
 
+-- how many vectors, entries and nodes a built model has
 abbrev pub modelCounts : Setting → Model → Counts
 modelCounts s m = record { vectors = length (m .rows); entries = length (rowHashes m); nodes = nodeCount s m }
 

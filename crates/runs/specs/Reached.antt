@@ -68,7 +68,7 @@ change-step s a m index store inv fronts work c end index′ store′ st =
 
 -- ---- every search
 
-search-step : (s : Setting) → Allowed s → (m : Model) (index : CuratorIndex) (store : Store) → Invariant s m index store
+pub search-step : (s : Setting) → Allowed s → (m : Model) (index : CuratorIndex) (store : Store) → Invariant s m index store
     → (fronts : Lengths) (work : List ℕ) (call : SearchCall) (end : Ended) (index′ : CuratorIndex) (store′ : Store)
     → SearchStep index store fronts work call end index′ store′
     → Matches (expected s m (search fronts work call)) (search fronts work call) end × Invariant s m index′ store′
