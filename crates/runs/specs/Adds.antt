@@ -35,6 +35,7 @@ use Rattle.runs.specs.Refusals.{add-refused}
 use Rattle.runs.specs.Built.{Laid}
 use Rattle.runs.specs.Invariant.{Invariant, held-front, held-back}
 use Rattle.runs.specs.ChangeLaws.{Others, ChangeEnds, ChangeOutcome, ChangeLaws}
+use Rattle.curator.specs.OutcomeLaws.{refused-is, is-refused, carried-is, is-carried}
 
 -- ---- the model after it
 

@@ -36,6 +36,7 @@ use Rattle.runs.specs.Refusals.{build-refused, build-room, BuildRoom}
 use Rattle.runs.specs.Built.{Laid, NodeFacts, node-facts, laid-same, laid-out, built-held, held-nodes, laid-lengths, lays-out, left-lengths, left-same, left-held, leaves, freed-length}
 use Rattle.runs.specs.Invariant.{Invariant, long-same, held-front, held-back}
 use Rattle.runs.specs.ChangeLaws.{Others, ChangeEnds, ChangeOutcome, ChangeLaws}
+use Rattle.curator.specs.OutcomeLaws.{refused-is, carried-is, is-carried, is-refused}
 
 -- a built index is refused for short lists alone, which leaves all as it was
 rows-built : (f : Facts) (lent : Lengths) (work : ℕ) (many : Bool) (r : Refusal) (short built : Bool) → listsShort (f .shape) lent work ≡ short

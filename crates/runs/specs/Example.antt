@@ -21,6 +21,7 @@ use Rattle.runs.specs.Theorem.{Matches, InPairs, Premise, Better}
 use Rattle.runs.specs.Exists.{every-run}
 use Rattle.runs.specs.Places.{at-place, premiseTest, test-premise}
 use Rattle.runs.specs.Demand.{demand3}
+use Rattle.curator.specs.RowLaws.{is-created}
 
 -- ---- the calls
 

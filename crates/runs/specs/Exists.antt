@@ -29,6 +29,7 @@ use Rattle.runs.specs.Run.{Ended, changed, found, nextIndex, Step, RunFr
 use Rattle.runs.specs.Fronts.{frontOf, restOf, front-rest, front-lent, join-lengths, noLengths, addLengths, both-fit, same-fit, zeros}
 use Rattle.runs.specs.Built.{freed}
 use Rattle.runs.specs.Reached.{change-laws}
+use Rattle.curator.specs.OutcomeLaws.{is-search-refused, is-found}
 
 -- ---- every search has an outcome
 

@@ -34,6 +34,7 @@ use Rattle.runs.specs.ChangeLaws.{Other, first-other, ChangeEnds, Change
 use Rattle.runs.specs.Adds.{add-laws}
 use Rattle.runs.specs.Builds.{build-laws}
 use Rattle.runs.specs.Search.{search-keeps}
+use Rattle.curator.specs.OutcomeLaws.{found-is}
 
 -- ---- every change
 

@@ -16,7 +16,7 @@ use Rattle.vector.specs.Normalized.{normalized}
 use Rattle.walk.specs.declared.Wanted.{Wanted}
 use Rattle.walk.specs.declared.Wanted.the-variants.{Everything, Label}
 use Rattle.walk.specs.Answer.{Answer}
-use Rattle.curator.specs.Outcome.{changedNumber, foundNumber}
+use Rattle.curator.specs.Outcome.{changedNumber, foundNumber, SearchFound}
 use Rattle.settings.specs.Refusals.{checkNumber}
 use Rattle.curator.specs.Searches.{SearchEnd, wantedOf}
 use Rattle.curator.specs.Arguments.{Question, SearchCall}
