@@ -33,7 +33,7 @@ use Rattle.settings.specs.declared.refusal.SettingsRefusal.the-variants.{Invali
 use Rattle.settings.specs.declared.refusal.InputRefusal.the-variants.{SettingsOrder}
 use Rattle.curator.specs.Outcome.{changedNumber}
 use Rattle.settings.specs.Refusals.{number, checkNumber}
-use Rattle.curator.specs.RowLaws.{number-positive}
+use Rattle.curator.specs.RowLaws.{number-positive, is-created}
 use Rattle.curator.specs.Changes.{created}
 use Rattle.curator.specs.Arguments.{AddCall, SearchCall, Asked, everything, labelled}
 use Rattle.curator.specs.Searches.{Searches}
@@ -61,6 +61,7 @@ use Rattle.load.specs.File.{Progress, unset, running, Outcome, stops, pr
 use Rattle.load.specs.Step as step
 use Rattle.load.specs.Step.{openedBy, addedBy, foundBy, AddsVector, SearchesBuilt, AfterBuild, searchWith, searchEnd, CarriesOut, carriedText, stepOf}
 use Rattle.load.specs.Theorem.{Sized}
+use Rattle.curator.specs.OutcomeLaws.{found-is}
 
 -- state and store stand for what the model says of the file so far
 abbrev pub Stands : Progress → Loading → Store → Type 0
@@ -95,7 +96,7 @@ open-by : (b : Bool) (index : CuratorIndex) (d : ℕ) (params : CuratorParams) (
 open-by true index d params next c lent e k = (Settings InvalidConfig, k, refl)
 open-by false index d params next c lent e k =
     let s : Setting = record { dimension = d; params = params; capacities = capacities } in
-    let accepted = created-is s index e in (
+    let accepted = created-is s index (is-created d params capacities (Changed′.Index index) (sym e)) in (
       Running index,
       (λ n. ap (λ (x : Carried). stepOf x n) k),
       ap (λ (x : Carried). carriedText x (lent .ids) (lent .distances)) k,
@@ -161,7 +162,7 @@ module _ (s : Setting) (allowed : Allowed s) (m : Model) (index : CuratorIndex) 
   answer-by w call lent reply p q h k inv =
       let a = answer (call .k) w in
       let hits = take (call .k) (ranked w) in
-      let is : c ≡ Answered index next (length (a .ids)) (a .opened) (a .complete) = k ∙ ap (λ (x : Found). foundBy index x next) (h .0) in
+      let is : c ≡ Answered index next (length (a .ids)) (a .opened) (a .complete) = k ∙ ap (λ (x : Found). foundBy index x next) (found-is _ _ _ _ (h .0)) in
       let few : length (a .ids) ≤ call .k = omega (arith, length-map hits documentOf, length-take (call .k) (ranked w)) in
       let same : length (a .distances) ≡ length (a .ids) = length-map hits distanceOf ∙ sym (length-map hits documentOf) in (
         Running index,

@@ -25,7 +25,7 @@ use Rattle.settings.specs.declared.refusal.Refusal.the-variants.{Settings, Inpu
 use Rattle.settings.specs.declared.refusal.SettingsRefusal.the-variants.{InvalidConfig}
 use Rattle.settings.specs.declared.refusal.InputRefusal.the-variants.{BadRecord, SettingsOrder, FileTooLong}
 use Rattle.curator.specs.Rows.{stateRow, searchRows}
-use Rattle.curator.specs.RowLaws.{fine-none}
+use Rattle.curator.specs.RowLaws.{fine-none, is-created}
 use Rattle.curator.specs.Calls.{factsOf}
 use Rattle.store.specs.Lent.{lengthsOf}
 use Rattle.curator.specs.Limits.{stateSound}
@@ -42,6 +42,7 @@ use Rattle.load.specs.declared.carry.Carried.the-variants.{End, Refused,
 use Rattle.load.specs.File.{capacities, paramsOf, floats, addCall}
 use Rattle.load.specs.Step.{Lent, known, openedBy, addedBy, foundBy, SearchesBuilt, AfterBuild, searchWith, searchEnd, CarriesOut, CarriesRead, CarriesAt, Carries, stepOf}
 use Rattle.load.specs.Code.{Narrow, NarrowStep, HitsFit}
+use Rattle.curator.specs.OutcomeLaws.{search-refused-is, carried-is, refused-is, found-is}
 
 -- ---- the hits of an answer
 
@@ -66,11 +67,11 @@ walked-fits : (w : State) (index : CuratorIndex) (work : List ℕ) (call : Searc
     → WalkedTo w index work call end → (count opened : ℕ) (complete : Bool) → end .answer ≡ Found′.Hits count opened complete
     → (count ≤ length (end .ids)) × (count ≤ length (end .distances))
 unfolding WalkedTo answer
-walked-fits damaged index work call end p q h count opened complete e = not-hits (sym (h .answer) ∙ e)
+walked-fits damaged index work call end p q h count opened complete e = not-hits (sym (search-refused-is _ _ (h .answer)) ∙ e)
 walked-fits (going w) index work call end p q h count opened complete e =
     let hits = take (call .k) (ranked w) in
     let a = answer (call .k) w in
-    let same : Found′.Hits (length (a .ids)) (a .opened) (a .complete) ≡ Found′.Hits count opened complete = sym (h .answer) ∙ e in
+    let same : Found′.Hits (length (a .ids)) (a .opened) (a .complete) ≡ Found′.Hits count opened complete = sym (found-is _ _ _ _ (h .answer)) ∙ e in
     let is : length (a .ids) ≡ count = ap hitsOf same in
     let few : length (a .ids) ≤ call .k = omega (arith, length-map hits documentOf, length-take (call .k) (ranked w)) in
     let i = ap length (h .ids) ∙ length-sets (call .ids) 0 (a .ids) in
@@ -88,7 +89,7 @@ searched-fits : (c : Check) (index : CuratorIndex) (store : Store) (work : List 
 unfolding SearchesBy
 searched-fits Check′.Fine index store work call end room h count opened complete e =
     walked-fits _ index work call end (room refl .0) (room refl .1) (h .walked) count opened complete e
-searched-fits (Check′.Refused r) index store work call end room h count opened complete e = not-hits (sym (h .answer) ∙ e)
+searched-fits (Check′.Refused r) index store work call end room h count opened complete e = not-hits (sym (search-refused-is _ _ (h .answer)) ∙ e)
 
 found-fits : (index : CuratorIndex) (store : Store) (work : List ℕ) (call : SearchCall) (lent : Lent) (next : ℕ) (i : CuratorIndex) (reply : Found)
     → Searches index store work call (searchEnd reply lent) → HitsFit (foundBy i reply next) (lent .ids) (lent .distances)
@@ -113,20 +114,20 @@ NarrowCarried (Answered index next count opened complete) = index .dimension ≤
 narrow-adds : (c : Check) (index : CuratorIndex) (store : Store) (call : AddCall) (answer : Changed) (store′ : Store) → index .dimension ≤ 16
     → AddsBy c index store call answer store′ → NarrowChanged answer
 unfolding AddsBy
-narrow-adds Check′.Fine index store call answer store′ n h = subst NarrowChanged (sym (h .0)) n
-narrow-adds (Check′.Refused r) index store call answer store′ n h = subst NarrowChanged (sym (h .0)) tt
+narrow-adds Check′.Fine index store call answer store′ n h = subst NarrowChanged (sym (carried-is _ _ (h .0))) n
+narrow-adds (Check′.Refused r) index store call answer store′ n h = subst NarrowChanged (sym (refused-is r _ (h .0))) tt
 
 narrow-fine : (b : Bool) (index : CuratorIndex) (store : Store) (work : List ℕ) (answer : Changed) (store′ : Store) (work′ : List ℕ) → index .dimension ≤ 16
     → BuildsFine b index store work answer store′ work′ → NarrowChanged answer
 unfolding BuildsFine
-narrow-fine true index store work answer store′ work′ n h = subst NarrowChanged (sym (h .0)) n
-narrow-fine false index store work answer store′ work′ n h = subst NarrowChanged (sym (h .0)) n
+narrow-fine true index store work answer store′ work′ n h = subst NarrowChanged (sym (carried-is _ _ (h .0))) n
+narrow-fine false index store work answer store′ work′ n h = subst NarrowChanged (sym (carried-is _ _ (h .0))) n
 
 narrow-builds : (c : Check) (index : CuratorIndex) (store : Store) (work : List ℕ) (answer : Changed) (store′ : Store) (work′ : List ℕ) → index .dimension ≤ 16
     → BuildsBy c index store work answer store′ work′ → NarrowChanged answer
 unfolding BuildsBy
 narrow-builds Check′.Fine index store work answer store′ work′ n h = narrow-fine (index .built) index store work answer store′ work′ n h
-narrow-builds (Check′.Refused r) index store work answer store′ work′ n h = subst NarrowChanged (sym (h .0)) tt
+narrow-builds (Check′.Refused r) index store work answer store′ work′ n h = subst NarrowChanged (sym (refused-is r _ (h .0))) tt
 
 -- ---- what a record came to
 
@@ -145,7 +146,7 @@ opened-fit (Changed′.Index index) d params next lent e = by (ltb 16 d) refl
     by : (b : Bool) → ltb 16 d ≡ b → Fit (cond b (Refused (Settings InvalidConfig)) (Silent (Running index) next)) lent
     by true w = record { hits = tt; narrow = tt }
     by false w =
-        let is = created-is (record { dimension = d; params = params; capacities = capacities }) index e .0 in
+        let is = created-is (record { dimension = d; params = params; capacities = capacities }) index (is-created d params capacities (Changed′.Index index) (sym e)) .0 in
         let same : index .dimension ≡ d = ap (λ (i : CuratorIndex). i .dimension) is in
         let h = ltb-false 16 d w in
         record { hits = tt; narrow = omega (arith, h, same) }
