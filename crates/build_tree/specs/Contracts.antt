@@ -16,7 +16,7 @@ use Rattle.tree.specs.Nodes.{Entries, nodesOf}
 use Rattle.tree.specs.Layout.{floatsOf}
 use Rattle.tree.specs.Made.{madeFrom}
 use Rattle.tree.specs.Steps.{Group}
-use Rattle.build_tree.specs.Waiting.{nonEmptyList, headed, own, stands, six}
+use Rattle.waiting_groups.specs.Waiting.{nonEmptyList, headed, own, stands, six}
 use Rattle.build_tree.specs.declared.Made.{Made}
 use Rattle.build_tree.specs.declared.Made.the-variants as Made′
 

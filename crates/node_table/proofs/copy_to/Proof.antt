@@ -9,8 +9,8 @@ use lib.ListN.{length, getD, set, take, length-set}
 use lib.Seq.{sets, take-suc, take-all, length-take-le}
 use borrow.Author.Needs.{needs}
 use Rattle.lists.specs.Parts.{sets-snoc}
-use Rattle.child_links.proofs.copy_to.Statement.{statement}
-use Rattle.child_links.proofs.copy_to.Tie as tie
+use Rattle.node_table.proofs.copy_to.Statement.{statement}
+use Rattle.node_table.proofs.copy_to.Tie as tie
 
 abbrev Inv-loop : tie.InvT-loop
 Inv-loop numbers₀ at source k₀ numbers k =

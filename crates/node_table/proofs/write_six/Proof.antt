@@ -1,11 +1,11 @@
--- `write::write_six` meets its contract: six stores, one after the other, are a run of stores.
+-- `write_six` meets its contract: six stores, one after the other, are a run of stores.
 use Prim.Native.Nat.{suc, _+_}
 use mathlib.Core.Path.{_≡_}
 use native.Mathlib.Omega.{arith}
 use lib.ListN.{length-set}
 use borrow.Author.Needs.{needs}
-use Rattle.build_tree.proofs.write.write_six.Statement.{statement}
-use Rattle.build_tree.proofs.write.write_six.Tie as tie
+use Rattle.node_table.proofs.write_six.Statement.{statement}
+use Rattle.node_table.proofs.write_six.Tie as tie
 
 mul-numbers : tie.Need-mul-numbers
 mul-numbers c = search needs
