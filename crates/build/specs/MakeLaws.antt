@@ -23,9 +23,9 @@ use Rattle.tree.specs.LayoutLaws.{length-sixFrom}
 use Rattle.tree.specs.Made.{madeFrom}
 use Rattle.build_tree.specs.declared.Made.{Made}
 use Rattle.build_tree.specs.declared.Made.the-variants as Made′
-use Rattle.build_tree.specs.Lent.{Lent, Whole, Overfull, Built}
-use Rattle.label_entries.specs.Finish as finish
-use Rattle.label_entries.specs.Finish.{held, AllMade, Finished}
+use Rattle.build_tree.specs.Contracts.{Lent, Whole, Overfull, Built}
+use Rattle.label_entries.specs.Contracts as finish
+use Rattle.label_entries.specs.Contracts.{held, AllMade, Finished}
 use Rattle.settings.specs.declared.Check.{Check}
 use Rattle.settings.specs.declared.Check.the-variants.{Fine, Refused}
 use Rattle.curator.specs.declared.Changed.{Changed}

@@ -13,9 +13,9 @@ use Rattle.lists.specs.Parts.{sets-sets-same}
 use Rattle.store.specs.declared.Shape.{Shape}
 use Rattle.store.specs.Store.{orderAt, nodesAt}
 use Rattle.cluster.specs.Vectors.{vectorsIn}
-use Rattle.build_tree.specs.Waiting.{headed, encoded, groupAt, sixes, leaves}
-use Rattle.build_tree.specs.WaitingLaws.{length-headed}
-use Rattle.build_tree.specs.Lent.{splittingOf, Lent, Waits, Stepped, Built}
+use Rattle.waiting_groups.specs.Waiting.{headed, encoded, groupAt, sixes, leaves}
+use Rattle.waiting_groups.specs.WaitingLaws.{length-headed}
+use Rattle.build_tree.specs.Contracts.{splittingOf, Lent, Waits, Stepped, Built}
 use Rattle.build_tree.specs.Standing.{Standing, order-length, standing-begin, standing-lent, next-waits, standing-step, built-whole, built-overfull}
 use Rattle.build_tree.specs.declared.Made.the-variants as Made′
 

@@ -20,10 +20,10 @@ use Rattle.cluster.specs.Contracts.{BehindVectors}
 use Rattle.lists.specs.Frame.{AlikeBut, alike-trans, alike-sets, alike-widen}
 use Rattle.kmeans.specs.Contracts.{Clustered}
 use Rattle.cluster.specs.ClustersLaws.{perm-clusters, length-clusters}
-use Rattle.build_tree.specs.Waiting.{nonEmptyList, headed, sorted}
-use Rattle.build_tree.specs.WaitingLaws.{sorted-clusters, length-joined-headed}
+use Rattle.waiting_groups.specs.Waiting.{nonEmptyList, headed, sorted}
+use Rattle.waiting_groups.specs.WaitingLaws.{sorted-clusters, length-joined-headed}
 use Rattle.build_tree.specs.Standing.{vectors-end, centres-end}
-use Rattle.build_tree.specs.Lent.{Lent, Splits, Clustering, Divided}
+use Rattle.build_tree.specs.Contracts.{Lent, Splits, Clustering, Divided}
 
 -- fewer centres fit
 pub room-smaller : {floats : List Float} {ids : List ℕ} {d n at : ℕ} (b : ℕ) {k : ℕ} → BehindVectors floats ids d n at (d * b) → k ≤ b → BehindVectors floats ids d n at (k * d)

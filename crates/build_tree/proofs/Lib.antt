@@ -1,6 +1,4 @@
 -- What only the proofs of `build_tree` need.
-pub mod Writes
-pub mod Sorting
 pub mod Dividing
 pub mod Stepping
 pub mod Building

@@ -21,11 +21,11 @@ use Rattle.cluster.specs.VectorsLaws.{vectorsIn-front}
 use Rattle.tree.specs.Tree.{Splitting}
 use Rattle.tree.specs.Layout.{startOf}
 use Rattle.tree.specs.Steps.{Group, isLeaf, childGroups, childGroups-leaf}
-use Rattle.build_tree.specs.Waiting.{nonEmptyList, headed, encoded, groupAt, leafBy, stands, six}
-use Rattle.build_tree.specs.WaitingLaws.{group-size, group-levels, head-cleared, leaf-by-size, inner-levels, children-encoded, children-count}
+use Rattle.waiting_groups.specs.Waiting.{nonEmptyList, headed, encoded, groupAt, leafBy, stands, six}
+use Rattle.waiting_groups.specs.WaitingLaws.{group-size, group-levels, head-cleared, leaf-by-size, inner-levels, children-encoded, children-count}
 use Rattle.build_tree.specs.MadeLaws.{own-leaf, own-inner}
 use Rattle.build_tree.specs.Standing.{vectors-end, centroid-end, centres-end}
-use Rattle.build_tree.specs.Lent.{splittingOf, Lent, Waits, Splits, Divided, Stepped}
+use Rattle.build_tree.specs.Contracts.{splittingOf, Lent, Waits, Splits, Divided, Stepped}
 use Rattle.build_tree.proofs.Dividing.{lent-by-ends, length-headed-clusters}
 
 -- ---- a leaf and an inner node

@@ -21,9 +21,9 @@ use Rattle.tree.specs.Layout.{startOf}
 use Rattle.tree.specs.LayoutLaws.{length-blocks}
 use Rattle.tree.specs.Made as Made
 use Rattle.tree.specs.Steps.{Group, isLeaf, split, childGroups, childGroups-leaf, childGroups-split, split-perm, made, rootGroup, made-ids, made-counts, made-centroids}
-use Rattle.build_tree.specs.Waiting.{encoded, own, stands, six, sixes, leaves, centroids}
-use Rattle.build_tree.specs.WaitingLaws.{length-encoded}
-use Rattle.build_tree.specs.Lent.{Sound}
+use Rattle.waiting_groups.specs.Waiting.{encoded, own, stands, six, sixes, leaves, centroids}
+use Rattle.waiting_groups.specs.WaitingLaws.{length-encoded}
+use Rattle.build_tree.specs.Contracts.{Sound}
 
 every-map : {A B : Type 0} (P : B → Type 0) (f : A → B) (l : List A) → ((x : A) → List·Memᴰ x l → P (f x)) → (y : B) → List·Memᴰ y (map f l) → P y
 every-map P f [] h y m = absurd (List·Memᴰ·not-nil m)

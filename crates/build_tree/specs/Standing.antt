@@ -24,10 +24,10 @@ use Rattle.tree.specs.Nodes.{Entries, nodesOf}
 use Rattle.tree.specs.Layout.{floatsOf}
 use Rattle.tree.specs.Made.{madeFrom}
 use Rattle.tree.specs.Steps.{Group, childGroups, made, made-cons, made-none, made-waiting, length-made, rootGroup}
-use Rattle.build_tree.specs.Waiting.{headed, encoded, groupAt, own, stands, six, sixes, leaves, centroids}
-use Rattle.build_tree.specs.WaitingLaws.{length-headed, encoded-cons, encoded-append, length-encoded, group-read, sets-middle, part-middle-sets}
+use Rattle.waiting_groups.specs.Waiting.{headed, encoded, groupAt, own, stands, six, sixes, leaves, centroids}
+use Rattle.waiting_groups.specs.WaitingLaws.{length-headed, encoded-cons, encoded-append, length-encoded, group-read, sets-middle, part-middle-sets}
 use Rattle.build_tree.specs.MadeLaws.{own-children, length-stands, children-sound, leaves-snoc, centroids-snoc, length-centroids, length-sixes, sixes-snoc, order-step, six-all, leaves-all, centroids-all}
-use Rattle.build_tree.specs.Lent.{splittingOf, Lent, Sound, Waits, Stepped, Replaced, BothReplaced, Whole, Overfull, Built}
+use Rattle.build_tree.specs.Contracts.{splittingOf, Lent, Sound, Waits, Stepped, Replaced, BothReplaced, Whole, Overfull, Built}
 use Rattle.build_tree.specs.declared.Made.the-variants as Made′
 
 -- ---- places

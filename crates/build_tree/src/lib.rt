@@ -1,34 +1,20 @@
 // The tree of an index, made node by node (document 01, 'Tree'). While it is being made, what waits stands in the store's own parts: the leaf order
 // holds first the leaves made so far and then the groups that wait to become nodes, left to right, each with a header in its first place.
-ghost use Prim.Native.Nat.{_+_, _≤_};
-ghost use mathlib.Core.Path.{_≡_};
-ghost use lib.ListN.{length};
-ghost use lib.Seq.{sets};
-ghost use Rattle.lists.specs.Lists.{countFrom};
+use node_table::write_six;
+use waiting_groups::begin;
+use waiting_groups::is_leaf;
+use waiting_groups::take_header;
+ghost use Prim.Native.Nat.{_+_};
 ghost use Rattle.store.specs.Store.{orderAt};
-ghost use Rattle.build_tree.specs.Waiting.{headed, groupAt};
-ghost use Rattle.build_tree.specs.Lent.{Lent, Waits, Stepped, Built};
+ghost use Rattle.waiting_groups.specs.Waiting.{groupAt};
+ghost use Rattle.build_tree.specs.Contracts.{Lent, Waits, Stepped, Built};
 
-pub mod group;
 pub mod split;
-pub mod write;
 
 // What a build comes to: how many nodes were made, or that the tree has more than the store has room for.
 pub enum Made {
     Nodes(usize),
     TooMany,
-}
-
-// All ids wait as one group, the root's, from `at` on. 16 levels may be split, the depths 0 to 15: the root has depth 0, and a node with depth above
-// 15 is a leaf.
-pub fn begin(numbers: &mut [u32], at: usize, n: usize)
-    requires { ⌜ at + n ≤ length (now numbers) ⌝ }
-    requires { ⌜ 1 ≤ n ⌝ }
-    requires { ⌜ n ≤ 4096 ⌝ }
-    ensures { λ _. ⌜ now (numbers .exit) ≡ sets (now (numbers .entry)) at (headed 16 (countFrom 0 n)) ⌝ }
-{
-    write::count_ids(numbers, at, n);
-    group::put_header(numbers, at, n, 16);
 }
 
 // Makes the node with the number `made` of the first group that waits. The leaf order is filled up to `done`; the result is up to where it is filled
@@ -50,7 +36,7 @@ pub fn make_node(
     let start = shape.order_at() + done;
     let six_at = shape.nodes_at() + 6 * made;
     let centroid_at = shape.centroids_at() + made * shape.dimension;
-    let head = group::take_header(numbers, start);
+    let head = take_header(numbers, start);
     let end = start + head.size;
     mean::mean_into(
         floats,
@@ -59,8 +45,8 @@ pub fn make_node(
         n,
         centroid_at,
     );
-    if group::is_leaf(leaf_size, head) {
-        write::write_six(numbers, six_at, 0, done, head.size);
+    if is_leaf(leaf_size, head) {
+        write_six(numbers, six_at, 0, done, head.size);
         return done + head.size;
     }
     split::split_node(

@@ -1,10 +1,13 @@
 // An inner node: the ids of its group are split into clusters, and the non-empty ones wait in its place.
+use node_table::copy_to;
+use node_table::write_six;
+use waiting_groups::sort_by_mark;
 ghost use Prim.Native.Nat.{_+_, _*_, _≤_, _<_, min};
 ghost use mathlib.Core.Path.{_≡_};
 ghost use lib.ListN.{length};
 ghost use Rattle.store.specs.Store.{Limits, centresAt};
 ghost use Rattle.cluster.specs.Contracts.{BehindVectors};
-ghost use Rattle.build_tree.specs.Lent.{Lent, Splits, Clustering, Divided};
+ghost use Rattle.build_tree.specs.Contracts.{Lent, Splits, Clustering, Divided};
 
 // The smaller of two numbers.
 fn smaller(a: usize, b: usize) -> usize
@@ -36,7 +39,7 @@ fn split_ids(
 {
     let k = smaller(shape.branching, ids.len());
     kmeans::simple_kmeans(floats, ids, work, shape.dimension, n, shape.centres_at(), k);
-    crate::group::sort_by_mark(ids, work, k, levels)
+    sort_by_mark(ids, work, k, levels)
 }
 
 // Splits the group whose ids stand in the numbers from `start` on, and writes the node's six numbers at `at`.
@@ -58,6 +61,6 @@ pub fn split_node(
     let end = start + size;
     let twice = 2 * size;
     let children = split_ids(shape, n, levels, &numbers[start..end], floats, work);
-    crate::write::write_ids(numbers, start, &work[size..twice]);
-    crate::write::write_six(numbers, at, children, 0, 0);
+    copy_to(numbers, start, &work[size..twice]);
+    write_six(numbers, at, children, 0, 0);
 }

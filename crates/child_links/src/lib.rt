@@ -6,20 +6,9 @@ ghost use lib.Seq.{sets};
 ghost use Rattle.tree.specs.Links.{linkUp};
 ghost use Rattle.node_table.specs.Table.{cells, column, blockStart};
 ghost use Rattle.child_links.specs.Contracts.{Counts};
+use node_table::copy_to;
 use node_table::set_starts;
 use node_table::wide;
-
-// Copies `source` to the place `at` of the numbers.
-fn copy_to(numbers: &mut [u32], at: usize, source: &[u32])
-    requires { do ⌜ at + (← ⟦source.len()⟧) ≤ (← ⟦numbers.len()⟧) ⌝ }
-    ensures { λ r. ⌜ now (numbers .exit) ≡ sets (now (numbers .entry)) at (now (source .entry)) ⌝ }
-{
-    let mut k = 0;
-    while k < source.len() {
-        numbers[at + k] = source[k];
-        k += 1;
-    }
-}
 
 // Writes the child links from `links` on, from the last node to the first; the child counts stand in the column at `at`. The nodes that have no
 // parent yet wait on a stack in the work list, the lowest number on top: a node takes its children from there, and goes there itself.

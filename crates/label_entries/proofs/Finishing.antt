@@ -23,7 +23,7 @@ use Rattle.node_table.specs.Table.{written, cellAt, cell, cells, column, sumTo,
 use Rattle.child_links.specs.Contracts.{Counts}
 use Rattle.entry_leaves.specs.Leaves.{marked, leavesMarked}
 use Rattle.entry_order.specs.EntryOrder.{classStart, classPlace}
-use Rattle.label_entries.specs.Finish.{held, Room, AllMade, nodesMade, Used}
+use Rattle.label_entries.specs.Contracts.{held, Room, AllMade, nodesMade, Used}
 use Rattle.node_table.specs.TableLaws.{Distinct, length-written, getD-written-other, getD-written-same, sumTo-congr}
 use Rattle.entry_leaves.specs.LeavesLaws.{length-marked}
 use Rattle.label_entries.proofs.Classes.{classTo, length-class-all, sumTo-block, sorted-is}

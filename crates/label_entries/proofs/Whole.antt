@@ -19,7 +19,7 @@ use Rattle.entry_leaves.specs.Leaves.{leavesMarked}
 use Rattle.entry_order.specs.EntryOrder.{classStart, classPlace}
 use Rattle.node_filters.specs.Filters.{filtersMade}
 use Rattle.node_filters.specs.Contracts.{RowFits}
-use Rattle.label_entries.specs.Finish.{held, Room, AllMade, nodesMade, Used}
+use Rattle.label_entries.specs.Contracts.{held, Room, AllMade, nodesMade, Used}
 use Rattle.node_table.specs.TableLaws.{length-written}
 use Rattle.label_entries.proofs.Finishing.{fit, owners-count, counts-ok, linked, ids-sum, places-below, owner-below, after, leaves, length-leaves, leaves-below, numbers-final, work-final, used-front, drop-later}
 use Rattle.label_entries.proofs.FilterRows.{rows-fit, filters-final}

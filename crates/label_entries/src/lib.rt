@@ -1,5 +1,5 @@
 // The finishing passes of a build: block starts, child links, label entries by leaf, filters (document 01, 'The store' and 'Entries').
-ghost use Rattle.label_entries.specs.Finish.{Room, AllMade, Finished};
+ghost use Rattle.label_entries.specs.Contracts.{Room, AllMade, Finished};
 use child_links::link_nodes;
 use entry_leaves::entry_leaves;
 use entry_order::sort_entries;

@@ -2,6 +2,9 @@
 use store::Shape;
 ghost use mathlib.Core.Path.{_≡_};
 ghost use Prim.Native.Nat.{_+_, _*_, _<_, _≤_, _^_};
+ghost use mathlib.Core.List.{_∷_, []};
+ghost use lib.ListN.{length};
+ghost use lib.Seq.{sets};
 ghost use Rattle.store.specs.Store.{Limits};
 ghost use Rattle.node_table.specs.Table.{cell, column, sumTo, startAt, blockStart, placesOf};
 
@@ -56,5 +59,34 @@ pub fn set_starts(numbers: &mut [u32], at: usize, nodes: usize)
         numbers[at + 6 * i] = start_of(sum, count);
         sum += count;
         i += 1;
+    }
+}
+
+// Writes the six numbers of a node: the count of its children, and the start and the count of its vectors. The start of the children and the block
+// of entries are left to the finishing passes.
+pub fn write_six(numbers: &mut [u32], at: usize, children: usize, start: usize, size: usize)
+    requires { ⌜ at + 6 ≤ length (now numbers) ⌝ }
+    requires { ⌜ children ≤ 4096 ⌝ }
+    requires { ⌜ start ≤ 4096 ⌝ }
+    requires { ⌜ size ≤ 4096 ⌝ }
+    ensures { λ _. ⌜ now (numbers .exit) ≡ sets (now (numbers .entry)) at (0 ∷ children ∷ start ∷ size ∷ 0 ∷ 0 ∷ []) ⌝ }
+{
+    numbers[at] = 0;
+    numbers[at + 1] = children as u32;
+    numbers[at + 2] = start as u32;
+    numbers[at + 3] = size as u32;
+    numbers[at + 4] = 0;
+    numbers[at + 5] = 0;
+}
+
+// Copies `source` to the place `at` of the numbers.
+pub fn copy_to(numbers: &mut [u32], at: usize, source: &[u32])
+    requires { do ⌜ at + (← ⟦source.len()⟧) ≤ (← ⟦numbers.len()⟧) ⌝ }
+    ensures { λ r. ⌜ now (numbers .exit) ≡ sets (now (numbers .entry)) at (now (source .entry)) ⌝ }
+{
+    let mut k = 0;
+    while k < source.len() {
+        numbers[at + k] = source[k];
+        k += 1;
     }
 }

@@ -16,7 +16,7 @@ use Rattle.lists.specs.Maps.{countFrom-suc}
 use Rattle.lists.specs.Tests.{which, either, allPass, all-pass}
 use Rattle.lists.specs.Counting.{keep-map, keep-pass, keep-fail, keep-nil, keep-none, length-keep-le, map-joined, keep-joined}
 use Rattle.lists.specs.Partition.{List·Permᴰ, Permᴰ·map, perm-keep}
-use Rattle.label.specs.Filter.{mayContain}
+use Rattle.bloom.specs.Filter.{mayContain}
 use Rattle.store.specs.declared.Counts.{Counts}
 use Rattle.tree.specs.Nodes.{entriesOf, filterOf}
 use Rattle.tree.specs.NodeLaws.{entriesOf-all, filterOf-admits}

@@ -1,9 +1,9 @@
--- The tree of document 01's worked example, and of one vector at leaf size 0, which has 17 nodes.
+-- The tree of document 01's worked example, of one vector at leaf size 0, which has 17 nodes, and an empty cluster.
 use mathlib.Core.List.{[], _∷_, map}
 use mathlib.Core.Path.{_≡_, refl}
 use lib.Ieee.{binary32, ofBits}
 use Rattle.cluster.specs.Trials.{sample}
-use Rattle.tree.specs.Tree.{Splitting, treeOf, size, sizes, leaf, inner, none, more}
+use Rattle.tree.specs.Tree.{Splitting, groups, treeOf, size, sizes, leaf, inner, none, more}
 
 -- 'D 2, B 2, leaf size 1'
 abbrev pub two : Splitting
@@ -16,3 +16,8 @@ shape = refl
 pub seventeen-nodes : size (treeOf (record { dimension = 2; branching = 2; leaf-size = 0 }) (map (map (ofBits binary32)) ((0x3F800000 ∷ 0 ∷ []) ∷ []))) ≡ 17
 unfolding treeOf size sizes ofBits
 seventeen-nodes = refl
+
+-- Two vectors alike go to the first centre: the second cluster is empty and no child.
+pub one-child : groups two (map (map (ofBits binary32)) ((0x3F800000 ∷ 0 ∷ []) ∷ (0x3F800000 ∷ 0 ∷ []) ∷ [])) (0 ∷ 1 ∷ []) ≡ (0 ∷ 1 ∷ []) ∷ []
+unfolding groups ofBits
+one-child = refl

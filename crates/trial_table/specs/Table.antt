@@ -11,7 +11,7 @@ use Rattle.vector.specs.Normalized.{normalized, normalized-holds}
 use Rattle.distance.specs.Distance.{distance}
 use Rattle.total_order.specs.TotalOrder.{totalOrder}
 use Rattle.label.specs.Fnv.{fnv, fnvFrom, fnvStep}
-use Rattle.label.specs.Filter.{firstBit, secondBit}
+use Rattle.bloom.specs.Filter.{firstBit, secondBit}
 use Rattle.tree.specs.Tree.{treeOf, size, sizes}
 use Rattle.echo_file.specs.Format.{settings, vector, filtered, encode}
 use Rattle.text.specs.Digits.{decimalOf, hexOf, lastDigits, places, tens, digitChar}

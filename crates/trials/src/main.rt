@@ -127,12 +127,12 @@ fn filter(r: &[u8])
     let hash = number(r, 0) as u64 + 4294967296 * number(r, 1) as u64;
     let other = number(r, 2) as u64 + 4294967296 * number(r, 3) as u64;
     let mut words = [0u64; 4];
-    label::bloom::insert(&mut words, hash);
+    bloom::insert(&mut words, hash);
     io::print_hex(STDOUT_FILENO, words[0], 16);
     io::print_hex(STDOUT_FILENO, words[1], 16);
     io::print_hex(STDOUT_FILENO, words[2], 16);
     io::print_hex(STDOUT_FILENO, words[3], 16);
-    if label::bloom::may_contain(&words, other) {
+    if bloom::may_contain(&words, other) {
         io::write_all(STDOUT_FILENO, b" kept");
     } else {
         io::write_all(STDOUT_FILENO, b" denied");

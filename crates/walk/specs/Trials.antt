@@ -6,7 +6,7 @@ use mathlib.Core.List.{List, [], _∷_, _++_, map}
 use lib.Ieee.{Float, binary32, ofBits, toBits}
 use Rattle.store.specs.declared.Shape.{Shape}
 use Rattle.store.specs.Store.{Store}
-use Rattle.label.specs.Filter.{emptyFilter, insertAll}
+use Rattle.bloom.specs.Filter.{emptyFilter, insertAll}
 use Rattle.walk.specs.declared.Wanted.the-variants.{Label}
 use Rattle.store.specs.declared.Counts.{Counts}
 use Rattle.walk.specs.Walk.{State, damaged, going, walk}

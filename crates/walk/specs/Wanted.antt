@@ -6,7 +6,7 @@ use mathlib.Core.List.{List, map}
 use lib.Dec.{ltb, eqb}
 use Rattle.lists.specs.Lists.{keep}
 use Rattle.store.specs.declared.Counts.{Counts}
-use Rattle.label.specs.Filter.{mayContain}
+use Rattle.bloom.specs.Filter.{mayContain}
 use Rattle.walk.specs.declared.Wanted.{Wanted}
 use Rattle.walk.specs.declared.Wanted.the-variants.{Everything, Label}
 

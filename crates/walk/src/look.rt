@@ -1,6 +1,6 @@
 // What an opened node shows: the part of the numbers in which its list stands.
 use crate::Wanted;
-use label::bloom::may_contain;
+use bloom::may_contain;
 use store::Counts;
 use store::Shape;
 use store::wide;

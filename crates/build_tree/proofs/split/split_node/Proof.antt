@@ -34,20 +34,20 @@ split-ids-requires c κs =
     let h = p .0 .held in
     (p .0 .limits, (room, (omega (arith, v, h), (omega (arith, k, p .1 .filled), (omega (arith, k, v, h, p .1 .many), (work, p .1 .few))))))
 
-mul-write-ids : tie.Need-mul-write-ids
-mul-write-ids c = search needs
+mul-copy-to : tie.Need-mul-copy-to
+mul-copy-to c = search needs
 
-sub-write-ids : tie.Need-sub-write-ids
-sub-write-ids c = search needs
+sub-copy-to : tie.Need-sub-copy-to
+sub-copy-to c = search needs
 
-part-write-ids-start : tie.Need-part-write-ids-start
-part-write-ids-start c = search needs
+part-copy-to-start : tie.Need-part-copy-to-start
+part-copy-to-start c = search needs
 
-part-write-ids-end : tie.Need-part-write-ids-end
-part-write-ids-end c = search needs
+part-copy-to-end : tie.Need-part-copy-to-end
+part-copy-to-end c = search needs
 
-write-ids-requires : tie.Need-write-ids-requires
-write-ids-requires c κs = search needs
+copy-to-requires : tie.Need-copy-to-requires
+copy-to-requires c κs = search needs
 
 write-six-requires : tie.Need-write-six-requires
 write-six-requires c κs =
@@ -55,7 +55,7 @@ write-six-requires c κs =
     let p = c .before .before .before .before .before .before .before .before .before .before .before .before .before .before .before .before .before .before .before .pre in
     let d = c .before .before .before .before .before .before .before .before .before .before .before .split-ids in
     let few = split-few (p .0) (p .1) (d .ensures) in
-    (omega (arith, p .1 .room, c .before .before .before .write-ids .kept .0), (few, (omega arith, omega arith)))
+    (omega (arith, p .1 .room, c .before .before .before .copy-to .kept .0), (few, (omega arith, omega arith)))
 
 same-length : tie.Need-same-length
 same-length c = search needs
@@ -71,7 +71,7 @@ returns c =
     let a = c .before .before .before .before .before .before .before .before .before .before .before .before .before .before .before .before .before .before .before .before .before .before .args in
     let p = c .before .before .before .before .before .before .before .before .before .before .before .before .before .before .before .before .before .before .before .before .before .before .pre in
     let d = c .before .before .before .before .before .before .before .before .before .before .before .before .before .before .split-ids in
-    divided (p .0) (p .1) (d .ensures) (c .before .before .before .before .before .before .write-ids .ensures) (c .before .before .write-six .ensures)
+    divided (p .0) (p .1) (d .ensures) (c .before .before .before .before .before .before .copy-to .ensures) (c .before .before .write-six .ensures)
 
 pub split-node-spec : {M : Type 1} → statement M
 split-node-spec =
@@ -84,11 +84,11 @@ split-node-spec =
     part-split-ids-start
     part-split-ids-end
     split-ids-requires
-    mul-write-ids
-    sub-write-ids
-    part-write-ids-start
-    part-write-ids-end
-    write-ids-requires
+    mul-copy-to
+    sub-copy-to
+    part-copy-to-start
+    part-copy-to-end
+    copy-to-requires
     write-six-requires
     same-length
     same-length-2

@@ -1,6 +1,6 @@
 -- `look::denied` meets its contract: everything is denied nowhere, a hash where the filter lacks one of its bits. Assumes nothing.
 use Rattle.walk.specs.LentLaws.{lent-is}
-use Rattle.label.specs.Filter.{mayContain}
+use Rattle.bloom.specs.Filter.{mayContain}
 use mathlib.Core.Bool.{not}
 use Prim.Native.Nat.{_+_, _*_}
 use mathlib.Core.Path.{_≡_, sym, ap, _∙_}
