@@ -12,12 +12,12 @@ use lib.Seq.{sets}
 use Rattle.lists.specs.Lists.{part, keep}
 use Rattle.lists.specs.Parts.{length-part, part-append-parts, drop-more, part-behind}
 use Rattle.lists.specs.Counting.{keep-append}
-use Rattle.order.specs.declared.Record.{Record}
-use Rattle.order.specs.Sorted.{sort, Sorted}
-use Rattle.order.specs.SortedLaws.{sort-sorted}
-use Rattle.order.specs.Records.{value, records, Heap}
-use Rattle.order.specs.RecordsLaws.{records-zero, heap-none}
-use Rattle.order.specs.Queue.{Popped}
+use Rattle.record_queue.specs.declared.Record.{Record}
+use Rattle.record_queue.specs.Sorted.{sort, Sorted}
+use Rattle.record_queue.specs.SortedLaws.{sort-sorted}
+use Rattle.record_queue.specs.Records.{value, records, Heap}
+use Rattle.record_queue.specs.RecordsLaws.{records-zero, heap-none}
+use Rattle.record_queue.specs.Queue.{Popped}
 use Rattle.store.specs.declared.Counts.{Counts}
 use Rattle.walk.specs.Answer.{documentOf, distanceOf, dropAfter, dropRepeats}
 use Rattle.walk.specs.AnswerLaws.{drop-nil, drop-same, drop-other}

@@ -14,9 +14,9 @@ use Rattle.lists.specs.Lists.{keep}
 use Rattle.lists.specs.Counting.{keep-nil, keep-pass, keep-fail, keep-append, keep-all, keep-none}
 use Rattle.lists.specs.Tests.{which, either}
 use Rattle.lists.specs.Partition.{perm-keep}
-use Rattle.order.specs.Sorted.{sort, insert, inserts, Least, Sorted}
-use Rattle.order.specs.SortedLaws.{le-or-lt, insert-le, insert-gt, inserts-nil, inserts-cons, sort-append, sort-append-comm, sort-perm, perm-sort, sort-of-sorted, sort-sorted, least-mem}
-use Rattle.order.specs.RecordsLaws.{same-or-not}
+use Rattle.record_queue.specs.Sorted.{sort, insert, inserts, Least, Sorted}
+use Rattle.record_queue.specs.SortedLaws.{le-or-lt, insert-le, insert-gt, inserts-nil, inserts-cons, sort-append, sort-append-comm, sort-perm, perm-sort, sort-of-sorted, sort-sorted, least-mem}
+use Rattle.record_queue.specs.RecordsLaws.{same-or-not}
 use Rattle.walk.specs.Answer.{documentOf, dropAfter, dropRepeats}
 use Rattle.walk.specs.AnswerLaws.{drop-nil, drop-same, drop-other}
 use Rattle.hit_queue.specs.Hits.{within}

@@ -10,7 +10,7 @@ use lib.ListN.{length, take, drop, length-map}
 use lib.Seq.{sets, take-take}
 use Rattle.lists.specs.Lists.{part}
 use Rattle.lists.specs.Parts.{length-part, part-part}
-use Rattle.order.specs.RecordsLaws.{heap-none}
+use Rattle.record_queue.specs.RecordsLaws.{heap-none}
 use Rattle.store.specs.declared.Shape.{Shape}
 use Rattle.store.specs.Store.{Limits, hitsAt, workSize}
 use Rattle.walk.specs.declared.Wanted.{Wanted}

@@ -7,8 +7,8 @@ use lib.Ieee.{Float}
 use lib.ListN.{length, take, drop}
 use lib.Seq.{sets}
 use Rattle.lists.specs.Lists.{part, keep}
-use Rattle.order.specs.Sorted.{sort}
-use Rattle.order.specs.Records.{records, Heap}
+use Rattle.record_queue.specs.Sorted.{sort}
+use Rattle.record_queue.specs.Records.{records, Heap}
 use Rattle.walk.specs.Answer.{documentOf, distanceOf, dropRepeats}
 use Rattle.store.specs.declared.Shape.{Shape}
 use Rattle.store.specs.declared.Counts.{Counts}

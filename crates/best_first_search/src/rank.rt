@@ -1,7 +1,7 @@
 // The first k hits of the vectors found: sorted, adjacent equal document ids lose the later (document 01, 'Search').
 use hit_queue::answer::take_hits;
 use hit_queue::queue::measure;
-use order::pop;
+use record_queue::pop;
 use store::Counts;
 use store::Shape;
 ghost use Rattle.lists.specs.Lists.{part};

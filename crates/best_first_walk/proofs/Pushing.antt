@@ -12,7 +12,7 @@ use borrow.Author.Tests.{ltb-true}
 use Rattle.lists.specs.Lists.{part}
 use Rattle.lists.specs.Counting.{getD-Memᴰ}
 use Rattle.lists.specs.Parts.{length-part, getD-part, part-append-parts}
-use Rattle.order.specs.Records.{records, Heap}
+use Rattle.record_queue.specs.Records.{records, Heap}
 use Rattle.distance.specs.Distance.{distance}
 use Rattle.total_order.specs.TotalOrder.{keyOf}
 use Rattle.store.specs.declared.Shape.{Shape}

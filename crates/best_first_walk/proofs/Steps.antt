@@ -14,12 +14,12 @@ use Rattle.lists.specs.Lists.{part, isIn}
 use Rattle.lists.specs.Counting.{isIn-nil, isIn-here, isIn-later}
 use Rattle.lists.specs.Parts.{length-part, getD-sets-before, getD-sets-in, take-sets, part-sets-same, part-set-before, lent-part, drop-more, getD-behind, part-behind}
 use Rattle.lists.specs.Partition.{count, hit, hit-same, count-cons, count-Memᴰ, perm-length, count-perm, count-append}
-use Rattle.order.specs.declared.Record.{Record}
-use Rattle.order.specs.Sorted.{sort, insert}
-use Rattle.order.specs.SortedLaws.{length-sort, insert-nil, sort-nil, sort-append-comm, sort-append-cong}
-use Rattle.order.specs.Records.{value, records, Heap}
-use Rattle.order.specs.RecordsLaws.{value-is, records-zero, records-same, length-records, heap-none, same-or-not}
-use Rattle.order.specs.Queue.{Pushed, Popped}
+use Rattle.record_queue.specs.declared.Record.{Record}
+use Rattle.record_queue.specs.Sorted.{sort, insert}
+use Rattle.record_queue.specs.SortedLaws.{length-sort, insert-nil, sort-nil, sort-append-comm, sort-append-cong}
+use Rattle.record_queue.specs.Records.{value, records, Heap}
+use Rattle.record_queue.specs.RecordsLaws.{value-is, records-zero, records-same, length-records, heap-none, same-or-not}
+use Rattle.record_queue.specs.Queue.{Pushed, Popped}
 use Rattle.store.specs.declared.Shape.{Shape}
 use Rattle.store.specs.Store.{Limits, vectorAt, marksAt, workSize}
 use Rattle.distance.specs.Distance.{distance}

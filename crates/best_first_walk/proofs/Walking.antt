@@ -15,10 +15,10 @@ use borrow.Author.Tests.{lt-ltb, ltb-true, eqb-true, eqb-false}
 use Rattle.lists.specs.Lists.{part, isIn}
 use Rattle.lists.specs.Tests.{which, allPass, and-left, and-right, allPass-nil, allPass-cons, allPass-append, allPass-weaken}
 use Rattle.lists.specs.Parts.{getD-part, length-part}
-use Rattle.order.specs.declared.Record.{Record}
-use Rattle.order.specs.Sorted.{sort, insert}
-use Rattle.order.specs.Records.{value, records}
-use Rattle.order.specs.Queue.{Popped}
+use Rattle.record_queue.specs.declared.Record.{Record}
+use Rattle.record_queue.specs.Sorted.{sort, insert}
+use Rattle.record_queue.specs.Records.{value, records}
+use Rattle.record_queue.specs.Queue.{Popped}
 use Rattle.store.specs.declared.Shape.{Shape}
 use Rattle.store.specs.Store.{Limits, marksAt}
 use Rattle.store.specs.declared.Counts.{Counts}

@@ -7,8 +7,8 @@ use lib.Dec.{ltb}
 use lib.Ieee.{Float}
 use lib.ListN.{length, getD, take, drop}
 use Rattle.lists.specs.Lists.{part, isIn}
-use Rattle.order.specs.Sorted.{sort, insert}
-use Rattle.order.specs.Records.{records, Heap}
+use Rattle.record_queue.specs.Sorted.{sort, insert}
+use Rattle.record_queue.specs.Records.{records, Heap}
 use Rattle.store.specs.declared.Shape.{Shape}
 use Rattle.store.specs.Lent.{storeOf}
 use Rattle.store.specs.Store.{Store, Limits, CountsWithin, vectorAt, floatsSize, workSize, marksAt, hitsAt}

@@ -13,9 +13,9 @@ use Rattle.store.specs.Store.{Limits, hitsAt, workSize}
 use Rattle.walk.specs.declared.Wanted.{Wanted}
 use Rattle.store.specs.declared.Counts.{Counts}
 use Rattle.walk.specs.Wanted.{LeafList, vector-list, entry-list, listRead, heldIn, most}
-use Rattle.order.specs.Sorted.{sort, insert}
-use Rattle.order.specs.SortedLaws.{length-insert}
-use Rattle.order.specs.Records.{records, Heap}
+use Rattle.record_queue.specs.Sorted.{sort, insert}
+use Rattle.record_queue.specs.SortedLaws.{length-insert}
+use Rattle.record_queue.specs.Records.{records, Heap}
 use Rattle.walk.specs.StoreView.{storeView}
 use Rattle.lists.specs.Tests.{allPass, and-left, and-right, allPass-nil, allPass-cons}
 use Rattle.walk.specs.Walk.{waitingNode}

@@ -11,11 +11,11 @@ use borrow.Author.Tests.{ltb-true, le-leb, lt-leb}
 use Rattle.lists.specs.Lists.{part, keep}
 use Rattle.lists.specs.Parts.{part-zero, part-append-parts, length-part, getD-part, drop-more, part-behind}
 use Rattle.lists.specs.Counting.{getD-Memᴰ, keep-nil, keep-pass, keep-fail, keep-append}
-use Rattle.order.specs.declared.Record.{Record}
-use Rattle.order.specs.Sorted.{sort}
-use Rattle.order.specs.SortedLaws.{sort-cons, sort-append-comm, sort-append-cong}
-use Rattle.order.specs.Records.{value, records, Heap}
-use Rattle.order.specs.Queue.{Pushed}
+use Rattle.record_queue.specs.declared.Record.{Record}
+use Rattle.record_queue.specs.Sorted.{sort}
+use Rattle.record_queue.specs.SortedLaws.{sort-cons, sort-append-comm, sort-append-cong}
+use Rattle.record_queue.specs.Records.{value, records, Heap}
+use Rattle.record_queue.specs.Queue.{Pushed}
 use Rattle.store.specs.declared.Shape.{Shape}
 use Rattle.store.specs.Store.{vectorAt}
 use Rattle.distance.specs.Distance.{distance}

@@ -8,12 +8,12 @@ use lib.Ieee.{Float}
 use lib.ListN.{length, take, set, length-append, length-map}
 use lib.Seq.{sets, take-all, take-append-seam}
 use Rattle.lists.specs.Parts.{sets-snoc}
-use Rattle.order.specs.declared.Record.{Record}
-use Rattle.order.specs.Sorted.{sort}
-use Rattle.order.specs.SortedLaws.{sort-nil}
-use Rattle.order.specs.Records.{value, records, Heap}
-use Rattle.order.specs.RecordsLaws.{value-is, records-zero}
-use Rattle.order.specs.Queue.{Popped}
+use Rattle.record_queue.specs.declared.Record.{Record}
+use Rattle.record_queue.specs.Sorted.{sort}
+use Rattle.record_queue.specs.SortedLaws.{sort-nil}
+use Rattle.record_queue.specs.Records.{value, records, Heap}
+use Rattle.record_queue.specs.RecordsLaws.{value-is, records-zero}
+use Rattle.record_queue.specs.Queue.{Popped}
 use Rattle.total_order.specs.TotalOrder.{ofKey}
 use Rattle.walk.specs.Answer.{documentOf, distanceOf, dropAfter}
 use Rattle.walk.specs.AnswerLaws.{drop-nil, drop-same, drop-other}

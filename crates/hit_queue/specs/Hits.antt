@@ -9,8 +9,8 @@ use lib.Ieee.{Float}
 use lib.ListN.{length, getD, take, drop}
 use lib.Seq.{sets}
 use Rattle.lists.specs.Lists.{part, keep}
-use Rattle.order.specs.Sorted.{sort}
-use Rattle.order.specs.Records.{records, Heap}
+use Rattle.record_queue.specs.Sorted.{sort}
+use Rattle.record_queue.specs.Records.{records, Heap}
 use Rattle.store.specs.declared.Shape.{Shape}
 use Rattle.store.specs.Store.{CountsWithin, ownersAt, numbersSize, hashesSize}
 use Rattle.walk.specs.declared.Wanted.{Wanted}

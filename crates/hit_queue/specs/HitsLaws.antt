@@ -12,9 +12,9 @@ use Rattle.lists.specs.Counting.{keep-nil, keep-pass, keep-fail, keep-all}
 use Rattle.lists.specs.Tests.{which, allPass, and-left, and-right, allPass-nil, allPass-cons, allPass-append}
 use Rattle.lists.specs.Lists.{part, keep}
 use Rattle.lists.specs.Parts.{part-append-parts}
-use Rattle.order.specs.declared.Record.{Record}
-use Rattle.order.specs.Records.{value}
-use Rattle.order.specs.RecordsLaws.{value-is}
+use Rattle.record_queue.specs.declared.Record.{Record}
+use Rattle.record_queue.specs.Records.{value}
+use Rattle.record_queue.specs.RecordsLaws.{value-is}
 use Rattle.store.specs.declared.Shape.{Shape}
 use Rattle.store.specs.Store.{ownersAt}
 use Rattle.walk.specs.declared.Wanted.{Wanted}

@@ -1,14 +1,14 @@
 // The hits of an answer are taken out of the queue.
-use order::pop;
+use record_queue::pop;
 use total_order::from_key;
 ghost use mathlib.Core.Path.{_≡_};
 ghost use Prim.Native.Nat.{_+_, _<_};
 ghost use lib.ListN.{length};
-ghost use Rattle.order.specs.Records.{records};
+ghost use Rattle.record_queue.specs.Records.{records};
 ghost use Rattle.distance.specs.Distance.{distance};
 ghost use Rattle.walk.specs.Answer.{dropAfter};
 ghost use Rattle.hit_queue.specs.Hits.{TakeHits, Takes, CountRest};
-ghost use Rattle.order.specs.Sorted.{sort};
+ghost use Rattle.record_queue.specs.Sorted.{sort};
 
 // What was taken of a queue: how many hits, how many records are left, and the last document id, or 2 ^ 32 before the first.
 pub struct Taken {

@@ -1,8 +1,8 @@
 // The hits of the vectors found are measured and put into a queue.
 use distance::places::distance_at;
 use distance::places::distances_at;
-use order::Record;
-use order::push;
+use record_queue::Record;
+use record_queue::push;
 use store::Counts;
 use store::Shape;
 use store::wide;
@@ -11,7 +11,7 @@ ghost use mathlib.Core.Path.{_≡_};
 ghost use mathlib.Core.List.{[], _∷_};
 ghost use Prim.Native.Nat.{_+_, _*_, _<_};
 ghost use lib.ListN.{length, getD};
-ghost use Rattle.order.specs.Records.{value};
+ghost use Rattle.record_queue.specs.Records.{value};
 ghost use Rattle.distance.specs.Distance.{distance};
 ghost use Rattle.walk.specs.Answer.{hitOf};
 ghost use Rattle.lists.specs.Lists.{part};

@@ -41,7 +41,7 @@ use Rattle.runs.specs.Calls.{Change, add, build, change, search, Alike}
 use Rattle.runs.specs.Model.{Setting, Model, emptyModel, changeCheck, changedBy, modelSearchCheck, modelWalk, Expected, returns, answers, answered, searchedBy, expected, after}
 use Rattle.runs.specs.Run.{found, Lent, nextIndex, Changes, SearchStep}
 use Rattle.runs.specs.Theorem.{AnsweredWith, replyOf, Matches}
-use Rattle.runs.specs.Fronts.{nothing, join-nothing}
+use Rattle.store.specs.Fronts.{nothing, join-nothing}
 use Rattle.runs.specs.State.{Allowed, created-is}
 use Rattle.runs.specs.Refusals.{SearchRoom, search-room}
 use Rattle.runs.specs.Invariant.{Invariant, begins}

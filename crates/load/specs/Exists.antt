@@ -20,7 +20,7 @@ use Rattle.settings.specs.declared.refusal.Refusal.the-variants.{Input}
 use Rattle.settings.specs.declared.refusal.InputRefusal.the-variants.{BadRecord, SettingsOrder, FileTooLong}
 use Rattle.curator.specs.Changes.{created, Builds}
 use Rattle.curator.specs.Arguments.{AddCall, SearchCall, everything, labelled}
-use Rattle.runs.specs.Fronts.{zeros}
+use Rattle.store.specs.Fronts.{zeros}
 use Rattle.runs.specs.Calls.{add, build}
 use Rattle.runs.specs.Reached.{change-laws}
 use Rattle.runs.specs.Exists.{search-outcome}

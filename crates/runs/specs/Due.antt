@@ -13,8 +13,8 @@ use lib.ListN.{length, getD, length-map}
 use Rattle.lists.specs.Lists.{joined, countFrom}
 use Rattle.lists.specs.Counting.{getD-Memᴰ, length-countFrom, joined-map, map-joined}
 use Rattle.lists.specs.Partition.{List·Permᴰ, List·Permᴰ·trans, Permᴰ·refl, Permᴰ·symm, Permᴰ·map, perm-of-eq, perm-append, perm-length}
-use Rattle.order.specs.Sorted.{sort}
-use Rattle.order.specs.SortedLaws.{perm-sort}
+use Rattle.record_queue.specs.Sorted.{sort}
+use Rattle.record_queue.specs.SortedLaws.{perm-sort}
 use Rattle.tree.specs.Tree.{Tree, Forest, leaf, inner, none, more, Splitting, treeOf, size}
 use Rattle.tree.specs.Nodes.{Node, Entries, roots, entriesOf, filterOf}
 use Rattle.tree.specs.TreeLaws.{keptIds, leafIds, forestIds, Fair, Once, once-left, once-right, once-perm, once-treeOf, fair-treeOf, perm-leafIds, kept-grow, size-some, size-treeOf}

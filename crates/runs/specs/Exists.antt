@@ -26,7 +26,7 @@ use Rattle.curator.specs.Arguments.{SearchCall}
 use Rattle.runs.specs.Calls.{Change, Call, change, search, Typed, TypedCall, AllTyped}
 use Rattle.runs.specs.Model.{Setting}
 use Rattle.runs.specs.Run.{Ended, changed, found, nextIndex, Step, RunFrom, done, next, Run}
-use Rattle.runs.specs.Fronts.{frontOf, restOf, front-rest, front-lent, join-lengths, noLengths, addLengths, both-fit, same-fit, zeros}
+use Rattle.store.specs.Fronts.{frontOf, restOf, front-rest, front-lent, join-lengths, noLengths, addLengths, both-fit, same-fit, zeros}
 use Rattle.runs.specs.Built.{freed}
 use Rattle.runs.specs.Reached.{change-laws}
 use Rattle.curator.specs.OutcomeLaws.{is-search-refused, is-found}

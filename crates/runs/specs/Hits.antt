@@ -10,7 +10,7 @@ use lib.ListN.{length, getD}
 use Rattle.lists.specs.Maps.{map-on, Memᴰ-map}
 use Rattle.lists.specs.Counting.{sumOf, sumOf-map, getD-Memᴰ, Memᴰ-keep}
 use Rattle.lists.specs.Partition.{hit, count, count-Memᴰ, Memᴰ-count}
-use Rattle.order.specs.Sorted.{sort}
+use Rattle.record_queue.specs.Sorted.{sort}
 use Rattle.distance.specs.DistanceLaws.{distance-fits}
 use Rattle.total_order.specs.TotalOrder.{keyOf, ofKey}
 use Rattle.total_order.specs.OrderLaws.{ofKey-keyOf}

@@ -13,8 +13,8 @@ use Rattle.lists.specs.Maps.{getD-map, take-Memᴰ}
 use Rattle.lists.specs.Counting.{getD-Memᴰ}
 use Rattle.lists.specs.Parts.{getD-sets-in}
 use Rattle.store.specs.declared.Lengths.{Lengths}
-use Rattle.order.specs.Sorted.{sort}
-use Rattle.order.specs.SortedLaws.{sort-mem, no-later-length}
+use Rattle.record_queue.specs.Sorted.{sort}
+use Rattle.record_queue.specs.SortedLaws.{sort-mem, no-later-length}
 use Rattle.distance.specs.DistanceLaws.{distance-fits}
 use Rattle.total_order.specs.TotalOrder.{totalOrder, keyOf}
 use Rattle.total_order.specs.OrderLaws.{totalOrder-key}

@@ -29,7 +29,6 @@ pub mod Larger
 pub mod Whole
 pub mod Demand
 -- not empty: outcomes, runs and reference lists exist; an example
-pub mod Fronts
 pub mod Exists
 pub mod Reference
 pub mod Places

@@ -8,7 +8,7 @@ use mathlib.Core.Path.{_≡_, refl, sym, _∙_, subst}
 use lib.Dec.{T}
 use lib.Ieee.{Float, binary32, fits}
 use Rattle.lists.specs.Partition.{perm-Memᴰ}
-use Rattle.order.specs.SortedLaws.{le-or-lt}
+use Rattle.record_queue.specs.SortedLaws.{le-or-lt}
 use Rattle.lists.specs.Tests.{either}
 use Rattle.distance.specs.DistanceLaws.{distance-fits}
 use Rattle.total_order.specs.TotalOrder.{totalOrder}

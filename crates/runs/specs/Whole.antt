@@ -10,8 +10,8 @@ use lib.ListN.{length, take, length-map, length-take}
 use Rattle.lists.specs.Maps.{map-on, map-take, take-Memᴰ}
 use Rattle.lists.specs.Parts.{part-sets-same}
 use Rattle.lists.specs.Partition.{perm-Memᴰ, perm-of-eq}
-use Rattle.order.specs.Sorted.{sort, Sorted, Least}
-use Rattle.order.specs.SortedLaws.{le-or-lt, sort-sorted, sort-perm, sorted-unique}
+use Rattle.record_queue.specs.Sorted.{sort, Sorted, Least}
+use Rattle.record_queue.specs.SortedLaws.{le-or-lt, sort-sorted, sort-perm, sorted-unique}
 use Rattle.lists.specs.Tests.{either}
 use Rattle.distance.specs.DistanceLaws.{distance-fits}
 use Rattle.total_order.specs.TotalOrder.{keyOf, ofKey}

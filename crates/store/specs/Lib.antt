@@ -5,3 +5,4 @@ pub mod Lent
 -- laws
 pub mod LentLaws
 pub mod Agree
+pub mod Fronts

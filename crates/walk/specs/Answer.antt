@@ -6,7 +6,7 @@ use lib.Dec.{eqb}
 use lib.Ieee.{Float}
 use lib.ListN.{length, take}
 use Rattle.lists.specs.Lists.{keep}
-use Rattle.order.specs.Sorted.{sort}
+use Rattle.record_queue.specs.Sorted.{sort}
 use Rattle.total_order.specs.TotalOrder.{keyOf, ofKey}
 use Rattle.walk.specs.Walk.{Progress, walk, none, whole}
 

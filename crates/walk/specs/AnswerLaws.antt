@@ -13,8 +13,8 @@ use Rattle.lists.specs.Lists.{isIn}
 use Rattle.lists.specs.Counting.{isIn-here, keep-all}
 use Rattle.lists.specs.Tests.{which}
 use Rattle.lists.specs.Partition.{List·Permᴰ, Permᴰ·map, count, count-append, perm-count}
-use Rattle.order.specs.Sorted.{sort, NoLater}
-use Rattle.order.specs.SortedLaws.{sort-perm, length-sort, no-later-sort, no-later-take, no-later-at}
+use Rattle.record_queue.specs.Sorted.{sort, NoLater}
+use Rattle.record_queue.specs.SortedLaws.{sort-perm, length-sort, no-later-sort, no-later-take, no-later-at}
 use Rattle.total_order.specs.TotalOrder.{keyOf, ofKey}
 use Rattle.walk.specs.Walk.{Progress}
 use Rattle.walk.specs.WalkLaws.{Different, different-head, different-tail}

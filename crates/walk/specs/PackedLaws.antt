@@ -9,7 +9,7 @@ use lib.Dec.{T}
 use lib.Ieee.{Float, binary32, fits}
 use borrow.Author.Tests.{lt-leb}
 use Rattle.lists.specs.Tests.{either}
-use Rattle.order.specs.SortedLaws.{le-or-lt}
+use Rattle.record_queue.specs.SortedLaws.{le-or-lt}
 use Rattle.total_order.specs.TotalOrder.{totalOrder, keyOf}
 use Rattle.total_order.specs.OrderLaws.{totalOrder-key, totalOrder-lt, keyOf-injective}
 use Rattle.walk.specs.Answer.{hitOf}

@@ -14,8 +14,8 @@ use Rattle.lists.specs.Lists.{joined, isIn}
 use Rattle.lists.specs.Counting.{sumOf, sumOf-append, sumOf-joined, isIn-Memᴰ}
 use Rattle.lists.specs.Tests.{which, either}
 use Rattle.lists.specs.Partition.{List·Permᴰ, Permᴰ·symm, hit, count, hit-same, hit-other, count-nil, count-cons, perm-sumOf, perm-Memᴰ, count-perm, Memᴰ-count}
-use Rattle.order.specs.Sorted.{insert, sort}
-use Rattle.order.specs.SortedLaws.{le-or-lt, sort-to-perm, perm-sort}
+use Rattle.record_queue.specs.Sorted.{insert, sort}
+use Rattle.record_queue.specs.SortedLaws.{le-or-lt, sort-to-perm, perm-sort}
 use Rattle.walk.specs.Walk.{Shown, children, hits, damage, View, waitingNode, nodeNumber, Progress, State, damaged, going, pushAll, give, shown, step, walkFrom, walk, none, whole}
 use Rattle.walk.specs.WalkLaws.{openedOne, pushedOne, withHits, startProgress, pushAll-nil, pushAll-fresh, give-children, give-hits, step-none, step-open, walk-zero, walk-suc, walk-is, numbersOf, number-of, numbers-insert, none-waiting, nil-waiting, opened-cut}
 

@@ -5,7 +5,7 @@ use mathlib.Core.List.{List, [], _∷_, _++_}
 use lib.Dec.{leb}
 use lib.ListN.{length}
 use Rattle.lists.specs.Lists.{isIn}
-use Rattle.order.specs.Sorted.{insert}
+use Rattle.record_queue.specs.Sorted.{insert}
 
 -- What a node shows when it is opened: its children's numbers, the hits of a leaf, or damage.
 pub data Shown : Type 0 where

@@ -15,8 +15,8 @@ use Rattle.lists.specs.Lists.{keep, joined, isIn}
 use Rattle.lists.specs.Counting.{isIn-nil, isIn-Memᴰ, keep-nil, keep-pass, keep-fail, Memᴰ-keep, length-keep-not, joined-nil, joined-cons, joined-Memᴰ}
 use Rattle.lists.specs.Tests.{which, either}
 use Rattle.lists.specs.Partition.{List·Permᴰ, Permᴰ·map, hit, count, hit-same, hit-other, count-nil, count-cons, count-append, perm-count, count-perm, count-not-in, Memᴰ-count, count-Memᴰ, count-keep-fail, count-keep-pass}
-use Rattle.order.specs.Sorted.{insert}
-use Rattle.order.specs.SortedLaws.{insert-perm}
+use Rattle.record_queue.specs.Sorted.{insert}
+use Rattle.record_queue.specs.SortedLaws.{insert-perm}
 use Rattle.walk.specs.Walk.{Shown, children, hits, damage, View, waitingNode, nodeNumber, Progress, State, damaged, going, pushOne, pushAll, addHits, give, shown, open′, step, walkFrom, start, walk, none, whole}
 
 -- ---- the definitions, case by case

@@ -5,7 +5,7 @@ use Rattle.store.specs.Lent.{storeOf}
 use Rattle.best_first_walk.specs.Walks.{PushedNodes}
 use Rattle.walk.specs.StoreView.{storeView}
 use Rattle.store.specs.Store.{marksAt}
-use Rattle.order.specs.RecordsLaws.{heap-none}
+use Rattle.record_queue.specs.RecordsLaws.{heap-none}
 use lib.Seq.{sets, length-sets}
 use lib.ListN.{length, take, drop, set, replicate, length-set}
 use mathlib.Core.List.{List, [], _∷_, _++_}

@@ -4,7 +4,7 @@ use Rattle.lists.specs.Parts.{four-mapped}
 use Rattle.best_first_walk.specs.Walks.{nodeFor, PushNodes, PushedNodes}
 use Rattle.best_first_walk.specs.WalksLaws.{pushed-append}
 use Rattle.total_order.specs.TotalOrder.{keyOf}
-use Rattle.order.specs.Records.{records, Heap}
+use Rattle.record_queue.specs.Records.{records, Heap}
 use Rattle.walk.specs.LentLaws.{vector-within}
 use lib.ListN.{length}
 use mathlib.Core.List.{List, [], _∷_}

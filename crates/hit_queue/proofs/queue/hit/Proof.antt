@@ -1,5 +1,5 @@
 -- `hit` meets its contract. Assumes nothing.
-use Rattle.order.specs.RecordsLaws.{value-is}
+use Rattle.record_queue.specs.RecordsLaws.{value-is}
 use mathlib.Core.Path.{ap₂, _∙_}
 use Prim.Native.Nat.{_+_, _*_, _^_}
 use borrow.Author.Needs.{needs}

@@ -1,6 +1,6 @@
 -- `push_four` meets its contract: one hit after the other. Assumes nothing.
 use Rattle.hit_queue.proofs.Measuring.{measured-append}
-use Rattle.order.specs.Records.{value}
+use Rattle.record_queue.specs.Records.{value}
 use mathlib.Core.List.{List, [], _∷_}
 use Prim.Native.Nat.{ℕ}
 use borrow.Author.Needs.{needs}
