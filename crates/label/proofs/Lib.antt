@@ -1,3 +1,2 @@
--- What the functions' proofs use of plain numbers and lists.
+-- What the functions' proofs use of plain numbers.
 pub mod Halves
-pub mod Four

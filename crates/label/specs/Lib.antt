@@ -1,6 +1,4 @@
--- What the contracts cite: the label hash and the filter, each with its laws, and the trial values.
+-- The label hash (document 01, 'Label hash'), its laws, and trial values.
 pub mod Fnv
 pub mod FnvLaws
-pub mod Filter
-pub mod FilterLaws
 pub mod Trials

@@ -1,14 +1,8 @@
--- Values beside document 01's trial echoes (those are crates/trial_table/specs/Table.antt): two of the published FNV-1a vectors, and a filter.
+-- Values beside document 01's trial echoes (those are crates/trial_table/specs/Table.antt): two of the published FNV-1a vectors.
 use mathlib.Core.List.{[], _∷_}
 use mathlib.Core.Path.{_≡_, refl, _∙_}
 use Rattle.label.specs.Fnv.{fnv}
 use Rattle.label.specs.FnvLaws.{fnv-computes, fnvBytes}
-use Rattle.label.specs.Filter.{emptyFilter, insertHash}
-
--- The filter of the empty label's hash: bits 37 and 196.
-pub filter : insertHash emptyFilter 0xcbf29ce484222325 ≡ 0x2000000000 ∷ 0 ∷ 0 ∷ 16 ∷ []
-unfolding insertHash
-filter = refl
 
 -- The labels "a" and "foobar".
 pub vectors : (fnv (0x61 ∷ []) ≡ 0xaf63dc4c8601ec8c) × (fnv (0x66 ∷ 0x6f ∷ 0x6f ∷ 0x62 ∷ 0x61 ∷ 0x72 ∷ []) ≡ 0x85944171f73967e8)

@@ -1,9 +1,7 @@
-// Label hashes and the filters over them.
+// Label hashes: FNV-1a of 64 bits.
 ghost use mathlib.Core.Path.{_≡_};
 ghost use Prim.Native.Nat.{_*_, _%_, _^_};
 ghost use Rattle.label.specs.Fnv.{fnvFrom, fnv};
-
-pub mod bloom;
 
 // FNV-1a's constants for 64 bits.
 const OFFSET_BASIS: u64 = 0xcbf2_9ce4_8422_2325;

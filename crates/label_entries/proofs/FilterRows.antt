@@ -12,7 +12,7 @@ use Rattle.lists.specs.Counting.{getD-Memᴰ, every-Memᴰ, joined-cons, joined
 use Rattle.lists.specs.Parts.{getD-part, part-part, getD-sets-before, part-sets-same, sets-append, sets-comm}
 use Rattle.store.specs.declared.Shape.{Shape}
 use Rattle.store.specs.Store.{nodesAt, linksAt, entryOrderAt, filtersAt, numbersSize, hashesSize}
-use Rattle.label.specs.Filter.{emptyFilter, insertAll, unionAll}
+use Rattle.bloom.specs.Filter.{emptyFilter, insertAll, unionAll}
 use Rattle.tree.specs.Tree.{Splitting, treeOf, size}
 use Rattle.tree.specs.Nodes.{Entries, Node, nodesOf}
 use Rattle.tree.specs.Layout.{startOf, numbersOf, hashesOf}

@@ -9,8 +9,8 @@ use lib.Seq.{sets, length-sets, take-suc}
 use Rattle.lists.specs.Lists.{part}
 use Rattle.lists.specs.Maps.{map-same}
 use Rattle.lists.specs.Parts.{length-part, part-four, getD-sets-before, part-sets-same, part-sets-after, sets-sets-same, sets-self, lent-part, lent-run}
-use Rattle.label.specs.Filter.{emptyFilter, insertHash, insertAll, union, unionAll}
-use Rattle.label.specs.FilterLaws.{insertAll-append, insertAll-four, union-four}
+use Rattle.bloom.specs.Filter.{emptyFilter, insertHash, insertAll, union, unionAll}
+use Rattle.bloom.specs.FilterLaws.{insertAll-append, insertAll-four, union-four}
 use Rattle.node_table.specs.declared.Places.{Places}
 use Rattle.node_filters.specs.Filters.{filterMade, entryBlock, childBlock}
 

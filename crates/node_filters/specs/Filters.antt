@@ -4,7 +4,7 @@ use mathlib.Core.List.{List, map}
 use lib.ListN.{getD}
 use lib.Seq.{sets}
 use Rattle.lists.specs.Lists.{part}
-use Rattle.label.specs.Filter.{emptyFilter, insertAll, unionAll}
+use Rattle.bloom.specs.Filter.{emptyFilter, insertAll, unionAll}
 use Rattle.node_table.specs.declared.Places.{Places}
 use Rattle.node_table.specs.Table.{cell}
 

@@ -5,10 +5,9 @@ ghost use Prim.Native.Nat.{ℕ, _+_, _*_, _<_, _≤_};
 ghost use lib.ListN.{length, getD};
 ghost use lib.Seq.{sets};
 ghost use Rattle.lists.specs.Lists.{part};
-ghost use Rattle.label.specs.Filter.{insertAll, unionAll};
+ghost use Rattle.bloom.specs.Filter.{insertAll, unionAll};
 ghost use Rattle.node_filters.specs.Filters.{filterMade, filtersMade};
 ghost use Rattle.node_filters.specs.Contracts.{RowFits};
-use label::bloom;
 use node_table::Places;
 use node_table::wide;
 

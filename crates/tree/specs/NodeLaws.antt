@@ -11,8 +11,8 @@ use lib.ListN.{length, getD, length-append}
 use Rattle.lists.specs.Lists.{keep, joined, countFrom, isIn}
 use Rattle.lists.specs.Counting.{getD-Memᴰ, isIn-append, isIn-keep, isIn-countFrom, Memᴰ-countFrom, countFrom-cons, countFrom-append, length-countFrom, keep-nil, keep-pass, keep-fail, keep-congr, keep-all, keep-none, isIn-nil, Memᴰ-keep, joined-append, joined-Memᴰ}
 use Rattle.lists.specs.Partition.{List·Permᴰ, List·Permᴰ·nil, List·Permᴰ·cons, List·Permᴰ·trans, Permᴰ·symm, Permᴰ·middle, Permᴰ·append-right, List·Permᴰ·append-comm, perm-of-eq, perm-append, perm-length, perm-isIn, perm-Memᴰ, count, isIn-count, Memᴰ-count, count-append}
-use Rattle.label.specs.Filter.{emptyFilter, insertAll, mayContain, union, unionAll}
-use Rattle.label.specs.FilterLaws.{insertAll-split, insertAll-four, mayContain-all, union-assoc, union-comm, union-self, union-empty, union-empty-right, union-four}
+use Rattle.bloom.specs.Filter.{emptyFilter, insertAll, mayContain, union, unionAll}
+use Rattle.bloom.specs.FilterLaws.{insertAll-split, insertAll-four, mayContain-all, union-assoc, union-comm, union-self, union-empty, union-empty-right, union-four}
 use Rattle.tree.specs.Tree.{Tree, Forest, leaf, inner, none, more, Splitting, groups, treeOf, size, sizes}
 use Rattle.tree.specs.Nodes.{Entries, Node, nodesFrom, forestNodes, nodesOf, roots, entriesOf, filterOf}
 use Rattle.tree.specs.TreeLaws.{of-both, keptIds, leafIds, forestIds, Fair, AllFair, perm-leafIds, Once, once-left, once-right, once-perm, once-countFrom, once-treeOf, perm-treeOf, perm-groups, size-some, size-treeOf}

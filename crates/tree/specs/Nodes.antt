@@ -5,7 +5,7 @@ use mathlib.Core.List.{List, [], _∷_, _++_, map}
 use lib.Ieee.{Float}
 use lib.ListN.{length, getD}
 use Rattle.lists.specs.Lists.{isIn, countFrom, keep}
-use Rattle.label.specs.Filter.{emptyFilter, insertAll}
+use Rattle.bloom.specs.Filter.{emptyFilter, insertAll}
 use Rattle.cluster.specs.Clusters.{meanOf}
 use Rattle.tree.specs.Tree.{Tree, Forest, leaf, inner, none, more, Splitting, treeOf, size}
 

@@ -15,7 +15,7 @@ use lib.Seq.{drop-append-le, drop-append-add, drop-append-seam, take-append-seam
 use Rattle.lists.specs.Maps.{map-on}
 use Rattle.lists.specs.Lists.{part, joined}
 use Rattle.lists.specs.Counting.{which, getD-Memᴰ, joined-cons, joined-append, joined-map, joined-joined}
-use Rattle.label.specs.Filter.{emptyFilter, insertAll, unionAll}
+use Rattle.bloom.specs.Filter.{emptyFilter, insertAll, unionAll}
 use Rattle.cluster.specs.Clusters.{meanOf}
 use Rattle.tree.specs.Tree.{Tree, Forest, leaf, inner, none, more, Splitting, groups, forestOf, grow, treeOf, size, sizes}
 use Rattle.tree.specs.Nodes.{Entries, Node, nodesFrom, forestNodes, nodesOf, roots, entriesOf, filterOf}

@@ -8,7 +8,7 @@ use lib.ListN.{length, getD}
 use lib.Seq.{sets, take-all, length-sets}
 use borrow.Author.Needs.{needs}
 use Rattle.lists.specs.Lists.{part}
-use Rattle.label.specs.Filter.{insertAll}
+use Rattle.bloom.specs.Filter.{insertAll}
 use Rattle.lists.specs.Parts.{lent-run}
 use Rattle.node_filters.proofs.Filtering.{length-four, inserted, inserted-none, inserted-next}
 use Rattle.node_filters.proofs.insert_hashes.Statement.{statement}

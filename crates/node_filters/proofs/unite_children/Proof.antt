@@ -8,7 +8,7 @@ use lib.ListN.{length}
 use lib.Seq.{sets, take-all, length-sets}
 use borrow.Author.Needs.{needs}
 use Rattle.lists.specs.Lists.{part}
-use Rattle.label.specs.Filter.{unionAll}
+use Rattle.bloom.specs.Filter.{unionAll}
 use Rattle.lists.specs.Parts.{lent-run}
 use Rattle.node_filters.proofs.Filtering.{length-four, united, united-none, united-first, united-four, united-next}
 use Rattle.node_filters.proofs.unite_children.Statement.{statement}

@@ -12,7 +12,7 @@ use lib.Bits.{bitOr, or-step, or-comm, or-self, or-zero-r, or-block, or-shr, or-
 use lib.Dec.{eqb, eqb·zero-suc, eqb·suc-zero, eqb·suc-suc, lit<}
 use lib.ListN.{length, getD, set, replicate, length-set}
 use lib.Pow.{pow-pos, pow-lt, split}
-use Rattle.label.specs.Filter.{firstBit, secondBit, wordBit, setWordBit, hasBit, setBit, insertHash, mayContain, emptyFilter, union, insertAll, Words}
+use Rattle.bloom.specs.Filter.{firstBit, secondBit, wordBit, setWordBit, hasBit, setBit, insertHash, mayContain, emptyFilter, union, insertAll, Words}
 
 -- ---- one word
 

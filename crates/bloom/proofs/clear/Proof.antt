@@ -1,9 +1,9 @@
 -- Four words, each written.
 -- Assumes nothing.
-use Rattle.label.proofs.Four.{clear-all}
+use Rattle.bloom.proofs.Four.{clear-all}
 use borrow.Author.Needs.{needs}
-use Rattle.label.proofs.bloom.clear.Statement.{statement}
-use Rattle.label.proofs.bloom.clear.Tie as tie
+use Rattle.bloom.proofs.clear.Statement.{statement}
+use Rattle.bloom.proofs.clear.Tie as tie
 
 slice-write-filter : tie.Need-slice-write-filter
 slice-write-filter c = search needs

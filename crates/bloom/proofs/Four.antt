@@ -5,7 +5,7 @@ use Prim.Native.Nat.{ℕ}
 use native.Mathlib.Omega.{arith}
 use lib.Bits.{bitOr}
 use lib.ListN.{length, getD, set}
-use Rattle.label.specs.Filter.{emptyFilter, union}
+use Rattle.bloom.specs.Filter.{emptyFilter, union}
 
 data Four : List ℕ → Type 0 where
   four : (a b c d : ℕ) → Four (a ∷ b ∷ c ∷ d ∷ [])

@@ -8,11 +8,11 @@ use lib.Bits.{bitOr}
 use lib.Dec.{lit<}
 use lib.ListN.{getD, set}
 use lib.Pow.{shl-exact}
-use Rattle.label.specs.Filter.{setBit}
-use Rattle.label.specs.FilterLaws.{setWordBit-is}
+use Rattle.bloom.specs.Filter.{setBit}
+use Rattle.bloom.specs.FilterLaws.{setWordBit-is}
 use borrow.Author.Needs.{needs}
-use Rattle.label.proofs.bloom.set_bit.Statement.{statement}
-use Rattle.label.proofs.bloom.set_bit.Tie as tie
+use Rattle.bloom.proofs.set_bit.Statement.{statement}
+use Rattle.bloom.proofs.set_bit.Tie as tie
 
 mul-filter : tie.Need-mul-filter
 mul-filter c = search needs

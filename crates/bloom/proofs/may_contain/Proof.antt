@@ -2,10 +2,10 @@
 -- Assumes nothing.
 use mathlib.Core.Bool.{_&&_}
 use mathlib.Core.Path.{ap, ap₂, _∙_}
-use Rattle.label.specs.Filter.{hasBit, mayContain}
+use Rattle.bloom.specs.Filter.{hasBit, mayContain}
 use borrow.Author.Needs.{needs}
-use Rattle.label.proofs.bloom.may_contain.Statement.{statement}
-use Rattle.label.proofs.bloom.may_contain.Tie as tie
+use Rattle.bloom.proofs.may_contain.Statement.{statement}
+use Rattle.bloom.proofs.may_contain.Tie as tie
 
 first-bit-requires : tie.Need-first-bit-requires
 first-bit-requires c κs = search needs

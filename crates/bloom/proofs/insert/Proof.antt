@@ -1,10 +1,10 @@
 -- Two bits are set, one after the other, as in the definition.
 -- Assumes nothing.
 use mathlib.Core.Path.{ap, ap₂, _∙_}
-use Rattle.label.specs.Filter.{setBit, insertHash}
+use Rattle.bloom.specs.Filter.{setBit, insertHash}
 use borrow.Author.Needs.{needs}
-use Rattle.label.proofs.bloom.insert.Statement.{statement}
-use Rattle.label.proofs.bloom.insert.Tie as tie
+use Rattle.bloom.proofs.insert.Statement.{statement}
+use Rattle.bloom.proofs.insert.Tie as tie
 
 first-bit-requires : tie.Need-first-bit-requires
 first-bit-requires c κs = search needs

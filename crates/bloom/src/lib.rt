@@ -1,7 +1,7 @@
 // The filter of a node: 256 bits in four words, lent by the caller.
 ghost use mathlib.Core.Path.{_≡_};
 ghost use Prim.Native.Nat.{_<_};
-ghost use Rattle.label.specs.Filter.{firstBit, secondBit, hasBit, setBit, insertHash, mayContain, emptyFilter, union};
+ghost use Rattle.bloom.specs.Filter.{firstBit, secondBit, hasBit, setBit, insertHash, mayContain, emptyFilter, union};
 
 // The two bits of a hash.
 fn first_bit(hash: u64) -> u64

@@ -3,10 +3,10 @@
 use mathlib.Core.Path.{_≡_}
 use native.Mathlib.Omega.{arith}
 use lib.ListN.{length, length-set}
-use Rattle.label.proofs.Four.{put-all}
+use Rattle.bloom.proofs.Four.{put-all}
 use borrow.Author.Needs.{needs}
-use Rattle.label.proofs.bloom.unite.Statement.{statement}
-use Rattle.label.proofs.bloom.unite.Tie as tie
+use Rattle.bloom.proofs.unite.Statement.{statement}
+use Rattle.bloom.proofs.unite.Tie as tie
 
 slice-read-filter : tie.Need-slice-read-filter
 slice-read-filter c = search needs

@@ -1,10 +1,10 @@
 -- The code is the definition.
 -- Assumes nothing.
 use mathlib.Core.Path.{refl}
-use Rattle.label.specs.Filter.{hasBit}
+use Rattle.bloom.specs.Filter.{hasBit}
 use borrow.Author.Needs.{needs}
-use Rattle.label.proofs.bloom.has_bit.Statement.{statement}
-use Rattle.label.proofs.bloom.has_bit.Tie as tie
+use Rattle.bloom.proofs.has_bit.Statement.{statement}
+use Rattle.bloom.proofs.has_bit.Tie as tie
 
 mul-result : tie.Need-mul-result
 mul-result c = search needs

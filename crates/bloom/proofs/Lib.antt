@@ -1,0 +1,2 @@
+-- What the functions' proofs use of four words.
+pub mod Four
