@@ -8,7 +8,6 @@ ghost use Rattle.lists.specs.Lists.{part};
 ghost use Rattle.bloom.specs.Filter.{insertAll, unionAll};
 ghost use Rattle.node_filters.specs.Filters.{filterMade, filtersMade};
 ghost use Rattle.node_filters.specs.Contracts.{RowFits};
-use label::bloom;
 use node_table::Places;
 use node_table::wide;
 
