@@ -39,10 +39,11 @@ use Rattle.load.specs.declared.Loading.the-variants.{Unset, Running}
 use Rattle.load.specs.declared.carry.Carried.{Carried}
 use Rattle.load.specs.declared.carry.Carried.the-variants.{End, Refused, Silent}
 use Rattle.load.specs.File.{floats, addCall}
+use Rattle.load.specs.declared.task.Vector.{Vector as Placed}
 use Rattle.load.specs.declared.task.Task.{Task}
 use Rattle.load.specs.declared.task.Task.the-variants.{Done, Add, Find}
-use Rattle.load.specs.Step.{Lent, known, openedBy, addedBy, foundBy, searchEnd, AddsVector, SearchesBuilt, Keeps, CarriesOut, CarriesRead, CarriesAt, Carries}
-use Rattle.load.specs.Code.{floatsAt, CarriesFirst, CarriesNext, Asks, taskOf}
+use Rattle.load.specs.Step.{Lent, known, openedBy, foundBy, searchEnd, SearchesBuilt, Keeps, CarriesOut, CarriesRead, CarriesAt, Carries}
+use Rattle.load.specs.Code.{floatsAt, addAt, CarriesFirst, CarriesNext, Asks, taskOf}
 
 -- ---- settings
 
@@ -103,27 +104,11 @@ build-searched index call next lent lent′ answer ready work reply carried b e 
       searches = (reply, s, f);
     }
 
--- ---- an add of the vector that was read
-
-pub adds-vector : (index : CuratorIndex) (document next : ℕ) (v vector : List Float) (lengths bytes : List ℕ) (lent lent′ : Lent) (answer : Changed) (carried : Carried)
-    → v ≡ vector → Adds index (lent .store) (record { document = document; vector = v; lengths = lengths; bytes = bytes }) answer (lent′ .store)
-    → lent′ .work ≡ lent .work → lent′ .ids ≡ lent .ids → lent′ .distances ≡ lent .distances → carried ≡ addedBy answer next
-    → AddsVector index (record { document = document; vector = vector; lengths = lengths; bytes = bytes }) next lent carried lent′
-adds-vector index document next v vector lengths bytes lent lent′ answer carried e a w i d k =
-    record {
-      answer = answer;
-      adds = subst (λ (x : List Float). Adds index (lent .store) (record { document = document; vector = x; lengths = lengths; bytes = bytes }) answer (lent′ .store)) e a;
-      work = w;
-      ids = i;
-      distances = d;
-      comes = k;
-    }
-
 -- ---- what a record asks for
 
 -- floats that were read stand in front
 pub floats-front : (out rest : List Float) (file : List ℕ) (at : ℕ) {m n : ℕ} → m ≡ n → out ≡ floats (numbers m (drop at file))
-    → (n ≤ length (out ++ rest)) × (take n (out ++ rest) ≡ floats (numbers n (drop at file)))
+    → (n ≤ length (out ++ rest)) × (take n (out ++ rest) ≡ floatsAt n file at)
 floats-front out rest file at {m} {n} e h =
     let size : length out ≡ n = ap length h ∙ length-map (numbers m (drop at file)) (ofBits binary32) ∙ length-numbers m (drop at file) ∙ e in
     (omega (arith, size, length-append out rest), take-at out rest n size ∙ h ∙ ap (λ (k : ℕ). floats (numbers k (drop at file))) e)
@@ -135,55 +120,47 @@ task-asks index file at (SettingsAt d b l e w next) n s =
     λ lent. stands-carried file at (Running index) lent (Refused (Input SettingsOrder)) lent (format.settings d b l e w) next s (refl, refl)
 task-asks index file at (Vector document lengths-at labels-at place next) n s =
     let patterns = patternsAt (known (Running index)) file place in
-    let same : record { document = document; vector = floatsAt index file place; lengths = between lengths-at labels-at file; bytes = between labels-at place file }
-    ≡ addCall document (s .labels) patterns =
-    λ j. record { document = document; vector = floatsAt index file place; lengths = s .lengths j; bytes = s .bytes j } in
+    let v : Placed = record { «doc_id» = document; «lengths_at» = lengths-at; «labels_at» = labels-at; «floats_at» = place; next = next } in
+    let same : addAt index file v ≡ addCall document (s .labels) patterns =
+    λ j. record { document = document; vector = floatsAt (index .dimension) file place; lengths = s .lengths j; bytes = s .bytes j } in
     record {
-      narrow = n;
-      lengths-order = s .lengths-order;
-      labels-order = s .labels-order;
-      inside = omega (arith, s .floats-end, s .stands .inside);
-      comes = λ lent carried lent′ a.
+      stands = record { narrow = n; lengths-order = s .lengths-order; labels-order = s .labels-order; inside = omega (arith, s .floats-end, s .stands .inside) };
+      comes = λ lent carried store a.
+          let lent′ : Lent = record { store = store; work = lent .work; ids = lent .ids; distances = lent .distances } in
           stands-carried file at (Running index) lent carried lent′ (format.vector document (s .labels) patterns) next (s .stands)
-          (subst (λ (x : AddCall). AddsVector index x next lent carried lent′) same a);
+          (record {
+            answer = a .0;
+            adds = subst (λ (x : AddCall). Adds index (lent .store) x (a .0) store) same (a .1);
+            work = refl;
+            ids = refl;
+            distances = refl;
+            comes = a .2;
+          });
     }
 task-asks index file at (Filtered k label-at place next) n s =
     record {
-      narrow = n;
-      label-order = s .label-order;
-      inside = omega (arith, s .floats-end, s .stands .inside);
+      stands = record { narrow = n; label-order = s .label-order; inside = omega (arith, s .floats-end, s .stands .inside) };
       comes = λ lent carried lent′ a.
           stands-carried file at (Running index) lent carried lent′
-          (format.filtered k (between label-at place file) (patternsAt (known (Running index)) file place)) next (s .stands) a;
+          (format.filtered k (between label-at place file) (patternsAt (known (Running index)) file place))
+          next
+          (s .stands)
+          a;
     }
 task-asks index file at (Search k place next) n s =
     record {
-      narrow = n;
-      label-order = omega arith;
-      inside = omega (arith, s .floats-end, s .stands .inside);
+      stands = record { narrow = n; label-order = omega arith; inside = omega (arith, s .floats-end, s .stands .inside) };
       comes = λ lent carried lent′ a.
           stands-carried file at (Running index) lent carried lent′ (format.unfiltered k (patternsAt (known (Running index)) file place)) next (s .stands) a;
     }
 
 -- what comes to one thing comes to what follows from it
-pub asks-as : (file : List ℕ) (P Q : Lent → Carried → Lent → Type 0) → ((lent : Lent) (carried : Carried) (lent′ : Lent) → P lent carried lent′ → Q lent carried lent′)
+pub asks-as : (file : List ℕ) (P Q : Lent → Carried → Lent → Type 0)
+    → ((lent : Lent) (carried : Carried) (lent′ : Lent) → P lent carried lent′ → Q lent carried lent′)
     → (task : Task) → Asks file P task → Asks file Q task
 asks-as file P Q to (Done carried) a = λ lent. to lent carried lent (a lent)
-asks-as file P Q to (Add index document lengths-at labels-at place next) a =
-    record {
-      narrow = a .narrow;
-      lengths-order = a .lengths-order;
-      labels-order = a .labels-order;
-      inside = a .inside;
-      comes = λ lent carried lent′ h. to lent carried lent′ (a .comes lent carried lent′ h);
-    }
-asks-as file P Q to (Find index filtered label-at place k next) a =
-    record {
-      narrow = a .narrow;
-      label-order = a .label-order;
-      inside = a .inside;
-      comes = λ lent carried lent′ h. to lent carried lent′ (a .comes lent carried lent′ h);
-    }
+asks-as file P Q to (Add index v) a = record { stands = a .stands; comes = λ lent carried store h. to lent carried _ (a .comes lent carried store h) }
+asks-as file P Q to (Find index q) a = record { stands = a .stands; comes = λ lent carried lent′ h. to lent carried lent′ (a .comes lent carried lent′ h) }
 
 -- a first record that is not settings
 pub first-misplaced : (file : List ℕ) (at : ℕ) (lent : Lent) (carried : Carried) (located : Located)

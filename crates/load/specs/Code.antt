@@ -6,25 +6,30 @@ use mathlib.Core.Path.{_≡_}
 use lib.Ieee.{Float}
 use lib.ListN.{length, drop}
 use denote.Ref.{RefT, now}
+use Rattle.store.specs.Store.{Store}
 use Rattle.curator.specs.declared.CuratorIndex.{CuratorIndex}
+use Rattle.curator.specs.declared.Changed.{Changed}
 use Rattle.settings.specs.declared.refusal.Refusal.the-variants.{Input}
 use Rattle.settings.specs.declared.refusal.InputRefusal.the-variants.{SettingsOrder}
 use Rattle.store.specs.Lent as store
-use Rattle.curator.specs.Arguments.{Asked, everything, labelled}
+use Rattle.curator.specs.Changes.{Adds}
+use Rattle.curator.specs.Arguments.{AddCall, SearchCall, Asked, everything, labelled}
 use Rattle.echo_file.specs.declared.Located.{Located}
-use Rattle.echo_file.specs.declared.Located.the-variants.{Settings, Vector, Filtered, Search}
+use Rattle.echo_file.specs.declared.Located.the-variants.{Settings, Vector as VectorAt, Filtered, Search}
 use Rattle.echo_file.specs.Decode.{decode}
 use Rattle.echo_file.specs.Reads.{between, patternsAt}
 use Rattle.load.specs.declared.Loading.{Loading}
 use Rattle.load.specs.declared.Loading.the-variants.{Unset, Running}
 use Rattle.load.specs.declared.carry.Carried.{Carried}
 use Rattle.load.specs.declared.carry.Carried.the-variants.{End, Refused, Silent, Answered}
+use Rattle.load.specs.declared.task.Vector.{Vector}
+use Rattle.load.specs.declared.task.Query.{Query}
 use Rattle.load.specs.declared.task.Task.{Task}
 use Rattle.load.specs.declared.task.Task.the-variants.{Done, Add, Find}
 use Rattle.load.specs.declared.Step.{Step}
 use Rattle.load.specs.declared.Step.the-variants.{Ended, Next}
 use Rattle.load.specs.File.{floats}
-use Rattle.load.specs.Step.{Lent, known, AddsVector, SearchesBuilt, searchWith, CarriesRead}
+use Rattle.load.specs.Step.{Lent, known, addedBy, SearchesBuilt, searchWith, CarriesRead}
 
 -- the lists that a step is lent
 abbrev pub lists : RefT (List Float) → RefT (List ℕ) → RefT (List ℕ) → RefT (List ℕ) → RefT (List ℕ) → RefT (List Float) → Lent
@@ -62,47 +67,71 @@ CarriesNext index file at lent carried lent′ =
 
 -- ---- what a record asks for, found with no list lent
 
--- the floats at a place
-abbrev pub floatsAt : CuratorIndex → List ℕ → ℕ → List Float
-floatsAt index file place = floats (patternsAt (known (Running index)) file place)
+-- D floats from a place on
+abbrev pub floatsAt : ℕ → List ℕ → ℕ → List Float
+floatsAt dimension file place = floats (patternsAt (record { dimension = dimension }) file place)
 
--- a vector is to be added: where its parts stand, and the record comes to what the add does
-pub record AsksAdd (file : List ℕ) (Comes : Lent → Carried → Lent → Type 0) (index : CuratorIndex) (document lengths-at labels-at place next : ℕ) : Type 0 where
-  pub narrow : index .dimension ≤ 16
-  pub lengths-order : lengths-at ≤ labels-at
-  pub labels-order : labels-at ≤ place
-  pub inside : place + 4 * index .dimension ≤ length file
-  pub comes :
-      (lent : Lent) (carried : Carried) (lent′ : Lent) →
-      AddsVector index
-      (record {
-        document = document;
-        vector = floatsAt index file place;
-        lengths = between lengths-at labels-at file;
-        bytes = between labels-at place file;
-      })
-      next lent carried lent′
-      → Comes lent carried lent′
+-- a vector's parts stand in the file, and there is room for its floats
+pub record VectorIn (file : List ℕ) (dimension : ℕ) (v : Vector) : Type 0 where
+  pub narrow : dimension ≤ 16
+  pub lengths-order : v .«lengths_at» ≤ v .«labels_at»
+  pub labels-order : v .«labels_at» ≤ v .«floats_at»
+  pub inside : v .«floats_at» + 4 * dimension ≤ length file
 
--- a search is asked for
-pub record AsksFind (file : List ℕ) (Comes : Lent → Carried → Lent → Type 0) (index : CuratorIndex) (filtered : Bool) (label-at place k next : ℕ) : Type 0 where
-  pub narrow : index .dimension ≤ 16
-  pub label-order : label-at ≤ place
-  pub inside : place + 4 * index .dimension ≤ length file
+abbrev pub addAt : CuratorIndex → List ℕ → Vector → AddCall
+addAt index file v =
+    record {
+      document = v .«doc_id»;
+      vector = floatsAt (index .dimension) file (v .«floats_at»);
+      lengths = between (v .«lengths_at») (v .«labels_at») file;
+      bytes = between (v .«labels_at») (v .«floats_at») file;
+    }
+
+-- what its add comes to
+abbrev pub AddsAt : CuratorIndex → List ℕ → Vector → Store → Carried → Store → Type 0
+AddsAt index file v store carried store′ =
+    (answer : Changed) × Adds index store (addAt index file v) answer store′ × (carried ≡ addedBy answer (v .next))
+
+-- a search's parts stand in the file
+pub record QueryIn (file : List ℕ) (dimension : ℕ) (q : Query) : Type 0 where
+  pub narrow : dimension ≤ 16
+  pub label-order : q .«label_at» ≤ q .«floats_at»
+  pub inside : q .«floats_at» + 4 * dimension ≤ length file
+
+abbrev pub searchAt : ℕ → List ℕ → Query → Lent → SearchCall
+searchAt dimension file q =
+    searchWith (floatsAt dimension file (q .«floats_at»)) (q .k) (asking (q .filtered) (between (q .«label_at») (q .«floats_at») file))
+
+-- what it comes to after a build
+abbrev pub SearchesAt : CuratorIndex → List ℕ → Query → Lent → Carried → Lent → Type 0
+SearchesAt index file q lent carried lent′ = SearchesBuilt index (searchAt (index .dimension) file q) (q .next) lent carried lent′
+
+-- The record comes to what its add, or its search, does.
+pub record AsksAdd (file : List ℕ) (Comes : Lent → Carried → Lent → Type 0) (index : CuratorIndex) (v : Vector) : Type 0 where
+  pub stands : VectorIn file (index .dimension) v
   pub comes :
-      (lent : Lent) (carried : Carried) (lent′ : Lent) →
-      SearchesBuilt index (searchWith (floatsAt index file place) k (asking filtered (between label-at place file))) next lent carried lent′
-      → Comes lent carried lent′
+      (lent : Lent) (carried : Carried) (store : Store) →
+      AddsAt index file v (lent .store) carried store
+      → Comes lent carried (record { store = store; work = lent .work; ids = lent .ids; distances = lent .distances })
+
+pub record AsksFind (file : List ℕ) (Comes : Lent → Carried → Lent → Type 0) (index : CuratorIndex) (q : Query) : Type 0 where
+  pub stands : QueryIn file (index .dimension) q
+  pub comes : (lent : Lent) (carried : Carried) (lent′ : Lent) → SearchesAt index file q lent carried lent′ → Comes lent carried lent′
 
 -- all that is left to do of a record, so that it comes to what it should
 abbrev pub Asks : List ℕ → (Lent → Carried → Lent → Type 0) → Task → Type 0
 Asks file Comes (Done carried) = (lent : Lent) → Comes lent carried lent
-Asks file Comes (Add index document lengths-at labels-at place next) = AsksAdd file Comes index document lengths-at labels-at place next
-Asks file Comes (Find index filtered label-at place k next) = AsksFind file Comes index filtered label-at place k next
+Asks file Comes (Add index v) = AsksAdd file Comes index v
+Asks file Comes (Find index q) = AsksFind file Comes index q
 
 -- after the settings, by the kinds of records
+abbrev pub queryOf : Bool → ℕ → ℕ → ℕ → ℕ → Query
+queryOf filtered k label-at floats-at next =
+    record { filtered = filtered; k = k; «label_at» = label-at; «floats_at» = floats-at; next = next }
+
 abbrev pub taskOf : CuratorIndex → Located → Task
 taskOf index (Settings dimension branching leaf-size ef beam next) = Done (Refused (Input SettingsOrder))
-taskOf index (Vector document lengths-at labels-at place next) = Add index document lengths-at labels-at place next
-taskOf index (Filtered k label-at place next) = Find index true label-at place k next
-taskOf index (Search k place next) = Find index false place place k next
+taskOf index (VectorAt document lengths-at labels-at floats-at next) =
+    Add index (record { «doc_id» = document; «lengths_at» = lengths-at; «labels_at» = labels-at; «floats_at» = floats-at; next = next })
+taskOf index (Filtered k label-at floats-at next) = Find index (queryOf true k label-at floats-at next)
+taskOf index (Search k floats-at next) = Find index (queryOf false k floats-at floats-at next)

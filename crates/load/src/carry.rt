@@ -1,17 +1,17 @@
 // A record carried out on the index.
 ghost use Prim.Native.Nat.{_+_, _*_, _≤_};
-ghost use lib.ListN.{length, take, drop};
+ghost use lib.ListN.{length, take};
 ghost use mathlib.Core.Path.{_≡_};
 ghost use Rattle.store.specs.Lent.{lent};
 ghost use Rattle.curator.specs.Searches.{Searches};
-ghost use Rattle.echo_file.specs.Decode.{numbers as Decode·numbers};
-ghost use Rattle.search.specs.Lent.{looking, leaving};
-ghost use Rattle.load.specs.File.{floats as File·floats};
-ghost use Rattle.load.specs.Step.{Carries, SearchesBuilt, searchWith, addedBy, foundBy};
-ghost use Rattle.load.specs.Code.{lists, asking, Narrow};
+ghost use Rattle.search.specs.Lent.{leaving};
+ghost use Rattle.load.specs.Step.{Carries, addedBy, foundBy};
+ghost use Rattle.load.specs.Code.{lists, Narrow, floatsAt, VectorIn, QueryIn, AddsAt, searchAt, SearchesAt};
 use crate::Loading;
 use crate::task;
+use crate::task::Query;
 use crate::task::Task;
+use crate::task::Vector;
 use curator::Changed;
 use curator::CuratorIndex;
 use curator::Found;
@@ -68,32 +68,82 @@ fn found(index: CuratorIndex, answer: Found, next: usize) -> Carried
     }
 }
 
+// The floats that start at a place, in front.
+fn floats_at(file: &[u8], at: usize, count: usize) -> [f32; 16]
+    requires { ⌜ count ≤ 16 ⌝ }
+    requires { ⌜ at + 4 * count ≤ length (now file) ⌝ }
+    ensures room { λ r. ⌜ count ≤ length r ⌝ }
+    ensures front { λ r. ⌜ take count r ≡ floatsAt count (now (file .entry)) at ⌝ }
+{
+    let mut values: [f32; 16] = [0.0; 16];
+    read_floats(file, at, &mut values[..count]);
+    values
+}
+
+// Adds the vector.
+fn add_vector(
+    index: CuratorIndex,
+    file: &[u8],
+    vector: Vector,
+    floats: &mut [f32],
+    numbers: &mut [u32],
+    hashes: &mut [u64],
+) -> Carried
+    requires { ⌜ VectorIn (now file) (index .dimension) vector ⌝ }
+    ensures { λ r. ⌜ AddsAt index (now (file .entry)) vector
+        (lent (floats .entry) (numbers .entry) (hashes .entry)) r (lent (floats .exit) (numbers .exit) (hashes .exit)) ⌝ }
+{
+    let count = index.dimension;
+    let lengths_at = vector.lengths_at;
+    let labels_at = vector.labels_at;
+    let place = vector.floats_at;
+    let components = floats_at(file, place, count);
+    let lengths = &file[lengths_at..labels_at];
+    let labels = &file[labels_at..place];
+    let answer = index.add(
+        floats,
+        numbers,
+        hashes,
+        vector.doc_id,
+        &components[..count],
+        lengths,
+        labels,
+    );
+    added(answer, vector.next)
+}
+
 // Looks up the nearest: with a label where the search is filtered, else among all.
 fn find(
     index: CuratorIndex,
+    count: usize,
+    file: &[u8],
+    query: Query,
     floats: &[f32],
     numbers: &[u32],
     hashes: &[u64],
     work: &mut [u32],
-    query: &[f32],
-    filtered: bool,
-    label: &[u8],
-    k: usize,
     ids: &mut [u32],
     distances: &mut [f32],
 ) -> Found
+    requires { ⌜ QueryIn (now file) count query ⌝ }
     ensures { λ r. ⌜ Searches index (lent (floats .entry) (numbers .entry) (hashes .entry)) (now (work .entry))
-        (looking (query .entry) k (ids .entry) (distances .entry) (asking filtered (now (label .entry))))
+        (searchAt count (now (file .entry)) query
+        (lists (floats .entry) (numbers .entry) (hashes .entry) (work .entry) (ids .entry) (distances .entry)))
         (leaving r (work .exit) (ids .exit) (distances .exit)) ⌝ }
 {
-    if filtered {
+    let label_at = query.label_at;
+    let place = query.floats_at;
+    let k = query.k;
+    let components = floats_at(file, place, count);
+    if query.filtered {
+        let label = &file[label_at..place];
         return search::search_filtered(
             index,
             floats,
             numbers,
             hashes,
             work,
-            query,
+            &components[..count],
             label,
             k,
             ids,
@@ -106,7 +156,7 @@ fn find(
         numbers,
         hashes,
         work,
-        query,
+        &components[..count],
         k,
         ids,
         distances,
@@ -116,11 +166,8 @@ fn find(
 // Builds, and looks up the nearest.
 fn look_up(
     index: CuratorIndex,
-    query: &[f32],
-    filtered: bool,
-    label: &[u8],
-    k: usize,
-    next: usize,
+    file: &[u8],
+    query: Query,
     floats: &mut [f32],
     numbers: &mut [u32],
     hashes: &mut [u64],
@@ -128,7 +175,8 @@ fn look_up(
     ids: &mut [u32],
     distances: &mut [f32],
 ) -> Carried
-    ensures { λ r. ⌜ SearchesBuilt index (searchWith (now (query .entry)) k (asking filtered (now (label .entry)))) next
+    requires { ⌜ QueryIn (now file) (index .dimension) query ⌝ }
+    ensures { λ r. ⌜ SearchesAt index (now (file .entry)) query
         (lists (floats .entry) (numbers .entry) (hashes .entry) (work .entry) (ids .entry) (distances .entry)) r
         (lists (floats .exit) (numbers .exit) (hashes .exit) (work .exit) (ids .exit) (distances .exit)) ⌝ }
 {
@@ -138,32 +186,19 @@ fn look_up(
         Changed::Index(ready) => {
             let answer = find(
                 ready,
+                index.dimension,
+                file,
+                query,
                 floats,
                 numbers,
                 hashes,
                 work,
-                query,
-                filtered,
-                label,
-                k,
                 ids,
                 distances,
             );
-            found(ready, answer, next)
+            found(ready, answer, query.next)
         }
     }
-}
-
-// The floats that start at a place, in front.
-fn floats_at(file: &[u8], at: usize, count: usize) -> [f32; 16]
-    requires { ⌜ count ≤ 16 ⌝ }
-    requires { ⌜ at + 4 * count ≤ length (now file) ⌝ }
-    ensures room { λ r. ⌜ count ≤ length r ⌝ }
-    ensures front { λ r. ⌜ take count r ≡ File·floats (Decode·numbers count (drop at (now (file .entry)))) ⌝ }
-{
-    let mut values: [f32; 16] = [0.0; 16];
-    read_floats(file, at, &mut values[..count]);
-    values
 }
 
 // The record at a place, if one is left.
@@ -186,54 +221,17 @@ pub fn carry(
     let task = task::task_at(loading, file, at);
     match task {
         Task::Done(carried) => carried,
-        Task::Add {
+        Task::Add(index, vector) => add_vector(index, file, vector, floats, numbers, hashes),
+        Task::Find(index, query) => look_up(
             index,
-            doc_id,
-            lengths_at,
-            labels_at,
-            place,
-            next,
-        } => {
-            let count = index.dimension;
-            let vector = floats_at(file, place, count);
-            let lengths = &file[lengths_at..labels_at];
-            let labels = &file[labels_at..place];
-            let answer = index.add(
-                floats,
-                numbers,
-                hashes,
-                doc_id,
-                &vector[..count],
-                lengths,
-                labels,
-            );
-            added(answer, next)
-        }
-        Task::Find {
-            index,
-            filtered,
-            label_at,
-            place,
-            k,
-            next,
-        } => {
-            let count = index.dimension;
-            let query = floats_at(file, place, count);
-            let label = &file[label_at..place];
-            look_up(
-                index,
-                &query[..count],
-                filtered,
-                label,
-                k,
-                next,
-                floats,
-                numbers,
-                hashes,
-                work,
-                ids,
-                distances,
-            )
-        }
+            file,
+            query,
+            floats,
+            numbers,
+            hashes,
+            work,
+            ids,
+            distances,
+        ),
     }
 }

@@ -4,7 +4,7 @@ ghost use Prim.Native.Nat.{_≤_};
 ghost use Rattle.curator.specs.Changes.{created};
 ghost use Rattle.load.specs.File.{capacities};
 ghost use Rattle.load.specs.Step.{Carries, openedBy};
-ghost use Rattle.load.specs.Code.{Narrow, CarriesFirst, CarriesNext, Asks, taskOf};
+ghost use Rattle.load.specs.Code.{Narrow, CarriesFirst, CarriesNext, Asks, queryOf, taskOf};
 use crate::Loading;
 use crate::carry::Carried;
 use curator::Changed;
@@ -19,25 +19,29 @@ use settings::refusal::InputRefusal;
 use settings::refusal::Refusal;
 use settings::refusal::SettingsRefusal;
 
-// What there is to do: no more than what came of the record, an add, or a search. Its floats start at `place`.
+// A vector to be added: where its length bytes, label bytes and floats start in the file, and where the file goes on.
+pub struct Vector {
+    pub doc_id: u32,
+    pub lengths_at: usize,
+    pub labels_at: usize,
+    pub floats_at: usize,
+    pub next: usize,
+}
+
+// A search, for a label where it is filtered: where its label and floats start, and where the file goes on.
+pub struct Query {
+    pub filtered: bool,
+    pub k: usize,
+    pub label_at: usize,
+    pub floats_at: usize,
+    pub next: usize,
+}
+
+// What there is to do of a record: no more than what came of it, an add or a search.
 pub enum Task {
     Done(Carried),
-    Add {
-        index: CuratorIndex,
-        doc_id: u32,
-        lengths_at: usize,
-        labels_at: usize,
-        place: usize,
-        next: usize,
-    },
-    Find {
-        index: CuratorIndex,
-        filtered: bool,
-        label_at: usize,
-        place: usize,
-        k: usize,
-        next: usize,
-    },
+    Add(CuratorIndex, Vector),
+    Find(CuratorIndex, Query),
 }
 
 // Settings that come first open the index. The lists have no room for a dimension above 16.
@@ -92,6 +96,18 @@ fn read_first(file: &[u8], at: usize) -> Carried
     open(dimension, params, next)
 }
 
+fn query_of(filtered: bool, k: usize, label_at: usize, floats_at: usize, next: usize) -> Query
+    ensures { λ r. ⌜ r ≡ queryOf filtered k «label_at» «floats_at» next ⌝ }
+{
+    Query {
+        filtered,
+        k,
+        label_at,
+        floats_at,
+        next,
+    }
+}
+
 // Of a record after the settings.
 fn task_of(index: CuratorIndex, located: Located) -> Task
     ensures { λ r. ⌜ r ≡ taskOf index located ⌝ }
@@ -106,35 +122,25 @@ fn task_of(index: CuratorIndex, located: Located) -> Task
             labels_at,
             floats_at,
             next,
-        } => Task::Add {
+        } => Task::Add(
             index,
-            doc_id,
-            lengths_at,
-            labels_at,
-            place: floats_at,
-            next,
-        },
+            Vector {
+                doc_id,
+                lengths_at,
+                labels_at,
+                floats_at,
+                next,
+            },
+        ),
         Located::Filtered {
             k,
             label_at,
             floats_at,
             next,
-        } => Task::Find {
-            index,
-            filtered: true,
-            label_at,
-            place: floats_at,
-            k,
-            next,
-        },
-        Located::Search { k, floats_at, next } => Task::Find {
-            index,
-            filtered: false,
-            label_at: floats_at,
-            place: floats_at,
-            k,
-            next,
-        },
+        } => Task::Find(index, query_of(true, k, label_at, floats_at, next)),
+        Located::Search { k, floats_at, next } => {
+            Task::Find(index, query_of(false, k, floats_at, floats_at, next))
+        }
     }
 }
 

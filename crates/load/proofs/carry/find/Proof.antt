@@ -1,35 +1,62 @@
--- The search is the one that was asked for.
+-- The floats that were read are the query, and the search is the one that was asked for.
 use mathlib.Core.Bool.{Bool}
-use Prim.Native.Nat.{ℕ}
 use mathlib.Core.List.{List}
-use mathlib.Core.Path.{sym, ap, subst}
+use mathlib.Core.Path.{_≡_, sym, ap, subst}
 use lib.Ieee.{Float}
-use Rattle.curator.specs.declared.Found.{Found}
+use lib.Seq.{length-take-le}
 use Rattle.store.specs.Lent.{lent}
-use Rattle.curator.specs.Searches.{Searches}
+use Rattle.curator.specs.Searches.{SearchEnd, Searches}
 use Rattle.curator.specs.Arguments.{Asked}
-use Rattle.search.specs.Lent.{looking}
-use Rattle.load.specs.Code.{asking}
+use Rattle.echo_file.specs.Reads.{between}
+use Rattle.load.specs.Step.{searchWith}
+use Rattle.load.specs.Code.{lists, asking}
 use borrow.Author.Needs.{needs}
 use Rattle.load.proofs.carry.find.Statement.{statement}
 use Rattle.load.proofs.carry.find.Tie as tie
 
--- the branch, and the function's entry
-abbrev filtered : tie.After-search-filtered → tie.Then1
-filtered c = c .before .before .before .before
-
-abbrev unfiltered : tie.After-search → tie.Else1
-unfiltered c = c .before .before .before .before
-
-abbrev start : tie.After-slice-known3 → tie.Start
+-- the function's entry, from where the floats have been read
+abbrev start : tie.After-floats-at → tie.Start
 start c = c .before .before .before .before .before .before .before .before
 
--- what a search for something leaves
-abbrev Finds : tie.Start → Found → List ℕ → List ℕ → List Float → Asked → Type 0
-Finds s answer work ids distances asked =
-    Searches (s .args .index) (lent (s .args .floats) (s .args .numbers) (s .args .hashes)) (s .args .work .now)
-    (looking (s .args .query) (s .args .k) (s .args .ids) (s .args .distances) asked)
-    (record { answer = answer; work = work; ids = ids; distances = distances })
+-- they are read before either search
+abbrev filtered : tie.After-components → tie.Then1
+filtered c = c .before .before .before
+
+abbrev unfiltered : tie.After-components2 → tie.Else1
+unfiltered c = c .before .before
+
+-- what a search leaves, by its query and what is asked for
+abbrev Finds : tie.Start → SearchEnd → List Float → Asked → Type 0
+Finds s end query asked =
+    let a = s .args in
+    Searches (a .index) (lent (a .floats) (a .numbers) (a .hashes)) (a .work .now)
+    (searchWith query (a .query .k) asked (lists (a .floats) (a .numbers) (a .hashes) (a .work) (a .ids) (a .distances)))
+    end
+
+finds-as : (s : tie.Start) (end : SearchEnd) {q query : List Float} {a asked : Asked} → q ≡ query → a ≡ asked → Finds s end q a → Finds s end query asked
+finds-as s end {q} {query} {a} {asked} e k h = subst (λ (x : List Float). Finds s end x asked) e (subst (Finds s end q) k h)
+
+abbrev label : tie.Start → Bool → Asked
+label s filtered = let q = s .args .query in asking filtered (between (q .«label_at») (q .«floats_at») (s .args .file .now))
+
+floats-at-requires : tie.Need-floats-at-requires
+floats-at-requires c κs = search needs
+
+sub-label : tie.Need-sub-label
+sub-label c = search needs
+
+part-label-start : tie.Need-part-label-start
+part-label-start c = search needs
+
+part-label-end : tie.Need-part-label-end
+part-label-end c = search needs
+
+array-share-prefix-components : tie.Need-array-share-prefix-components
+array-share-prefix-components c = search needs
+
+slice-aggregate-search-filtered : tie.Need-slice-aggregate-search-filtered
+slice-aggregate-search-filtered c =
+    let r = filtered c .before in sym (length-take-le (start r .args .count) (r .floats-at .result) (r .floats-at .ensures .0))
 
 search-filtered-requires : tie.Need-search-filtered-requires
 search-filtered-requires c κs = search needs
@@ -45,11 +72,19 @@ same-length-3 c = search needs
 
 returns : tie.Need-returns
 returns c =
-    let r = c .before .before .before .before .before .before in
-    let s = start (filtered r .before) in
-    let x = r .search-filtered .last .1 .1 .1 .1 in
-    subst (Finds s (r .search-filtered .result) (x .0) (x .1 .1 .1 .1 .0) (x .1 .1 .1 .1 .1 .0)) (ap (λ (b : Bool). asking b (s .args .label .now)) (sym (filtered r .if1 .taken)))
-    (r .search-filtered .ensures)
+    let f = c .before .before .before .before .before .before in
+    let t = filtered (f .before .before .before) in
+    let s = start (t .before) in
+    let x = f .search-filtered .last .1 .1 .1 .1 in
+    let end : SearchEnd = record { answer = f .search-filtered .result; work = x .0; ids = x .1 .1 .1 .1 .0; distances = x .1 .1 .1 .1 .1 .0 } in
+    finds-as s end (t .before .floats-at .ensures .1) (ap (label s) (sym (t .if1 .taken))) (f .search-filtered .ensures)
+
+array-share-prefix-components-2 : tie.Need-array-share-prefix-components-2
+array-share-prefix-components-2 c = search needs
+
+slice-aggregate-search : tie.Need-slice-aggregate-search
+slice-aggregate-search c =
+    let r = unfiltered c .before in sym (length-take-le (start r .args .count) (r .floats-at .result) (r .floats-at .ensures .0))
 
 search-requires : tie.Need-search-requires
 search-requires c κs = search needs
@@ -65,21 +100,30 @@ same-length-6 c = search needs
 
 returns-2 : tie.Need-returns-2
 returns-2 c =
-    let r = c .before .before .before .before .before .before in
-    let s = start (unfiltered r .before) in
-    let x = r .search .last .1 .1 .1 .1 in
-    subst (Finds s (r .search .result) (x .0) (x .1 .1 .1 .0) (x .1 .1 .1 .1 .0)) (ap (λ (b : Bool). asking b (s .args .label .now)) (sym (unfiltered r .if1 .left)))
-    (r .search .ensures)
+    let f = c .before .before .before .before .before .before in
+    let t = unfiltered (f .before .before .before) in
+    let s = start (t .before) in
+    let x = f .search .last .1 .1 .1 .1 in
+    let end : SearchEnd = record { answer = f .search .result; work = x .0; ids = x .1 .1 .1 .0; distances = x .1 .1 .1 .1 .0 } in
+    finds-as s end (t .before .floats-at .ensures .1) (ap (label s) (sym (t .if1 .left))) (f .search .ensures)
 
 pub find-spec : {M : Type 1} → statement M
 find-spec =
     tie.close
     (tie.spec
+    floats-at-requires
+    sub-label
+    part-label-start
+    part-label-end
+    array-share-prefix-components
+    slice-aggregate-search-filtered
     search-filtered-requires
     same-length
     same-length-2
     same-length-3
     returns
+    array-share-prefix-components-2
+    slice-aggregate-search
     search-requires
     same-length-4
     same-length-5

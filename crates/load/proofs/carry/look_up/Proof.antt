@@ -1,18 +1,22 @@
 -- A refused build ends the record; after another the nearest are looked up.
 use mathlib.Core.Path.{refl}
+use Rattle.curator.specs.Arguments.{SearchCall}
 use Rattle.load.specs.Step.{Lent}
-use Rattle.load.specs.Code.{lists}
+use Rattle.load.specs.Code.{lists, searchAt}
 use Rattle.load.proofs.Laws.{build-refused, build-searched}
 use borrow.Author.Needs.{needs}
 use Rattle.load.proofs.carry.look_up.Statement.{statement}
 use Rattle.load.proofs.carry.look_up.Tie as tie
 
--- the function's entry, and what it is lent
+-- the function's entry, what it is lent and asked for
 abbrev start : tie.After-build → tie.Start
-start c = c .before .before .before .before .before .before .before .before .before .before .before .before .before
+start c = c .before .before .before .before .before .before .before .before .before .before .before .before
 
 abbrev lent : tie.Start → Lent
 lent s = lists (s .args .floats) (s .args .numbers) (s .args .hashes) (s .args .work) (s .args .ids) (s .args .distances)
+
+abbrev asked : tie.Start → Lent → SearchCall
+asked s = searchAt (s .args .index .dimension) (s .args .file .now) (s .args .query)
 
 -- the build, from where its answer is known
 abbrev refused : tie.After-known-told → tie.After-build
@@ -21,9 +25,9 @@ refused c = c .before .before .before .before .before .before .before .before .b
 abbrev ready : tie.After-known-told2 → tie.After-build
 ready c = c .before .before .before .before .before .before .before .before .before .before .before
 
--- where the nearest have been looked up, from there
-abbrev known : tie.After-find → tie.After-known-told2
-known c = c .before .before .before .before .before .before .before
+-- where the nearest are looked up
+abbrev known : tie.After-find-arg6 → tie.After-known-told2
+known c = c .before .before .before .before .before .before
 
 build-requires : tie.Need-build-requires
 build-requires c κs = search needs
@@ -35,7 +39,7 @@ enum-known-built-2 : tie.Need-enum-known-built-2
 enum-known-built-2 c = search needs
 
 find-requires : tie.Need-find-requires
-find-requires c κs = search needs
+find-requires c κs = start (ready (known c)) .pre
 
 found-requires : tie.Need-found-requires
 found-requires c κs = search needs
@@ -56,7 +60,7 @@ returns : tie.Need-returns
 returns c =
     let b = refused c in
     let s = start b in
-    build-refused (s .args .index) _ (s .args .next) (lent s) _ (b .build .result) (c .before .built .given .0 .0) (b .build .ensures) (c .before .built .given .1) refl refl
+    build-refused (s .args .index) (asked s) (s .args .query .next) (lent s) _ (b .build .result) (c .before .built .given .0 .0) (b .build .ensures) (c .before .built .given .1) refl refl
 
 same-length-5 : tie.Need-same-length-5
 same-length-5 c = search needs
@@ -79,10 +83,10 @@ same-length-10 c = search needs
 returns-2 : tie.Need-returns-2
 returns-2 c =
     let f = c .before .before .before .before .before .before .before in
-    let k = known f in
+    let k = known (f .before) in
     let b = ready k in
     let s = start b in
-    build-searched (s .args .index) _ (s .args .next) (lent s) _ (b .build .result) (k .before .built2 .given .0 .0) _ (f .find .result) (c .found .result)
+    build-searched (s .args .index) (asked s) (s .args .query .next) (lent s) _ (b .build .result) (k .before .built2 .given .0 .0) _ (f .find .result) (c .found .result)
     (b .build .ensures) (k .before .built2 .given .1) (f .find .ensures) (c .found .ensures)
 
 pub look-up-spec : {M : Type 1} → statement M

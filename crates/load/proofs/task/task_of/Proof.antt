@@ -1,5 +1,6 @@
 -- By the kinds of records.
-use mathlib.Core.Path.{sym, ap}
+use mathlib.Core.Path.{sym, ap, _∙_}
+use Rattle.load.specs.declared.task.Task.the-variants.{Find}
 use Rattle.load.specs.Code.{taskOf}
 use borrow.Author.Needs.{needs}
 use Rattle.load.proofs.task.task_of.Statement.{statement}
@@ -24,10 +25,20 @@ returns-2 : tie.Need-returns-2
 returns-2 c = ap (taskOf (c .before .before .before .args .index)) (sym (c .before .located .given .1))
 
 returns-3 : tie.Need-returns-3
-returns-3 c = ap (taskOf (c .before .before .before .args .index)) (sym (c .before .located2 .given .1))
+returns-3 c =
+    let index = c .before .before .before .before .args .index in
+    ap (Find index) (c .query-of .ensures) ∙ ap (taskOf index) (sym (c .before .before .located2 .given .1))
 
 returns-4 : tie.Need-returns-4
-returns-4 c = ap (taskOf (c .before .before .before .args .index)) (sym (c .before .located3 .given .1))
+returns-4 c =
+    let index = c .before .before .before .before .args .index in
+    ap (Find index) (c .query-of2 .ensures) ∙ ap (taskOf index) (sym (c .before .before .located3 .given .1))
+
+query-of-requires : tie.Need-query-of-requires
+query-of-requires c κs = search needs
+
+query-of-requires-2 : tie.Need-query-of-requires-2
+query-of-requires-2 c κs = search needs
 
 pub task-of-spec : {M : Type 1} → statement M
 task-of-spec =
@@ -36,7 +47,9 @@ task-of-spec =
     enum-told
     enum-known-located
     enum-known-located-2
+    query-of-requires
     enum-known-located-3
+    query-of-requires-2
     returns
     returns-2
     returns-3
