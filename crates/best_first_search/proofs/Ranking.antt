@@ -23,8 +23,8 @@ use Rattle.walk.specs.Answer.{documentOf, distanceOf, dropAfter, dropRepeats}
 use Rattle.walk.specs.AnswerLaws.{drop-nil, drop-same, drop-other}
 use Rattle.lists.specs.Tests.{allPass}
 use Rattle.hit_queue.specs.declared.answer.Taken.{Taken}
-use Rattle.hit_queue.specs.Hits.{within, Measure, Measured, Takes}
-use Rattle.hit_queue.specs.HitsLaws.{document-popped, key-is}
+use Rattle.hit_queue.specs.Contracts.{within, Measure, Measured, Takes}
+use Rattle.hit_queue.specs.QueueLaws.{document-popped, key-is}
 use Rattle.best_first_search.specs.Ranks.{firstOf, Enough, Bounds, Sampled, Ranked, Firsts}
 use Rattle.best_first_search.proofs.Runs.{lastOf, after-append, runs-more, sort-keep, first-within, sorted-before, runs-within}
 

@@ -19,8 +19,8 @@ use Rattle.record_queue.specs.SortedLaws.{le-or-lt, insert-le, insert-gt, inser
 use Rattle.record_queue.specs.RecordsLaws.{same-or-not}
 use Rattle.walk.specs.Answer.{documentOf, dropAfter, dropRepeats}
 use Rattle.walk.specs.AnswerLaws.{drop-nil, drop-same, drop-other}
-use Rattle.hit_queue.specs.Hits.{within}
-use Rattle.hit_queue.specs.HitsLaws.{repeats-after}
+use Rattle.hit_queue.specs.Contracts.{within}
+use Rattle.hit_queue.specs.QueueLaws.{repeats-after}
 
 -- ---- runs
 

@@ -13,7 +13,7 @@ use Rattle.walk.specs.Answer.{documentOf, distanceOf, dropRepeats}
 use Rattle.store.specs.declared.Shape.{Shape}
 use Rattle.store.specs.declared.Counts.{Counts}
 use Rattle.store.specs.Store.{Store}
-use Rattle.hit_queue.specs.Hits.{within, MeasureLent, rankedQueue}
+use Rattle.hit_queue.specs.Contracts.{within, MeasureLent, rankedQueue}
 use Rattle.walk.specs.Contracts.{StoreLent}
 
 -- the first k of hits

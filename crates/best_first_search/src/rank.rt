@@ -5,7 +5,7 @@ use record_queue::pop;
 use store::Counts;
 use store::Shape;
 ghost use Rattle.lists.specs.Lists.{part};
-ghost use Rattle.hit_queue.specs.Hits.{hitsOf, MeasureLent, CountRest};
+ghost use Rattle.hit_queue.specs.Contracts.{hitsOf, MeasureLent, CountRest};
 ghost use Rattle.best_first_search.specs.Ranks.{Bounds, Sampled, Ranked, FirstHits, Firsts};
 
 // The key up to which the hits of a queue come to k documents, repeats dropped; the highest of all keys, if they do not. The queue is used up.

@@ -26,7 +26,7 @@ use Rattle.walk.specs.Walk.{View, waitingNode, Progress, State, damaged, going,
 use Rattle.walk.specs.WalkLaws.{openedOne, pushedOne, withHits, startProgress, Once, ChildrenBelow, once-kept, once-push, once-start, different-below, walk-is, walk-suc, walk-zero, step-open, none-stays, damaged-stays, some-waiting, nil-waiting, give-damage, give-children, give-hits, give-over, pushAll-nil, pushAll-fresh, pushAll-again}
 use Rattle.walk.specs.StoreView.{childrenShown}
 use Rattle.walk.specs.Contracts.{Works}
-use Rattle.hit_queue.specs.Hits.{Gathered, GatherDamage}
+use Rattle.leaf_hits.specs.Contracts.{Gathered, GatherDamage}
 use Rattle.store.specs.Lent.{storeOf}
 use Rattle.best_first_walk.specs.Walks.{foundAt, foundPart, Represents, Begins, insertEach, PushedNodes, WalkEnds}
 use Rattle.best_first_walk.specs.WalksLaws.{insertEach-nil, insertEach-one, insertEach-append, length-insertEach}

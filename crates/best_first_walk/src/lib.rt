@@ -1,8 +1,8 @@
 // The best-first walk over a lent store, whatever numbers stand in it (document 01, 'Search').
 use distance::places::distances_at;
-use hit_queue::gather::Added;
-use hit_queue::gather::add_hits;
 use hit_queue::vectors::distance_key;
+use leaf_hits::Added;
+use leaf_hits::add_hits;
 use record_queue::Record;
 use record_queue::pop;
 use record_queue::push;

@@ -1,5 +1,3 @@
 -- Laws that only this crate's proofs need.
-pub mod Entries
-pub mod LeafLists
 pub mod Measuring
 pub mod Taking

@@ -22,9 +22,9 @@ use Rattle.distance.specs.Distance.{distance}
 use Rattle.store.specs.declared.Counts.{Counts}
 use Rattle.lists.specs.Tests.{allPass, and-right, allPass-Memᴰ, allPass-append}
 use Rattle.walk.specs.Answer.{hitOf}
-use Rattle.hit_queue.specs.Hits.{within, Measured, Measure}
+use Rattle.hit_queue.specs.Contracts.{within, Measured, Measure}
 use Rattle.walk.specs.StoreView.{hitAt}
-use Rattle.hit_queue.specs.HitsLaws.{key-is}
+use Rattle.hit_queue.specs.QueueLaws.{key-is}
 
 -- ---- hits are added
 

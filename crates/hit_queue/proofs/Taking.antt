@@ -17,8 +17,8 @@ use Rattle.record_queue.specs.Queue.{Popped}
 use Rattle.total_order.specs.TotalOrder.{ofKey}
 use Rattle.walk.specs.Answer.{documentOf, distanceOf, dropAfter}
 use Rattle.walk.specs.AnswerLaws.{drop-nil, drop-same, drop-other}
-use Rattle.hit_queue.specs.Hits.{rankedQueue, Takes}
-use Rattle.hit_queue.specs.HitsLaws.{repeats-after, document-popped}
+use Rattle.hit_queue.specs.Contracts.{rankedQueue, Takes}
+use Rattle.hit_queue.specs.QueueLaws.{repeats-after, document-popped}
 
 pub distance-popped : (r : Record) → r .rest < 2 ^ 64 → distanceOf (value r) ≡ ofKey (r .key)
 unfolding distanceOf

@@ -7,7 +7,7 @@ ghost use lib.ListN.{length};
 ghost use Rattle.record_queue.specs.Records.{records};
 ghost use Rattle.distance.specs.Distance.{distance};
 ghost use Rattle.walk.specs.Answer.{dropAfter};
-ghost use Rattle.hit_queue.specs.Hits.{TakeHits, Takes, CountRest};
+ghost use Rattle.hit_queue.specs.Contracts.{TakeHits, Takes, CountRest};
 ghost use Rattle.record_queue.specs.Sorted.{sort};
 
 // What was taken of a queue: how many hits, how many records are left, and the last document id, or 2 ^ 32 before the first.

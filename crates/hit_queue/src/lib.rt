@@ -1,5 +1,4 @@
-// The queue of hits: the vectors of a leaf are collected, their hits queued, and those of an answer taken out (document 01, 'Search').
+// The queue of hits: the hits of the vectors found are put into it, and those of an answer taken out (document 01, 'Search').
 pub mod answer;
-pub mod gather;
 pub mod queue;
 pub mod vectors;

@@ -16,7 +16,7 @@ ghost use Rattle.distance.specs.Distance.{distance};
 ghost use Rattle.walk.specs.Answer.{hitOf};
 ghost use Rattle.lists.specs.Lists.{part};
 ghost use mathlib.Core.Bool.{cond};
-ghost use Rattle.hit_queue.specs.Hits.{hitsOf, PushWithin, MeasureLent, Measured};
+ghost use Rattle.hit_queue.specs.Contracts.{hitsOf, PushWithin, MeasureLent, Measured};
 
 // The hit of a vector at a distance: the distance's key, document id and number.
 fn hit(numbers: &[u32], vector: usize, distance: f32) -> Record

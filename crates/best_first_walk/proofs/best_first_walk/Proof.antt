@@ -3,13 +3,13 @@
 use Rattle.best_first_walk.proofs.Walking.{Waits, Opens, Marks, childTest, children-shown, waits-from, next-child, fresh-is, waits-start, few-wait, opens, opens-below, found-length, opens-damage, leaf-damage, leaf-hits, marks-start, child-damage, child-low, child-marked, children-room, children-held, children-pushed, ends-damaged, ends-whole, ends-cut}
 use Rattle.best_first_walk.specs.Walks.{foundAt, foundPart, nodesOf}
 use Rattle.best_first_walk.specs.WalksLaws.{few-hits, length-found, nodes-wait}
-use Rattle.hit_queue.specs.Hits.{AddHits, Gathers, entriesOf}
+use Rattle.leaf_hits.specs.Contracts.{AddHits, Gathers, entriesOf}
 use Rattle.walk.specs.Wanted.{EntryRead, passes, given, most}
 use Rattle.walk.specs.WantedLaws.{given-held}
 use Rattle.store.specs.Lent.{storeOf}
-use Rattle.hit_queue.specs.HitsLaws.{list-shown}
-use Rattle.hit_queue.specs.declared.gather.Added.{Added}
-use Rattle.hit_queue.specs.declared.gather.Added.the-variants as added
+use Rattle.leaf_hits.specs.LeafLaws.{list-shown}
+use Rattle.leaf_hits.specs.declared.Added.{Added}
+use Rattle.leaf_hits.specs.declared.Added.the-variants as added
 use Rattle.walk.specs.declared.look.Look.{Look}
 use Rattle.walk.specs.declared.look.Look.the-variants as look
 use Rattle.walk.specs.LentLaws.{lent-is, works-trans, works-sets}

@@ -1,7 +1,7 @@
 -- `sample_bound` meets its contract: the hits of the sample are among all, so there are as many documents within its bound. Assumes nothing.
 use Rattle.best_first_search.proofs.Ranking.{sampled-none, sampled}
 use Rattle.walk.specs.StoreView.{hitAt}
-use Rattle.hit_queue.specs.HitsLaws.{measure-front}
+use Rattle.hit_queue.specs.QueueLaws.{measure-front}
 use Rattle.lists.specs.Lists.{part}
 use Rattle.lists.specs.Parts.{length-part}
 use lib.ListN.{length, length-map}

@@ -1,7 +1,7 @@
 -- `measure` meets its contract: the loop keeps the hits of the first j numbers, four more a turn or one. The measure is the numbers left. Assumes nothing.
 use Rattle.hit_queue.proofs.Measuring.{measured-none, measured-next, measure-rest}
-use Rattle.hit_queue.specs.HitsLaws.{measure-front}
-use Rattle.hit_queue.specs.Hits.{hitsOf, Measure, Measured}
+use Rattle.hit_queue.specs.QueueLaws.{measure-front}
+use Rattle.hit_queue.specs.Contracts.{hitsOf, Measure, Measured}
 use Rattle.walk.specs.StoreView.{hitAt}
 use Rattle.lists.specs.Lists.{part}
 use Rattle.lists.specs.Parts.{part-zero, length-part}

@@ -1,7 +1,7 @@
 -- `measure_one` meets its contract: the number is held, so its vector is within the floats. Assumes nothing.
 use Rattle.hit_queue.proofs.Measuring.{number-held, hit-is}
 use Rattle.lists.specs.Parts.{one-mapped}
-use Rattle.hit_queue.specs.Hits.{Measured}
+use Rattle.hit_queue.specs.Contracts.{Measured}
 use Rattle.walk.specs.StoreView.{hitAt}
 use Rattle.walk.specs.LentLaws.{vector-within}
 use mathlib.Core.List.{List}

@@ -1,9 +1,9 @@
 -- `add_entries` meets its contract: the loop keeps that the numbers read so far were gathered, and each way out adds what came of the next ones. The
 -- measure is the numbers left. Assumes nothing.
-use Rattle.hit_queue.proofs.LeafLists.{gathered-none, damage-append, gathers-append}
-use Rattle.hit_queue.specs.declared.gather.Added.{Added}
-use Rattle.hit_queue.specs.declared.gather.Added.the-variants as added
-use Rattle.hit_queue.specs.Hits.{GatheredBy, GatherDamageBy, GathersBy}
+use Rattle.leaf_hits.proofs.LeafLists.{gathered-none, damage-append, gathers-append}
+use Rattle.leaf_hits.specs.declared.Added.{Added}
+use Rattle.leaf_hits.specs.declared.Added.the-variants as added
+use Rattle.leaf_hits.specs.Contracts.{GatheredBy, GatherDamageBy, GathersBy}
 use Rattle.lists.specs.Lists.{part}
 use Rattle.lists.specs.Parts.{part-append-parts}
 use lib.Dec.{ltb, eqb}
@@ -15,8 +15,8 @@ use borrow.Author.Tests.{ltb-false}
 use native.Mathlib.Omega.{arith}
 use Prim.Native.Nat.{ℕ, _+_, _-_, _≤_}
 use borrow.Author.Needs.{needs}
-use Rattle.hit_queue.proofs.gather.add_entries.Statement.{statement}
-use Rattle.hit_queue.proofs.gather.add_entries.Tie as tie
+use Rattle.leaf_hits.proofs.add_entries.Statement.{statement}
+use Rattle.leaf_hits.proofs.add_entries.Tie as tie
 
 abbrev Inv-loop : tie.InvT-loop
 Inv-loop counts numbers hashes found₀ before hash owners-at start count total₀ read₀ found total read =

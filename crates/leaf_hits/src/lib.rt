@@ -10,7 +10,7 @@ ghost use lib.ListN.{length, getD, set};
 ghost use Rattle.lists.specs.Lists.{part};
 ghost use lib.Dec.{eqb, ltb};
 ghost use mathlib.Core.Bool.{_&&_, cond};
-ghost use Rattle.hit_queue.specs.Hits.{AddHits, AddEntries, AddFour, AddLent, AddedVectors, AddedEntries, AddedHits};
+ghost use Rattle.leaf_hits.specs.Contracts.{AddHits, AddEntries, AddFour, AddLent, AddedVectors, AddedEntries, AddedHits};
 
 // The vectors found after those of a leaf, or damage.
 pub enum Added {

@@ -1,14 +1,14 @@
 -- `add_hits` meets its contract: it is one of two. Assumes nothing.
-use Rattle.hit_queue.proofs.LeafLists.{as-everything, as-label}
-use Rattle.hit_queue.specs.Hits.{AddHits, AddedHits}
+use Rattle.leaf_hits.proofs.LeafLists.{as-everything, as-label}
+use Rattle.leaf_hits.specs.Contracts.{AddHits, AddedHits}
 use Rattle.walk.specs.Wanted.{most}
 use Rattle.lists.specs.Lists.{part}
 use Rattle.walk.specs.declared.Wanted.{Wanted}
 use native.Mathlib.Omega.{arith}
 use mathlib.Core.Path.{sym, subst}
 use borrow.Author.Needs.{needs}
-use Rattle.hit_queue.proofs.gather.add_hits.Statement.{statement}
-use Rattle.hit_queue.proofs.gather.add_hits.Tie as tie
+use Rattle.leaf_hits.proofs.add_hits.Statement.{statement}
+use Rattle.leaf_hits.proofs.add_hits.Tie as tie
 
 enum-told : tie.Need-enum-told
 enum-told c = search needs

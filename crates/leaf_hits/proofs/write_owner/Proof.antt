@@ -3,8 +3,8 @@ use mathlib.Core.Path.{refl, ap}
 use Prim.Native.Nat.{ℕ, _+_}
 use native.Mathlib.Omega.{arith}
 use borrow.Author.Needs.{needs}
-use Rattle.hit_queue.proofs.gather.write_owner.Statement.{statement}
-use Rattle.hit_queue.proofs.gather.write_owner.Tie as tie
+use Rattle.leaf_hits.proofs.write_owner.Statement.{statement}
+use Rattle.leaf_hits.proofs.write_owner.Tie as tie
 
 mul-found : tie.Need-mul-found
 mul-found c = search needs

@@ -1,6 +1,6 @@
 -- `add_rest` meets its contract: the loop keeps `Gathering`, and each way out is one of its ends. The measure is what is left of the list.
 -- Assumes nothing.
-use Rattle.hit_queue.proofs.LeafLists.{Gathering, gather-start, gather-next, gather-fails, gather-over, gather-end, block-at, block-room, entry-past, owner-past, entry-held}
+use Rattle.leaf_hits.proofs.LeafLists.{Gathering, gather-start, gather-next, gather-fails, gather-over, gather-end, block-at, block-room, entry-past, owner-past, entry-held}
 use Rattle.lists.specs.Lists.{part}
 use Rattle.lists.specs.Parts.{length-part}
 use mathlib.Core.Path.{_≡_, refl, ap, subst}
@@ -12,8 +12,8 @@ use lib.Arith.{lt-of-le-ne}
 use lib.Dec.{ltb, eqb}
 use lib.ListN.{length, getD}
 use borrow.Author.Needs.{needs}
-use Rattle.hit_queue.proofs.gather.add_rest.Statement.{statement}
-use Rattle.hit_queue.proofs.gather.add_rest.Tie as tie
+use Rattle.leaf_hits.proofs.add_rest.Statement.{statement}
+use Rattle.leaf_hits.proofs.add_rest.Tie as tie
 
 abbrev Inv-loop : tie.InvT-loop
 Inv-loop counts numbers hashes found₀ before hash owners-at start count total₀ j₀ found total j =

@@ -4,8 +4,8 @@ use mathlib.Core.Bool.{Bool, cond}
 use Prim.Native.Nat.{ℕ}
 use native.Mathlib.Omega.{arith}
 use borrow.Author.Tests.{eq-eqb, ne-eqb}
-use Rattle.hit_queue.proofs.gather.same.Statement.{statement}
-use Rattle.hit_queue.proofs.gather.same.Tie as tie
+use Rattle.leaf_hits.proofs.same.Statement.{statement}
+use Rattle.leaf_hits.proofs.same.Tie as tie
 
 returns : tie.Need-returns
 returns c = (sym (ap {B = ℕ} (λ (b : Bool). cond b 1 0) (eq-eqb (c .before .args .a) (c .before .args .b) (c .if1 .taken))), omega arith)

@@ -1,6 +1,6 @@
 -- `add_vectors` meets its contract: the loop keeps `Gathering`, and each way out is one of its ends. The measure is what is left of the list.
 -- Assumes nothing.
-use Rattle.hit_queue.proofs.LeafLists.{Gathering, gather-start, gather-next, gather-fails, gather-over, gather-end, block-at, block-room}
+use Rattle.leaf_hits.proofs.LeafLists.{Gathering, gather-start, gather-next, gather-fails, gather-over, gather-end, block-at, block-room}
 use Rattle.lists.specs.Lists.{part}
 use Rattle.lists.specs.Parts.{length-part}
 use mathlib.Core.Path.{_≡_, refl, sym}
@@ -13,8 +13,8 @@ use lib.Dec.{ltb}
 use lib.ListN.{length, getD}
 use borrow.Author.Tests.{lt-ltb, le-ltb}
 use borrow.Author.Needs.{needs}
-use Rattle.hit_queue.proofs.gather.add_vectors.Statement.{statement}
-use Rattle.hit_queue.proofs.gather.add_vectors.Tie as tie
+use Rattle.leaf_hits.proofs.add_vectors.Statement.{statement}
+use Rattle.leaf_hits.proofs.add_vectors.Tie as tie
 
 abbrev Inv-loop : tie.InvT-loop
 Inv-loop counts numbers found₀ before start count total₀ j₀ found total j =

@@ -1,7 +1,7 @@
 -- `add_four` meets its contract: both tests together are the list's, and the owners come one after the other to those before. Assumes nothing.
-use Rattle.hit_queue.proofs.LeafLists.{gathered-none, gathered-one, gathered-append, entry-held}
-use Rattle.hit_queue.proofs.Entries.{four-read, first-fails, second-fails, all-below, four-owners}
-use Rattle.hit_queue.specs.Hits.{GatheredBy}
+use Rattle.leaf_hits.proofs.LeafLists.{gathered-none, gathered-one, gathered-append, entry-held}
+use Rattle.leaf_hits.proofs.Entries.{four-read, first-fails, second-fails, all-below, four-owners}
+use Rattle.leaf_hits.specs.Contracts.{GatheredBy}
 use Rattle.lists.specs.Lists.{part}
 use lib.Dec.{ltb, eqb}
 use lib.ListN.{length, getD, set}
@@ -12,8 +12,8 @@ use mathlib.Core.Path.{_≡_, refl, _∙_, subst}
 use native.Mathlib.Omega.{arith}
 use Prim.Native.Nat.{ℕ, _+_, _<_, _≤_}
 use borrow.Author.Needs.{needs}
-use Rattle.hit_queue.proofs.gather.add_four.Statement.{statement}
-use Rattle.hit_queue.proofs.gather.add_four.Tie as tie
+use Rattle.leaf_hits.proofs.add_four.Statement.{statement}
+use Rattle.leaf_hits.proofs.add_four.Tie as tie
 
 -- the places: four numbers read and tested, their owners read and tested, each owner written
 abbrev Numbers : Type 0

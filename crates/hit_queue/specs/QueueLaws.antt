@@ -1,38 +1,19 @@
--- What a leaf's list shows, in the words of the contracts: one test before the hits; and what others use of queues and records. Assumes nothing.
+-- What others use of hits in a queue: repeats from the first on, the parts of a record, and the front of the numbers to be measured. Assumes nothing.
 use Prim.Native.Nat.{ℕ, _+_, _-_, _*_, _/_, _%_, _^_, _≤_, _<_}
 use native.Mathlib.Omega.{arith}
-use mathlib.Core.Path.{_≡_, refl, sym, ap, ap₂, _∙_}
-use mathlib.Core.Logic.{_⊎_, inl, inr}
-use mathlib.Core.Bool.{Bool, true, false, _&&_, cond}
-use mathlib.Core.List.{List, [], _∷_, _++_, map, map-map, map-id}
-use lib.Dec.{ltb, eqb}
-use lib.ListN.{getD, drop}
-use lib.Ieee.{Float}
-use Rattle.lists.specs.Counting.{keep-nil, keep-pass, keep-fail, keep-all}
-use Rattle.lists.specs.Tests.{which, allPass, and-left, and-right, allPass-nil, allPass-cons, allPass-append}
-use Rattle.lists.specs.Lists.{part, keep}
+use mathlib.Core.Path.{_≡_, sym, ap, _∙_}
+use mathlib.Core.List.{List, [], _∷_}
+use lib.Dec.{ltb}
+use Rattle.lists.specs.Tests.{allPass, and-left, allPass-append}
+use Rattle.lists.specs.Lists.{part}
 use Rattle.lists.specs.Parts.{part-append-parts}
 use Rattle.record_queue.specs.declared.Record.{Record}
 use Rattle.record_queue.specs.Records.{value}
 use Rattle.record_queue.specs.RecordsLaws.{value-is}
-use Rattle.store.specs.declared.Shape.{Shape}
-use Rattle.store.specs.Store.{ownersAt}
-use Rattle.walk.specs.declared.Wanted.{Wanted}
 use Rattle.store.specs.declared.Counts.{Counts}
-use Rattle.walk.specs.Walk.{hits, damage}
-use Rattle.walk.specs.Wanted.{passes, given}
-use Rattle.walk.specs.StoreView.{listShown}
-use Rattle.store.specs.Lent.{storeOf}
 use Rattle.walk.specs.Answer.{documentOf, dropAfter, dropRepeats}
 use Rattle.walk.specs.AnswerLaws.{drop-nil, drop-other, repeats-nil, repeats-cons}
-use Rattle.hit_queue.specs.Hits.{entriesOf, hitsOf, Measure}
-
--- what a leaf's list shows: hits of the vectors that it gives, if all its numbers pass
-pub list-shown : (s : Shape) (c : Counts) (floats : List Float) (numbers hashes : List ℕ) (query : List Float) (wanted : Wanted) (l : List ℕ)
-    → listShown s c (storeOf floats numbers hashes) query wanted l
-    ≡ cond (allPass (passes wanted c (entriesOf s numbers hashes)) l) (hits (hitsOf s floats numbers query (given wanted (entriesOf s numbers hashes) l))) damage
-unfolding listShown
-list-shown s c floats numbers hashes query wanted l = refl
+use Rattle.hit_queue.specs.Contracts.{Measure}
 
 -- no document id is 2 ^ 32
 pub repeats-after : (l : List ℕ) → dropRepeats l ≡ dropAfter (2 ^ 32) l

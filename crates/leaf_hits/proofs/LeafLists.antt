@@ -19,9 +19,9 @@ use Rattle.store.specs.declared.Shape.{Shape}
 use Rattle.store.specs.Store.{ownersAt}
 use Rattle.walk.specs.declared.Wanted.the-variants.{Everything, Label}
 use Rattle.store.specs.declared.Counts.{Counts}
-use Rattle.hit_queue.specs.declared.gather.Added.{Added}
-use Rattle.hit_queue.specs.declared.gather.Added.the-variants as added
-use Rattle.hit_queue.specs.Hits.{newVectors, Gathers, GatheredBy, GatherDamageBy, GathersBy, AddedVectors, AddedEntries, AddedHits}
+use Rattle.leaf_hits.specs.declared.Added.{Added}
+use Rattle.leaf_hits.specs.declared.Added.the-variants as added
+use Rattle.leaf_hits.specs.Contracts.{newVectors, Gathers, GatheredBy, GatherDamageBy, GathersBy, AddedVectors, AddedEntries, AddedHits}
 
 pub allPass-one : (t : ℕ → Bool) (x : ℕ) (b : Bool) → t x ≡ b → allPass t (x ∷ []) ≡ b
 allPass-one t x b e = allPass-cons t x [] ∙ ap₂ _&&_ e (allPass-nil t) ∙ go b

@@ -1,0 +1,85 @@
+-- The contracts of the queue of hits: the hits of the vectors found are put into it, those of an answer taken out.
+use Prim.Native.Nat.{ℕ, _+_, _-_, _*_, _/_, _^_, _≤_}
+use mathlib.Core.Path.{_≡_}
+use mathlib.Core.Bool.{Bool, true}
+use mathlib.Core.List.{List, _++_, map}
+use lib.Dec.{leb, ltb}
+use lib.Ieee.{Float}
+use lib.ListN.{length, take, drop}
+use lib.Seq.{sets}
+use Rattle.lists.specs.Lists.{part, keep}
+use Rattle.lists.specs.Tests.{allPass}
+use Rattle.record_queue.specs.Sorted.{sort}
+use Rattle.record_queue.specs.Records.{records, Heap}
+use Rattle.store.specs.declared.Shape.{Shape}
+use Rattle.store.specs.declared.Counts.{Counts}
+use Rattle.walk.specs.StoreView.{hitAt}
+use Rattle.walk.specs.Contracts.{VectorsLent}
+use Rattle.walk.specs.Answer.{documentOf, distanceOf, dropAfter, dropRepeats}
+use Rattle.hit_queue.specs.declared.answer.Taken.{Taken}
+
+-- ---- the queue of the hits of the vectors found
+
+-- the hits of several vectors
+abbrev pub hitsOf : Shape → List Float → List ℕ → List Float → List ℕ → List ℕ
+hitsOf s floats numbers query l = map (hitAt s floats numbers query) l
+
+-- whether the key of a hit is at most a bound
+abbrev pub within : ℕ → ℕ → Bool
+within bound hit = leb (hit / 2 ^ 64) bound
+
+-- `push_within` and `push_four` want a queue with room for as many more
+pub record PushWithin (heap : List ℕ) (count more : ℕ) : Type 0 where
+  pub room : (count + more) * 3 ≤ length heap
+  pub queue : Heap (records 3 count heap)
+
+-- The hits within a bound were added to those of a queue, at the highest bound all of them, and nothing behind it changed
+pub record Measured (bound : ℕ) (hits : List ℕ) (before : ℕ) (heap : List ℕ) (total : ℕ) (heap′ : List ℕ) : Type 0 where
+  pub more : before ≤ total
+  pub few : total ≤ before + length hits
+  pub queue : Heap (records 3 total heap′)
+  pub sorted : sort (records 3 total heap′) ≡ sort (keep (within bound) hits ++ records 3 before heap)
+  pub all : bound ≡ 2 ^ 32 - 1 → keep (within bound) hits ≡ hits
+  pub behind : drop (total * 3) heap′ ≡ drop (total * 3) heap
+  pub size : length heap′ ≡ length heap
+
+-- `measure` wants a queue and numbers of vectors behind it, so far that it can grow by one record for each that is read
+pub record Measure (c : Counts) (heap : List ℕ) (before at count : ℕ) : Type 0 where
+  pub queue : Heap (records 3 before heap)
+  pub held : allPass (λ x. ltb x (c .vectors)) (part at count heap) ≡ true
+  pub inside : at + count ≤ length heap
+  pub apart : before * 3 + 2 * count ≤ at + 2
+  pub room : (before + count) * 3 ≤ length heap
+
+-- and the vectors beside
+pub record MeasureLent (s : Shape) (c : Counts) (floats : List Float) (numbers heap : List ℕ) (before at count : ℕ) : Type 0 where
+  pub lent : VectorsLent s c floats numbers
+  pub measure : Measure c heap before at count
+
+-- ---- the hits of an answer
+
+-- every hit of a queue in order, repeats dropped
+abbrev pub rankedQueue : ℕ → List ℕ → List ℕ
+rankedQueue count heap = dropRepeats (sort (records 3 count heap))
+
+-- `take_hits` wants a queue, and answer lists of at least k places
+pub record TakeHits (heap : List ℕ) (count k : ℕ) (ids : List ℕ) (distances : List Float) : Type 0 where
+  pub room : count * 3 ≤ length heap
+  pub queue : Heap (records 3 count heap)
+  pub ids-room : k ≤ length ids
+  pub distances-room : k ≤ length distances
+
+-- 'the first k stay': their ids and distances are written from the front, and the other places keep what they held; what is left of the queue are the
+-- hits behind them, of which those directly behind the last with its id are repeats
+pub record Takes (heap : List ℕ) (count k : ℕ) (ids : List ℕ) (distances : List Float) (r : Taken) (heap′ : List ℕ) (ids′ : List ℕ) (distances′ : List Float) : Type 0 where
+  pub count-is : r .hits ≡ length (take k (rankedQueue count heap))
+  pub ids-are : ids′ ≡ sets ids 0 (map documentOf (take k (rankedQueue count heap)))
+  pub distances-are : distances′ ≡ sets distances 0 (map distanceOf (take k (rankedQueue count heap)))
+  pub rest : rankedQueue count heap ≡ take k (rankedQueue count heap) ++ dropAfter (r .last) (sort (records 3 (r .left) heap′))
+  pub few : r .left ≤ count
+  pub queue : Heap (records 3 (r .left) heap′)
+
+-- `count_rest` wants a queue
+pub record CountRest (heap : List ℕ) (left : ℕ) : Type 0 where
+  pub room : left * 3 ≤ length heap
+  pub queue : Heap (records 3 left heap)
