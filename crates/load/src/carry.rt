@@ -131,11 +131,12 @@ fn find(
         (lists (floats .entry) (numbers .entry) (hashes .entry) (work .entry) (ids .entry) (distances .entry)))
         (leaving r (work .exit) (ids .exit) (distances .exit)) ⌝ }
 {
+    let filtered = query.filtered;
     let label_at = query.label_at;
     let place = query.floats_at;
     let k = query.k;
     let components = floats_at(file, place, count);
-    if query.filtered {
+    if filtered {
         let label = &file[label_at..place];
         return search::search_filtered(
             index,
