@@ -1,7 +1,7 @@
 #!/usr/bin/env python3
-"""Puts together what the program `replay` reads and must print: the samples, the refusals (tools/refusals.py) and the sample of the Rust's answers.
+"""Puts together what the program `replay_test` reads and must print: the samples, the refusals (tools/refusals.py) and the sample of the Rust's answers.
 
-    tools/replay.py           writes samples/*.echo from samples/*.txt, crates/echoes/stdin and stdout, crates/replay/stdin and stdout
+    tools/replay.py           writes samples/*.echo from samples/*.txt, crates/echoes/stdin and stdout, crates/replay_test/stdin and stdout
     tools/replay.py check     compares them instead; last line: N passed, M failed
     tools/replay.py list      prints each file's name and what must be printed of it
 
@@ -60,8 +60,8 @@ def outputs():
     made = {SAMPLES / f"{name}.echo": file for name, file, _ in samples()}
     made[TOP / "crates/echoes/stdin"] = worked[1]
     made[TOP / "crates/echoes/stdout"] = worked[2].encode()
-    made[TOP / "crates/replay/stdin"] = b"".join(struct.pack("<I", len(file)) + file for _, file, _ in cases())
-    made[TOP / "crates/replay/stdout"] = "".join(text + "-\n" for _, _, text in cases()).encode()
+    made[TOP / "crates/replay_test/stdin"] = b"".join(struct.pack("<I", len(file)) + file for _, file, _ in cases())
+    made[TOP / "crates/replay_test/stdout"] = "".join(text + "-\n" for _, _, text in cases()).encode()
     return made
 
 
