@@ -1,4 +1,3 @@
 -- Laws that only this crate's proofs need.
 pub mod Steps
-pub mod Pushing
 pub mod Walking

@@ -32,21 +32,12 @@ use Rattle.walk.specs.Walk.{View, waitingNode, nodeNumber, Progress, hits}
 use Rattle.walk.specs.WalkLaws.{openedOne, withHits, Once, numbersOf}
 use Rattle.store.specs.Lent.{storeOf}
 use Rattle.walk.specs.Contracts.{Works}
-use Rattle.best_first_walk.specs.Walks.{foundAt, foundPart, Finds, Represents, Begins, insertEach, PushedNodes}
-use Rattle.best_first_walk.specs.WalksLaws.{insertEach-one}
+use Rattle.waiting_nodes.specs.Contracts.{insertEach, PushedNodes}
+use Rattle.waiting_nodes.specs.PushLaws.{insertEach-one}
+use Rattle.best_first_walk.specs.Walks.{foundAt, foundPart, Finds, Represents, Begins}
 use Rattle.walk.specs.LentLaws.{works-trans, works-sets}
 
 -- ---- a node is marked, and nodes are pushed
-
-pub pushed-one : (s : Shape) (work work′ : List ℕ) (waiting child : ℕ) (r : Record) → waiting + 1 ≤ s .nodes → r .rest ≡ child → Pushed 2 waiting work r work′
-    → PushedNodes s work waiting ((r .key * 2 ^ 64 + child) ∷ []) work′
-pushed-one s work work′ waiting child r room e p = record {
-  queue = p .heap;
-  sorted = p .sorted ∙ ap (λ (x : ℕ). insert x (sort (records 2 waiting work))) (value-is r ∙ ap (λ (n : ℕ). r .key * 2 ^ 64 + n) e)
-      ∙ sym (insertEach-one (r .key * 2 ^ 64 + child) (sort (records 2 waiting work)));
-  behind = drop-more ((waiting + 1) * 2) (marksAt s) work′ work (omega arith) (p .behind);
-  size = p .size;
-}
 
 -- the mark of each node after one more
 mark-one : (i c : ℕ) (l : List ℕ) → i ≡ c → _≡_ {A = ℕ} (cond (isIn i (c ∷ l)) 1 0) 1

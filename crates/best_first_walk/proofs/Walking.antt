@@ -28,8 +28,9 @@ use Rattle.walk.specs.StoreView.{childrenShown}
 use Rattle.walk.specs.Contracts.{Works}
 use Rattle.leaf_hits.specs.Contracts.{Gathered, GatherDamage}
 use Rattle.store.specs.Lent.{storeOf}
-use Rattle.best_first_walk.specs.Walks.{foundAt, foundPart, Represents, Begins, insertEach, PushedNodes, WalkEnds}
-use Rattle.best_first_walk.specs.WalksLaws.{insertEach-nil, insertEach-one, insertEach-append, length-insertEach}
+use Rattle.waiting_nodes.specs.Contracts.{insertEach, PushedNodes}
+use Rattle.waiting_nodes.specs.PushLaws.{insertEach-nil, insertEach-one, insertEach-append, length-insertEach}
+use Rattle.best_first_walk.specs.Walks.{foundAt, foundPart, Represents, Begins, WalkEnds}
 use Rattle.best_first_walk.proofs.Steps.{waiting-length, represents-length, popped-waits, represents-opened, represents-marked, represents-pushed, represents-hits, withWaiting, popped-number, least-below, works-popped, works-marked, works-pushed}
 use Rattle.walk.specs.LentLaws.{works-refl, works-trans, works-sets}
 use Rattle.best_first_walk.specs.declared.Walked.the-variants as walked

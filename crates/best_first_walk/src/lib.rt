@@ -1,29 +1,25 @@
 // The best-first walk over a lent store, whatever numbers stand in it (document 01, 'Search').
-use distance::places::distances_at;
-use hit_queue::vectors::distance_key;
 use leaf_hits::Added;
 use leaf_hits::add_hits;
-use record_queue::Record;
 use record_queue::pop;
-use record_queue::push;
 use store::Counts;
 use store::Shape;
 use store::wide;
-use total_order::key;
+use waiting_nodes::distance_key;
+use waiting_nodes::push_children;
+use waiting_nodes::push_node;
 use walk::Wanted;
 use walk::look::Look;
 use walk::look::look_at;
 ghost use mathlib.Core.Path.{_≡_};
 ghost use mathlib.Core.Bool.{_&&_};
-ghost use mathlib.Core.List.{[], _∷_};
-ghost use Prim.Native.Nat.{_+_, _*_, _^_, _<_, _≤_};
+ghost use Prim.Native.Nat.{_+_, _≤_};
 ghost use lib.Dec.{ltb, eqb};
 ghost use lib.ListN.{length, getD, replicate};
-ghost use Rattle.lists.specs.Lists.{part};
 ghost use Rattle.store.specs.Store.{Limits};
 ghost use Rattle.store.specs.Lent.{lent};
 ghost use Rattle.walk.specs.Contracts.{StoreLent};
-ghost use Rattle.best_first_walk.specs.Walks.{foundAt, BeginLent, BeginsAny, PushNode, PushLent, PushedNodes, nodesOf, Walks};
+ghost use Rattle.best_first_walk.specs.Walks.{foundAt, BeginLent, BeginsAny, Walks};
 
 // How a walk ended: with vectors found, each of them a hit, or at damage. It is whole if no node waited.
 pub enum Walked {
@@ -70,22 +66,6 @@ fn fresh_child(work: &[u32], marks_at: usize, nodes: usize, parent: usize, child
     work[marks_at + child] == 0
 }
 
-// Puts a node with its distance's key into the queue of waiting nodes.
-fn push_node(shape: Shape, work: &mut [u32], waiting: usize, child: usize, key: u32)
-    requires { ⌜ PushNode shape (now work) waiting child ⌝ }
-    ensures { λ _. ⌜ PushedNodes shape (now (work .entry)) waiting ((key * 2 ^ 64 + child) ∷ []) (now (work .exit)) ⌝ }
-{
-    push(
-        work,
-        waiting,
-        2,
-        Record {
-            key,
-            rest: child as u64,
-        },
-    );
-}
-
 // Begins a walk: the root alone is marked, and it waits.
 fn begin(shape: Shape, counts: Counts, floats: &[f32], work: &mut [u32], query: &[f32])
     requires { ⌜ BeginLent shape counts (now floats) (now work) ⌝ }
@@ -97,84 +77,6 @@ fn begin(shape: Shape, counts: Counts, floats: &[f32], work: &mut [u32], query: 
     work[start] = 1;
     let key = distance_key(floats, query, shape.dimension, shape.vectors);
     push_node(shape, work, 0, 0, key);
-}
-
-// Puts four nodes into the queue of waiting nodes; their distances are made side by side.
-fn push_four(
-    shape: Shape,
-    floats: &[f32],
-    numbers: &[u32],
-    work: &mut [u32],
-    query: &[f32],
-    waiting: usize,
-    at: usize,
-)
-    requires { ⌜ PushLent shape (now floats) (now numbers) (now work) waiting at 4 ⌝ }
-    ensures { λ _. ⌜ PushedNodes shape (now (work .entry)) waiting (nodesOf shape (now (floats .entry)) (now (query .entry)) (part at 4 (now (numbers .entry)))) (now (work .exit)) ⌝ }
-{
-    let a = wide(numbers[at]);
-    let b = wide(numbers[at + 1]);
-    let c = wide(numbers[at + 2]);
-    let d = wide(numbers[at + 3]);
-    let v = shape.vectors;
-    let size = shape.dimension;
-    let four = distances_at(
-        floats,
-        query,
-        size,
-        (v + a) * size,
-        (v + b) * size,
-        (v + c) * size,
-        (v + d) * size,
-    );
-    push_node(shape, work, waiting, a, key(four.a));
-    push_node(shape, work, waiting + 1, b, key(four.b));
-    push_node(shape, work, waiting + 2, c, key(four.c));
-    push_node(shape, work, waiting + 3, d, key(four.d));
-}
-
-// Puts a node into the queue of waiting nodes.
-fn push_one(
-    shape: Shape,
-    floats: &[f32],
-    numbers: &[u32],
-    work: &mut [u32],
-    query: &[f32],
-    waiting: usize,
-    at: usize,
-)
-    requires { ⌜ PushLent shape (now floats) (now numbers) (now work) waiting at 1 ⌝ }
-    ensures { λ _. ⌜ PushedNodes shape (now (work .entry)) waiting (nodesOf shape (now (floats .entry)) (now (query .entry)) (part at 1 (now (numbers .entry)))) (now (work .exit)) ⌝ }
-{
-    let child = wide(numbers[at]);
-    let key = distance_key(floats, query, shape.dimension, shape.vectors + child);
-    push_node(shape, work, waiting, child, key);
-}
-
-// Puts the children of a node into the queue of waiting nodes, four at a time, and the last three at most one by one.
-fn push_children(
-    shape: Shape,
-    floats: &[f32],
-    numbers: &[u32],
-    work: &mut [u32],
-    query: &[f32],
-    waiting: usize,
-    start: usize,
-    count: usize,
-)
-    requires { ⌜ PushLent shape (now floats) (now numbers) (now work) waiting start count ⌝ }
-    ensures { λ _. ⌜ PushedNodes shape (now (work .entry)) waiting (nodesOf shape (now (floats .entry)) (now (query .entry)) (part start count (now (numbers .entry)))) (now (work .exit)) ⌝ }
-{
-    let mut j = 0;
-    while j < count {
-        if 4 <= count - j {
-            push_four(shape, floats, numbers, work, query, waiting + j, start + j);
-            j += 4;
-        } else {
-            push_one(shape, floats, numbers, work, query, waiting + j, start + j);
-            j += 1;
-        }
-    }
 }
 
 // The walk: the least waiting node is taken and opened, until none waits, or `ef_search` nodes are opened, or the store is damaged.

@@ -1,4 +1,3 @@
 // The queue of hits: the hits of the vectors found are put into it, and those of an answer taken out (document 01, 'Search').
 pub mod answer;
 pub mod queue;
-pub mod vectors;

@@ -2,7 +2,7 @@
 use Rattle.best_first_walk.proofs.Steps.{cleared-is, view-key, begins}
 use Rattle.walk.specs.LentLaws.{vector-within}
 use Rattle.store.specs.Lent.{storeOf}
-use Rattle.best_first_walk.specs.Walks.{PushedNodes}
+use Rattle.waiting_nodes.specs.Contracts.{PushedNodes}
 use Rattle.walk.specs.StoreView.{storeView}
 use Rattle.store.specs.Store.{marksAt}
 use Rattle.record_queue.specs.RecordsLaws.{heap-none}

@@ -1,8 +1,10 @@
 -- `best_first_walk` meets its contract: both loops keep what `Walking` says, and each way out is one of its ends. The measures are the budget and the
 -- children that are left. Assumes nothing.
 use Rattle.best_first_walk.proofs.Walking.{Waits, Opens, Marks, childTest, children-shown, waits-from, next-child, fresh-is, waits-start, few-wait, opens, opens-below, found-length, opens-damage, leaf-damage, leaf-hits, marks-start, child-damage, child-low, child-marked, children-room, children-held, children-pushed, ends-damaged, ends-whole, ends-cut}
-use Rattle.best_first_walk.specs.Walks.{foundAt, foundPart, nodesOf}
-use Rattle.best_first_walk.specs.WalksLaws.{few-hits, length-found, nodes-wait}
+use Rattle.best_first_walk.specs.Walks.{foundAt, foundPart}
+use Rattle.best_first_walk.specs.WalksLaws.{few-hits, length-found}
+use Rattle.waiting_nodes.specs.Contracts.{nodesOf}
+use Rattle.waiting_nodes.specs.PushLaws.{nodes-wait}
 use Rattle.leaf_hits.specs.Contracts.{AddHits, Gathers, entriesOf}
 use Rattle.walk.specs.Wanted.{EntryRead, passes, given, most}
 use Rattle.walk.specs.WantedLaws.{given-held}

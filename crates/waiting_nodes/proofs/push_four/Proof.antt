@@ -1,8 +1,8 @@
 -- `push_four` meets its contract: one node after the other, their distances side by side. Assumes nothing.
-use Rattle.best_first_walk.proofs.Pushing.{child-held, node-is}
+use Rattle.waiting_nodes.proofs.Pushing.{child-held, node-is}
 use Rattle.lists.specs.Parts.{four-mapped}
-use Rattle.best_first_walk.specs.Walks.{nodeFor, PushNodes, PushedNodes}
-use Rattle.best_first_walk.specs.WalksLaws.{pushed-append}
+use Rattle.waiting_nodes.specs.Contracts.{nodeFor, PushNodes, PushedNodes}
+use Rattle.waiting_nodes.specs.PushLaws.{pushed-append}
 use Rattle.total_order.specs.TotalOrder.{keyOf}
 use Rattle.record_queue.specs.Records.{records, Heap}
 use Rattle.walk.specs.LentLaws.{vector-within}
@@ -12,8 +12,8 @@ use mathlib.Core.Path.{_≡_, refl, ap, _∙_, subst}
 use native.Mathlib.Omega.{arith}
 use Prim.Native.Nat.{ℕ, _+_, _*_, _≤_, _<_}
 use borrow.Author.Needs.{needs}
-use Rattle.best_first_walk.proofs.push_four.Statement.{statement}
-use Rattle.best_first_walk.proofs.push_four.Tie as tie
+use Rattle.waiting_nodes.proofs.push_four.Statement.{statement}
+use Rattle.waiting_nodes.proofs.push_four.Tie as tie
 
 -- the four numbers are read
 abbrev Read : Type 0

@@ -1,15 +1,15 @@
 -- `push_children` meets its contract: the loop keeps the first j nodes, four more a turn or one. The measure is the nodes left. Assumes nothing.
-use Rattle.best_first_walk.proofs.Pushing.{children-part, push-next, pushed-next}
-use Rattle.best_first_walk.specs.Walks.{nodeFor, nodesOf, PushNodes, Children, PushedNodes}
-use Rattle.best_first_walk.specs.WalksLaws.{pushed-none}
+use Rattle.waiting_nodes.proofs.Pushing.{children-part, push-next, pushed-next}
+use Rattle.waiting_nodes.specs.Contracts.{nodeFor, nodesOf, PushNodes, Children, PushedNodes}
+use Rattle.waiting_nodes.specs.PushLaws.{pushed-none}
 use Rattle.lists.specs.Lists.{part}
 use mathlib.Core.List.{List}
 use mathlib.Core.Path.{_≡_, subst}
 use native.Mathlib.Omega.{arith}
 use Prim.Native.Nat.{ℕ, _+_, _-_, _^_, _≤_, _<_}
 use borrow.Author.Needs.{needs}
-use Rattle.best_first_walk.proofs.push_children.Statement.{statement}
-use Rattle.best_first_walk.proofs.push_children.Tie as tie
+use Rattle.waiting_nodes.proofs.push_children.Statement.{statement}
+use Rattle.waiting_nodes.proofs.push_children.Tie as tie
 
 abbrev Inv-loop : tie.InvT-loop
 Inv-loop shape floats numbers work₀ query waiting start count j₀ work j =

@@ -1,9 +1,9 @@
 -- `push_node` meets its contract: the queue stands before the marks. Assumes nothing.
-use Rattle.best_first_walk.proofs.Steps.{pushed-one}
+use Rattle.waiting_nodes.proofs.Pushing.{pushed-one}
 use mathlib.Core.Path.{refl}
 use borrow.Author.Needs.{needs}
-use Rattle.best_first_walk.proofs.push_node.Statement.{statement}
-use Rattle.best_first_walk.proofs.push_node.Tie as tie
+use Rattle.waiting_nodes.proofs.push_node.Statement.{statement}
+use Rattle.waiting_nodes.proofs.push_node.Tie as tie
 
 push-requires : tie.Need-push-requires
 push-requires c κs = search needs

@@ -1,15 +1,15 @@
 -- `push_one` meets its contract: the list of one. Assumes nothing.
-use Rattle.best_first_walk.proofs.Pushing.{child-held, node-is}
+use Rattle.waiting_nodes.proofs.Pushing.{child-held, node-is}
 use Rattle.lists.specs.Parts.{one-mapped}
-use Rattle.best_first_walk.specs.Walks.{nodeFor, PushedNodes}
+use Rattle.waiting_nodes.specs.Contracts.{nodeFor, PushedNodes}
 use Rattle.walk.specs.LentLaws.{vector-within}
 use mathlib.Core.List.{List}
 use mathlib.Core.Path.{refl, subst}
 use native.Mathlib.Omega.{arith}
 use Prim.Native.Nat.{ℕ, _+_, _<_}
 use borrow.Author.Needs.{needs}
-use Rattle.best_first_walk.proofs.push_one.Statement.{statement}
-use Rattle.best_first_walk.proofs.push_one.Tie as tie
+use Rattle.waiting_nodes.proofs.push_one.Statement.{statement}
+use Rattle.waiting_nodes.proofs.push_one.Tie as tie
 
 -- the number is read
 abbrev entry : tie.After-wide → tie.Start

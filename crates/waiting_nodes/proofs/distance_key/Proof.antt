@@ -2,8 +2,8 @@
 use Rattle.total_order.specs.TotalOrder.{keyOf}
 use mathlib.Core.Path.{ap, _∙_}
 use borrow.Author.Needs.{needs}
-use Rattle.hit_queue.proofs.vectors.distance_key.Statement.{statement}
-use Rattle.hit_queue.proofs.vectors.distance_key.Tie as tie
+use Rattle.waiting_nodes.proofs.distance_key.Statement.{statement}
+use Rattle.waiting_nodes.proofs.distance_key.Tie as tie
 
 mul-distance-at : tie.Need-mul-distance-at
 mul-distance-at c = search needs

@@ -4,22 +4,26 @@ use Prim.Native.Nat.{ℕ, _+_, _-_, _*_, _^_, _≤_, _<_}
 use native.Mathlib.Omega.{arith}
 use mathlib.Core.Path.{_≡_, sym, ap, _∙_, subst}
 use mathlib.Core.Bool.{Bool, true}
-use mathlib.Core.List.{List, _++_, map, map-append}
+use mathlib.Core.List.{List, [], _∷_, _++_, map, map-append}
 use lib.Dec.{ltb}
 use lib.Ieee.{Float}
 use lib.ListN.{length, getD, length-map}
 use borrow.Author.Tests.{ltb-true}
 use Rattle.lists.specs.Lists.{part}
 use Rattle.lists.specs.Counting.{getD-Memᴰ}
-use Rattle.lists.specs.Parts.{length-part, getD-part, part-append-parts}
+use Rattle.lists.specs.Parts.{length-part, getD-part, part-append-parts, drop-more}
+use Rattle.record_queue.specs.declared.Record.{Record}
+use Rattle.record_queue.specs.Sorted.{sort, insert}
 use Rattle.record_queue.specs.Records.{records, Heap}
+use Rattle.record_queue.specs.RecordsLaws.{value-is}
+use Rattle.record_queue.specs.Queue.{Pushed}
 use Rattle.distance.specs.Distance.{distance}
 use Rattle.total_order.specs.TotalOrder.{keyOf}
 use Rattle.store.specs.declared.Shape.{Shape}
-use Rattle.store.specs.Store.{vectorAt}
+use Rattle.store.specs.Store.{vectorAt, marksAt}
 use Rattle.lists.specs.Tests.{allPass, and-left, and-right, allPass-Memᴰ, allPass-append}
-use Rattle.best_first_walk.specs.Walks.{nodeFor, PushNodes, Children, PushedNodes}
-use Rattle.best_first_walk.specs.WalksLaws.{pushed-append}
+use Rattle.waiting_nodes.specs.Contracts.{nodeFor, PushNodes, Children, PushedNodes}
+use Rattle.waiting_nodes.specs.PushLaws.{insertEach-one, pushed-append}
 
 -- ---- numbers of nodes
 
@@ -55,6 +59,18 @@ module _ (s : Shape) (floats query : List Float) where
       → key * 2 ^ 64 + child ≡ nodeFor s floats query x
   node-is key child x at e is same =
       ap (λ (k : ℕ). k * 2 ^ 64 + child) (e ∙ ap (λ (n : ℕ). keyOf (distance query (vectorAt (s .dimension) floats n))) is) ∙ ap (nodeFor s floats query) same
+
+-- ---- one node
+
+pub pushed-one : (s : Shape) (work work′ : List ℕ) (waiting child : ℕ) (r : Record) → waiting + 1 ≤ s .nodes → r .rest ≡ child → Pushed 2 waiting work r work′
+    → PushedNodes s work waiting ((r .key * 2 ^ 64 + child) ∷ []) work′
+pushed-one s work work′ waiting child r room e p = record {
+  queue = p .heap;
+  sorted = p .sorted ∙ ap (λ (x : ℕ). insert x (sort (records 2 waiting work))) (value-is r ∙ ap (λ (n : ℕ). r .key * 2 ^ 64 + n) e)
+      ∙ sym (insertEach-one (r .key * 2 ^ 64 + child) (sort (records 2 waiting work)));
+  behind = drop-more ((waiting + 1) * 2) (marksAt s) work′ work (omega arith) (p .behind);
+  size = p .size;
+}
 
 -- ---- one list after another
 
