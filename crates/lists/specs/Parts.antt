@@ -295,11 +295,10 @@ module _ {ℓ} {A : Type ℓ} where
   pub lent-run : (a n : ℕ) (l : List A) → take (a + n - a) (drop a l) ≡ part a n l
   lent-run a n l = lent-is l a (a + n) a n refl refl
 
-  -- an element of it
-  pub lent-element : (a n : ℕ) (l : List A) (k : ℕ) (d : A) → a + n ≤ length l → k < length (take (a + n - a) (drop a l))
-      → (k < n) × (getD (take (a + n - a) (drop a l)) k d ≡ getD l (a + k) d)
-  lent-element a n l k d h b =
-      let is = lent-run a n l in
+  -- an element of a list that is a part
+  pub part-element : (a n : ℕ) (l : List A) {xs : List A} (k : ℕ) (d : A) → xs ≡ part a n l → a + n ≤ length l → k < length xs
+      → (k < n) × (getD xs k d ≡ getD l (a + k) d)
+  part-element a n l {xs} k d is h b =
       let size = ap (λ (r : List A). length r) is ∙ length-part a n l h in
       let b′ : k < n = omega arith in
       (b′, ap (λ (r : List A). getD r k d) is ∙ getD-part a n l k d b′)

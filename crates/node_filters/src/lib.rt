@@ -51,6 +51,27 @@ fn unite_children(hashes: &mut [u64], filters: usize, at: usize, children: &[u32
     }
 }
 
+// The ends of a block of numbers.
+struct Block {
+    from: usize,
+    to: usize,
+}
+
+// The block whose start, counted from `first`, and count stand at two places.
+fn block_ends(numbers: &[u32], first: usize, start_at: usize, count_at: usize) -> Block
+    requires { ⌜ «start_at» < length (now numbers) ⌝ }
+    requires { ⌜ «count_at» < length (now numbers) ⌝ }
+    requires { ⌜ first + getD (now numbers) «start_at» 0 + getD (now numbers) «count_at» 0 ≤ length (now numbers) ⌝ }
+    ensures { λ r. ⌜ r .from ≡ first + getD (now (numbers .entry)) «start_at» 0 ⌝ }
+    ensures { λ r. ⌜ r .to ≡ first + getD (now (numbers .entry)) «start_at» 0 + getD (now (numbers .entry)) «count_at» 0 ⌝ }
+{
+    let from = first + wide(numbers[start_at]);
+    Block {
+        from: from,
+        to: from + wide(numbers[count_at]),
+    }
+}
+
 // Makes the filter of a node from those of its children and the hashes of its entries.
 fn make_filter(hashes: &mut [u64], numbers: &[u32], places: Places, nodes: usize, node: usize)
     requires { do ⌜ places .filters + 4 * nodes ≤ (← ⟦hashes.len()⟧) ⌝ }
@@ -59,16 +80,28 @@ fn make_filter(hashes: &mut [u64], numbers: &[u32], places: Places, nodes: usize
     requires { ⌜ RowFits places (now numbers) nodes node ⌝ }
     ensures { λ r. ⌜ now (hashes .exit) ≡ sets (now (hashes .entry)) (places .filters + 4 * node) (filterMade places (now (numbers .entry)) (now (hashes .entry)) node) ⌝ }
 {
-    let filters = places.filters;
     let table = places.table;
+    let entries = block_ends(
+        numbers,
+        places.order,
+        table + 4 + 6 * node,
+        table + 5 + 6 * node,
+    );
+    let children = block_ends(
+        numbers,
+        places.links,
+        table + 6 * node,
+        table + 1 + 6 * node,
+    );
+    let first = entries.from;
+    let last = entries.to;
+    let from = children.from;
+    let to = children.to;
+    let filters = places.filters;
     let at = filters + 4 * node;
     let end = at + 4;
     bloom::clear(&mut hashes[at..end]);
-    let first = places.order + wide(numbers[table + 4 + 6 * node]);
-    let last = first + wide(numbers[table + 5 + 6 * node]);
     insert_hashes(hashes, at, &numbers[first..last]);
-    let from = places.links + wide(numbers[table + 6 * node]);
-    let to = from + wide(numbers[table + 1 + 6 * node]);
     unite_children(hashes, filters, at, &numbers[from..to]);
 }
 

@@ -6,7 +6,7 @@ use mathlib.Core.List.{List}
 use native.Mathlib.Omega.{arith}
 use lib.ListN.{length, getD, take, drop}
 use borrow.Author.Needs.{needs}
-use Rattle.lists.specs.Parts.{length-part, getD-part, lent-run, lent-element}
+use Rattle.lists.specs.Parts.{length-part, getD-part, lent-run, part-element}
 use Rattle.node_table.specs.Table.{cell, sumTo}
 use Rattle.entry_leaves.specs.Leaves.{marked}
 use Rattle.node_table.specs.TableLaws.{sumTo-next, sumTo-suc, sum-none}
@@ -95,7 +95,7 @@ mark-leaf-requires c κs =
     let w = c .before .before .wide .result in
     let sum = sumTo (cell (s .args .at) l) (at-loop .i) in
     λ k h.
-    let x = lent-element from w l k 0 (b .in-order) h in
+    let x = part-element from w l k 0 (lent-run from w l) (b .in-order) h in
     let place : from + k ≡ s .args .order + (sum + k) = omega (arith, b .from-is) in
     let y = x .1 ∙ ap (λ (j : ℕ). getD l j 0) place in
     let v = s .pre .1 .1 .1 (sum + k) (omega (arith, x .0, b .count-is, b .in-sum)) in

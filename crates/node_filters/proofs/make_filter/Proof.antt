@@ -1,61 +1,113 @@
--- The filter is cleared, the hashes of the node's entries inserted, and the filters of its children, which stand after it, added.
--- Assumes nothing.
-use Prim.Native.Nat.{ℕ, _+_, _-_, _*_, _<_}
-use mathlib.Core.Path.{_≡_, refl, ap, ap₂, _∙_}
+-- The filter is cleared, the hashes of the node's entries inserted, and the filters of its children, which stand after it, added. The two blocks are
+-- known before anything is written. Assumes nothing.
+use Prim.Native.Nat.{ℕ, _+_, _-_, _*_, _<_, _≤_}
+use mathlib.Core.Path.{_≡_, refl, ap, _∙_}
 use mathlib.Core.List.{List, _++_}
 use native.Mathlib.Omega.{arith}
 use lib.ListN.{length, getD, drop, take}
 use lib.Seq.{length-sets}
-use Rattle.lists.specs.Lists.{part}
-use Rattle.lists.specs.Parts.{lent-run, lent-element}
+use Rattle.lists.specs.Parts.{lent-is, part-element}
+use Rattle.node_filters.specs.Filters.{entryBlock, childBlock}
 use Rattle.node_filters.proofs.Filtering.{lent-four, filter-made}
 use borrow.Author.Needs.{needs}
 use Rattle.node_filters.proofs.make_filter.Statement.{statement}
 use Rattle.node_filters.proofs.make_filter.Tie as tie
 
--- the hashes of the node's entries stand before the filters
-abbrev entries : tie.After-wide2 → List ℕ
-entries c =
-    let first = c .before .before .before .before .before .before .before .before .before .before .before .args .places .order + c .before .before .before .wide .result in
-    take (first + c .wide2 .result - first) (drop first (c .before .before .before .before .before .before .before .before .before .before .before .args .numbers .now))
+-- the place where both blocks are known, and the start
+abbrev Blocks : Type 0
+Blocks = tie.After-block-ends2
 
-entry : (c : tie.After-wide2) (k : ℕ) → k < length (entries c) → getD (entries c) k 0 < c .before .before .before .before .before .before .before .before .before .before .before .args .places .filters + 4 * c .before .before .before .before .before .before .before .before .before .before .before .args .node
-entry c k b =
-    let s = c .before .before .before .before .before .before .before .before .before .before .before in
-    let row = s .pre .1 .1 .1 in
-    let l = s .args .numbers .now in
-    let first = s .args .places .order + c .before .before .before .wide .result in
-    let e₁ = c .before .before .before .wide .ensures in
-    let e₂ = c .wide2 .ensures in
-    let end = row .entries-end in
-    let x = lent-element first (c .wide2 .result) l k 0 (omega arith) b in
-    let place : first + k ≡ s .args .places .order + getD l (s .args .places .table + 4 + 6 * s .args .node) 0 + k = omega arith in
-    let v = x .1 ∙ ap (λ (j : ℕ). getD l j 0) place in
-    let u = row .entry-below k (omega (arith, x .0)) in
-    omega arith
+abbrev start : Blocks → tie.Start
+start b = b .before .before .before .before
+
+abbrev filterAt : Blocks → ℕ
+filterAt b = start b .args .places .filters + 4 * start b .args .node
+
+abbrev entries : Blocks → List ℕ
+entries b = let r = b .before .block-ends .result in take (r .to - r .from) (drop (r .from) (start b .args .numbers .now))
+
+abbrev children : Blocks → List ℕ
+children b = let r = b .block-ends2 .result in take (r .to - r .from) (drop (r .from) (start b .args .numbers .now))
+
+entries-are : (b : Blocks) → entries b ≡ entryBlock (start b .args .places) (start b .args .numbers .now) (start b .args .node)
+entries-are b = let r = b .before .block-ends in lent-is (start b .args .numbers .now) (r .result .from) (r .result .to) _ _ (r .ensures .0) (r .ensures .1)
+
+children-are : (b : Blocks) → children b ≡ childBlock (start b .args .places) (start b .args .numbers .now) (start b .args .node)
+children-are b = let r = b .block-ends2 in lent-is (start b .args .numbers .now) (r .result .from) (r .result .to) _ _ (r .ensures .0) (r .ensures .1)
+
+-- the hashes of the node's entries stand before the filters
+entry : (b : Blocks) (k : ℕ) → k < length (entries b) → getD (entries b) k 0 < filterAt b
+entry b k h =
+    let row = start b .pre .1 .1 .1 in
+    let x = part-element _ _ (start b .args .numbers .now) k 0 (entries-are b) (row .entries-end) h in
+    omega (arith, x .1, row .entry-below k (x .0))
 
 -- the node's children are later nodes
-abbrev children : tie.After-wide4 → List ℕ
-children c =
-    let from = c .before .before .before .before .before .before .before .before .before .before .before .before .before .before .before .before .before .before .before .before .before .args .places .links + c .before .before .before .wide3 .result in
-    take (from + c .wide4 .result - from) (drop from (c .before .before .before .before .before .before .before .before .before .before .before .before .before .before .before .before .before .before .before .before .before .args .numbers .now))
+child : (b : Blocks) (k : ℕ) → k < length (children b) → (start b .args .node < getD (children b) k 0) × (getD (children b) k 0 < start b .args .nodes)
+child b k h =
+    let row = start b .pre .1 .1 .1 in
+    let x = part-element _ _ (start b .args .numbers .now) k 0 (children-are b) (row .children-end) h in
+    (omega (arith, x .1, row .child-above k (x .0)), omega (arith, x .1, row .child-below k (x .0)))
 
-child : (c : tie.After-wide4) (k : ℕ) → k < length (children c)
-    → (c .before .before .before .before .before .before .before .before .before .before .before .before .before .before .before .before .before .before .before .before .before .args .node < getD (children c) k 0) × (getD (children c) k 0 < c .before .before .before .before .before .before .before .before .before .before .before .before .before .before .before .before .before .before .before .before .before .args .nodes)
-child c k b =
-    let s = c .before .before .before .before .before .before .before .before .before .before .before .before .before .before .before .before .before .before .before .before .before in
-    let row = s .pre .1 .1 .1 in
-    let l = s .args .numbers .now in
-    let from = s .args .places .links + c .before .before .before .wide3 .result in
-    let e₃ = c .before .before .before .wide3 .ensures in
-    let e₄ = c .wide4 .ensures in
-    let end = row .children-end in
-    let x = lent-element from (c .wide4 .result) l k 0 (omega arith) b in
-    let place : from + k ≡ s .args .places .links + getD l (s .args .places .table + 6 * s .args .node) 0 + k = omega arith in
-    let z = x .1 ∙ ap (λ (j : ℕ). getD l j 0) place in
-    let below = row .child-below k (omega (arith, x .0)) in
-    let above = row .child-above k (omega (arith, x .0)) in
-    (omega arith, omega arith)
+above : (b : Blocks) (k : ℕ) → k < length (children b) → filterAt b + 4 ≤ start b .args .places .filters + 4 * getD (children b) k 0
+above b k h = omega (arith, child b k h .0)
+
+-- the filter is within the hashes
+within : (b : Blocks) → filterAt b + 4 ≤ length (start b .args .hashes .now)
+within b = omega (arith, start b .pre .0, start b .pre .1 .1 .0)
+
+below : (b : Blocks) (k : ℕ) → k < length (children b) → start b .args .places .filters + 4 * getD (children b) k 0 + 4 ≤ length (start b .args .hashes .now)
+below b k h = omega (arith, child b k h .1, start b .pre .0)
+
+-- the cleared filter, as long as before
+abbrev blocks : tie.After-clear → Blocks
+blocks c = c .before .before
+
+cleared : (c : tie.After-clear) → length (take (filterAt (blocks c)) (start (blocks c) .args .hashes .now) ++ (c .clear .last .0 ++ drop (filterAt (blocks c) + 4 - filterAt (blocks c)) (drop (filterAt (blocks c)) (start (blocks c) .args .hashes .now)))) ≡ length (start (blocks c) .args .hashes .now)
+cleared c =
+    let b = blocks c in
+    let h = start b .args .hashes .now in
+    ap (λ (r : List ℕ). length r) (lent-four h (filterAt b) (c .clear .last .0) (within b) (ap (λ (r : List ℕ). length r) (c .clear .ensures)))
+    ∙ length-sets h (filterAt b) (c .clear .last .0)
+
+add-block-ends : tie.Need-add-block-ends
+add-block-ends c = search needs
+
+mul-block-ends : tie.Need-mul-block-ends
+mul-block-ends c = search needs
+
+add-block-ends-2 : tie.Need-add-block-ends-2
+add-block-ends-2 c = search needs
+
+add-block-ends-3 : tie.Need-add-block-ends-3
+add-block-ends-3 c = search needs
+
+mul-block-ends-2 : tie.Need-mul-block-ends-2
+mul-block-ends-2 c = search needs
+
+add-block-ends-4 : tie.Need-add-block-ends-4
+add-block-ends-4 c = search needs
+
+block-ends-requires : tie.Need-block-ends-requires
+block-ends-requires c κs = search needs
+
+mul-block-ends-3 : tie.Need-mul-block-ends-3
+mul-block-ends-3 c = search needs
+
+add-block-ends-5 : tie.Need-add-block-ends-5
+add-block-ends-5 c = search needs
+
+add-block-ends-6 : tie.Need-add-block-ends-6
+add-block-ends-6 c = search needs
+
+mul-block-ends-4 : tie.Need-mul-block-ends-4
+mul-block-ends-4 c = search needs
+
+add-block-ends-7 : tie.Need-add-block-ends-7
+add-block-ends-7 c = search needs
+
+block-ends-requires-2 : tie.Need-block-ends-requires-2
+block-ends-requires-2 c κs = search needs
 
 mul-at : tie.Need-mul-at
 mul-at c = search needs
@@ -81,48 +133,6 @@ part-clear-end c = search needs
 clear-requires : tie.Need-clear-requires
 clear-requires c κs = search needs
 
-add-wide : tie.Need-add-wide
-add-wide c = search needs
-
-mul-wide : tie.Need-mul-wide
-mul-wide c = search needs
-
-add-wide-2 : tie.Need-add-wide-2
-add-wide-2 c = search needs
-
-mul-wide-2 : tie.Need-mul-wide-2
-mul-wide-2 c = search needs
-
-shared-slice-read-wide : tie.Need-shared-slice-read-wide
-shared-slice-read-wide c = search needs
-
-wide-requires : tie.Need-wide-requires
-wide-requires c κs = search needs
-
-add-first : tie.Need-add-first
-add-first c = search needs
-
-add-wide-3 : tie.Need-add-wide-3
-add-wide-3 c = search needs
-
-mul-wide-3 : tie.Need-mul-wide-3
-mul-wide-3 c = search needs
-
-add-wide-4 : tie.Need-add-wide-4
-add-wide-4 c = search needs
-
-mul-wide-4 : tie.Need-mul-wide-4
-mul-wide-4 c = search needs
-
-shared-slice-read-wide-2 : tie.Need-shared-slice-read-wide-2
-shared-slice-read-wide-2 c = search needs
-
-wide-requires-2 : tie.Need-wide-requires-2
-wide-requires-2 c κs = search needs
-
-add-last : tie.Need-add-last
-add-last c = search needs
-
 mul-insert-hashes : tie.Need-mul-insert-hashes
 mul-insert-hashes c = search needs
 
@@ -137,53 +147,8 @@ part-insert-hashes-end c = search needs
 
 insert-hashes-requires : tie.Need-insert-hashes-requires
 insert-hashes-requires c κs =
-    let s = c .before .before .before .before .before .before .before .before .before .before .before .before .before in
-    let h₀ = s .args .hashes .now in
-    let clear = c .before .before .before .before .before .before .before .before .before .clear in
-    let at = s .args .places .filters + 4 * s .args .node in
-    let fits = s .pre .0 in
-    let small = s .pre .1 .1 .0 in
-    let n₁ = ap (λ (r : List ℕ). length r) (lent-four h₀ at (clear .last .0) (omega arith) (ap (λ (r : List ℕ). length r) (clear .ensures))) ∙ length-sets h₀ at (clear .last .0) in
-    (omega arith, entry (c .before .before))
-
-mul-wide-5 : tie.Need-mul-wide-5
-mul-wide-5 c = search needs
-
-add-wide-5 : tie.Need-add-wide-5
-add-wide-5 c = search needs
-
-mul-wide-6 : tie.Need-mul-wide-6
-mul-wide-6 c = search needs
-
-shared-slice-read-wide-3 : tie.Need-shared-slice-read-wide-3
-shared-slice-read-wide-3 c = search needs
-
-wide-requires-3 : tie.Need-wide-requires-3
-wide-requires-3 c κs = search needs
-
-add-from : tie.Need-add-from
-add-from c = search needs
-
-add-wide-6 : tie.Need-add-wide-6
-add-wide-6 c = search needs
-
-mul-wide-7 : tie.Need-mul-wide-7
-mul-wide-7 c = search needs
-
-add-wide-7 : tie.Need-add-wide-7
-add-wide-7 c = search needs
-
-mul-wide-8 : tie.Need-mul-wide-8
-mul-wide-8 c = search needs
-
-shared-slice-read-wide-4 : tie.Need-shared-slice-read-wide-4
-shared-slice-read-wide-4 c = search needs
-
-wide-requires-4 : tie.Need-wide-requires-4
-wide-requires-4 c κs = search needs
-
-add-to : tie.Need-add-to
-add-to c = search needs
+    let w = c .before .before .before .before in
+    (omega (arith, within (blocks w), cleared w), entry (blocks w))
 
 mul-unite-children : tie.Need-mul-unite-children
 mul-unite-children c = search needs
@@ -199,48 +164,43 @@ part-unite-children-end c = search needs
 
 unite-children-requires : tie.Need-unite-children-requires
 unite-children-requires c κs =
-    let s = c .before .before .before .before .before .before .before .before .before .before .before .before .before .before .before .before .before .before .before .before .before .before .before in
-    let fits = s .pre .0 in
-    let small = s .pre .1 .1 .0 in
-    let n₂ = c .before .before .before .before .before .before .before .before .before .insert-hashes .kept .0 in
-    let h₀ = s .args .hashes .now in
-    let clear = c .before .before .before .before .before .before .before .before .before .before .before .before .before .before .before .before .before .before .before .clear in
-    let at = s .args .places .filters + 4 * s .args .node in
-    let n₁ = ap (λ (r : List ℕ). length r) (lent-four h₀ at (clear .last .0) (omega arith) (ap (λ (r : List ℕ). length r) (clear .ensures))) ∙ length-sets h₀ at (clear .last .0) in
-    let later = child (c .before .before) in
-    (omega arith, ((λ k b. omega (arith, later k b .0)), (λ k b. omega (arith, later k b .1))))
+    let i = c .before .before .before .before in
+    let w = i .before .before .before .before .before in
+    let b = blocks w in
+    let same = i .insert-hashes .kept .0 in
+    (omega (arith, within b, cleared w, same), (above b, λ k h. omega (arith, below b k h, cleared w, same)))
 
 same-length : tie.Need-same-length
 same-length c = search needs
 
 returns : tie.Need-returns
 returns c =
-    let s = c .before .before .before .before .before .before .before .before .before .before .before .before .before .before .before .before .before .before .before .before .before .before .before .before .before .before in
-    let places = s .args .places in
-    let l = s .args .numbers .now in
-    let h₀ = s .args .hashes .now in
-    let i = s .args .node in
-    let at = places .filters + 4 * i in
-    let fits = s .pre .0 in
-    let small = s .pre .1 .1 .0 in
-    let clear = c .before .before .before .before .before .before .before .before .before .before .before .before .before .before .before .before .before .before .before .before .before .before .clear in
-    let insert = c .before .before .before .before .before .before .before .before .before .before .before .before .insert-hashes in
-    let unite = c .before .before .unite-children in
-    let first = places .order + c .before .before .before .before .before .before .before .before .before .before .before .before .before .before .before .before .before .before .wide .result in
-    let w = c .before .before .before .before .before .before .before .before .before .before .before .before .before .before .before .wide2 .result in
-    let from = places .links + c .before .before .before .before .before .before .before .before .wide3 .result in
-    let v = c .before .before .before .before .before .wide4 .result in
-    let later = child (c .before .before .before .before .before) in
-    filter-made places l h₀ (insert .last .0) (unite .last .0) (clear .last .0) (take (first + w - first) (drop first l)) (take (from + v - from) (drop from l)) at i
-    refl (omega arith) (clear .ensures) (take at h₀ ++ (clear .last .0 ++ drop (at + 4 - at) (drop at h₀))) refl (insert .ensures) (unite .ensures)
-    (lent-run first w l ∙ ap₂ (λ (a b : ℕ). part (places .order + a) b l) (c .before .before .before .before .before .before .before .before .before .before .before .before .before .before .before .before .before .before .wide .ensures) (c .before .before .before .before .before .before .before .before .before .before .before .before .before .before .before .wide2 .ensures))
-    (lent-run from v l ∙ ap₂ (λ (a b : ℕ). part (places .links + a) b l) (c .before .before .before .before .before .before .before .before .wide3 .ensures) (c .before .before .before .before .before .wide4 .ensures))
-    (entry (c .before .before .before .before .before .before .before .before .before .before .before .before .before .before .before)) (λ k b. omega (arith, later k b .0)) (λ k b. omega (arith, later k b .1))
+    let unite = c .before .before in
+    let insert = unite .before .before .before .before .before in
+    let clear = insert .before .before .before .before .before in
+    let b = blocks clear in
+    let a = start b .args in
+    filter-made (a .places) (a .numbers .now) (a .hashes .now) (insert .insert-hashes .last .0) (unite .unite-children .last .0) (clear .clear .last .0)
+    (entries b) (children b) (filterAt b) (a .node) refl (within b) (clear .clear .ensures) _ refl (insert .insert-hashes .ensures)
+    (unite .unite-children .ensures) (entries-are b) (children-are b) (entry b) (above b) (below b)
 
 pub make-filter-spec : {M : Type 1} → statement M
 make-filter-spec =
     tie.close
     (tie.spec
+    add-block-ends
+    mul-block-ends
+    add-block-ends-2
+    add-block-ends-3
+    mul-block-ends-2
+    add-block-ends-4
+    block-ends-requires
+    mul-block-ends-3
+    add-block-ends-5
+    add-block-ends-6
+    mul-block-ends-4
+    add-block-ends-7
+    block-ends-requires-2
     mul-at
     add-at
     add-end
@@ -249,38 +209,11 @@ make-filter-spec =
     part-clear-start
     part-clear-end
     clear-requires
-    add-wide
-    mul-wide
-    add-wide-2
-    mul-wide-2
-    shared-slice-read-wide
-    wide-requires
-    add-first
-    add-wide-3
-    mul-wide-3
-    add-wide-4
-    mul-wide-4
-    shared-slice-read-wide-2
-    wide-requires-2
-    add-last
     mul-insert-hashes
     sub-insert-hashes
     part-insert-hashes-start
     part-insert-hashes-end
     insert-hashes-requires
-    mul-wide-5
-    add-wide-5
-    mul-wide-6
-    shared-slice-read-wide-3
-    wide-requires-3
-    add-from
-    add-wide-6
-    mul-wide-7
-    add-wide-7
-    mul-wide-8
-    shared-slice-read-wide-4
-    wide-requires-4
-    add-to
     mul-unite-children
     sub-unite-children
     part-unite-children-start
