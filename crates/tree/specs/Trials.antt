@@ -1,4 +1,4 @@
--- The tree of document 01's worked example, and of one vector at leaf size 0, which has 17 nodes.
+-- The tree of document 01's worked example, of one vector at leaf size 0, which has 17 nodes, and of two equal vectors.
 use mathlib.Core.List.{[], _∷_, map}
 use mathlib.Core.Path.{_≡_, refl}
 use lib.Ieee.{binary32, ofBits}
@@ -16,3 +16,8 @@ shape = refl
 pub seventeen-nodes : size (treeOf (record { dimension = 2; branching = 2; leaf-size = 0 }) (map (map (ofBits binary32)) ((0x3F800000 ∷ 0 ∷ []) ∷ []))) ≡ 17
 unfolding treeOf size sizes ofBits
 seventeen-nodes = refl
+
+-- Two equal vectors all go to cluster 0; cluster 1 is empty and no child: one child at each of the 16 levels.
+pub empty-cluster : size (treeOf two (map (map (ofBits binary32)) ((0x3F800000 ∷ 0 ∷ []) ∷ (0x3F800000 ∷ 0 ∷ []) ∷ []))) ≡ 17
+unfolding treeOf size sizes ofBits
+empty-cluster = refl
