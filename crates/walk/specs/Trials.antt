@@ -1,4 +1,4 @@
--- Document 01's trial echoes: the walks of the search for `a` from (1, 0) with k 4, over the definitions, at ef 5, 0, 2 and 4.
+-- Document 01's trial echoes: the walks of the search for `a` from (1, 0) with k 4, over the definitions, at ef 5, 0, 2 and 4. And repeated ids.
 use Prim.Native.Nat.{ℕ}
 use mathlib.Core.Bool.{Bool, true, false}
 use mathlib.Core.Path.{_≡_, refl}
@@ -6,11 +6,12 @@ use mathlib.Core.List.{List, [], _∷_, _++_, map}
 use lib.Ieee.{Float, binary32, ofBits, toBits}
 use Rattle.store.specs.declared.Shape.{Shape}
 use Rattle.store.specs.Store.{Store}
+use Rattle.total_order.specs.TotalOrder.{keyOf}
 use Rattle.bloom.specs.Filter.{emptyFilter, insertAll}
 use Rattle.walk.specs.declared.Wanted.the-variants.{Label}
 use Rattle.store.specs.declared.Counts.{Counts}
 use Rattle.walk.specs.Walk.{State, damaged, going, walk}
-use Rattle.walk.specs.Answer.{answer}
+use Rattle.walk.specs.Answer.{hitOf, documentOf, dropRepeats, answer}
 use Rattle.walk.specs.StoreView.{storeView}
 
 -- D 2 and B 2 of the trial; V 4, E 4 and M 8 leave room behind what is held
@@ -87,3 +88,15 @@ pub trials : (trialWalk 5 ≡ printed (record { ids = 7 ∷ 9 ∷ []; bits = 0 �
     × (trialWalk 4 ≡ printed (record { ids = 7 ∷ 9 ∷ []; bits = 0 ∷ 0x3ECCCCCC ∷ []; whole = false; opened = 4 }))
 unfolding trialWalk
 trials = (refl, refl, refl, refl)
+
+-- 'adjacent equal document ids lose the later': of the ids 7, 8, 7 at rising distances all three stay, of 7, 7, 8 the second goes
+unfoldable pub idsLeft : ℕ → ℕ → ℕ → List ℕ
+unfolding dropRepeats keyOf ofBits
+idsLeft a b c =
+    map documentOf
+    (dropRepeats
+    (hitOf (ofBits binary32 0) a 0 ∷ hitOf (ofBits binary32 0x3E800000) b 1 ∷ hitOf (ofBits binary32 0x3F000000) c 2 ∷ []))
+
+pub repeats : (idsLeft 7 8 7 ≡ 7 ∷ 8 ∷ 7 ∷ []) × (idsLeft 7 7 8 ≡ 7 ∷ 8 ∷ [])
+unfolding idsLeft
+repeats = (refl, refl)
