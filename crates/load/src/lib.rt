@@ -1,4 +1,6 @@
 // The load of an echo file: one step reads one record, carries it out on the index and writes what is printed of it.
+ghost use Prim.Native.Nat.{_+_, _*_, _≤_};
+ghost use lib.ListN.{length};
 ghost use mathlib.Core.Path.{_≡_};
 ghost use Rattle.load.specs.Step.{Steps, stepOf};
 ghost use Rattle.load.specs.Code.{lists, Narrow, NarrowStep};
@@ -56,11 +58,12 @@ pub fn load_record(
     numbers: &mut [u32],
     hashes: &mut [u64],
     work: &mut [u32],
-    ids: &mut [u32; 256],
-    distances: &mut [f32; 256],
-    text: &mut [u8; 5147],
+    ids: &mut [u32],
+    distances: &mut [f32],
+    text: &mut [u8],
 ) -> Step
     requires { ⌜ Narrow loading ⌝ }
+    requires { ⌜ 20 * length (now ids) + 27 ≤ length (now text) ⌝ }
     ensures narrow { λ r. ⌜ NarrowStep r ⌝ }
     ensures steps { λ r. ⌜ Steps (now (file .entry)) at loading
         (lists (floats .entry) (numbers .entry) (hashes .entry) (work .entry) (ids .entry) (distances .entry)) (now (text .entry)) r

@@ -10,7 +10,7 @@ use Rattle.load.proofs.load_record.Tie as tie
 
 -- the function's entry, from where the record has been carried out; what the record is lent, and what it leaves
 abbrev start : tie.After-carry → tie.Start
-start c = c .before .before .before .before .before .before .before .before .before .before .before .before
+start c = c .before .before .before .before .before .before .before .before .before .before .before .before .before .before .before
 
 abbrev lent : tie.After-carry → Lent
 lent c = let a = start c .args in lists (a .floats) (a .numbers) (a .hashes) (a .work) (a .ids) (a .distances)
@@ -21,11 +21,11 @@ left c =
     record { store = record { floats = x .0; numbers = x .1 .0; hashes = x .1 .1 .0 }; work = x .1 .1 .1 .0; ids = x .1 .1 .1 .1 .0; distances = x .1 .1 .1 .1 .1 .0 }
 
 fits : (c : tie.After-carry) → Fit (c .carry .result) (left c)
-fits c = let s = start c in carries-fit (s .args .file .now) (s .args .at) (s .args .loading) (lent c) (c .carry .result) (left c) (s .pre) (c .carry .ensures)
+fits c = let s = start c in carries-fit (s .args .file .now) (s .args .at) (s .args .loading) (lent c) (c .carry .result) (left c) (s .pre .0) (c .carry .ensures)
 
 -- where its text is written
-abbrev carried : tie.After-write-carried-arg5 → tie.After-carry
-carried c = c .before .before .before .before .before .before .before .before .before .before .before .before .before
+abbrev carried : tie.After-write-carried-arg3 → tie.After-carry
+carried c = c .before .before .before .before .before .before .before .before .before .before .before .before .before .before .before
 
 carry-requires : tie.Need-carry-requires
 carry-requires c κs = search needs
@@ -48,9 +48,18 @@ same-length-3 c = search needs
 same-length-4 : tie.Need-same-length-4
 same-length-4 c = search needs
 
+same-length-5 : tie.Need-same-length-5
+same-length-5 c = search needs
+
+same-length-6 : tie.Need-same-length-6
+same-length-6 c = search needs
+
+same-length-7 : tie.Need-same-length-7
+same-length-7 c = search needs
+
 returns : tie.Need-returns
 returns c =
-    let w = c .before in
+    let w = c .before .before .before in
     let k = carried (w .before) in
     let n = w .write-carried .result in (
       subst NarrowStep (sym (c .step-of .ensures)) (narrow-step (k .carry .result) (left k) n (fits k)),
@@ -68,4 +77,7 @@ load-record-spec =
     same-length-2
     same-length-3
     same-length-4
+    same-length-5
+    same-length-6
+    same-length-7
     returns)
