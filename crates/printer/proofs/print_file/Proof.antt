@@ -14,6 +14,7 @@ use Rattle.load.specs.Step.{Lent, Steps, printedOf}
 use Rattle.load.specs.Code.{Narrow, NarrowStep}
 use Rattle.load.specs.Onward.{Onward, steps-onward, steps-printed}
 use Rattle.load.specs.Theorem.{Sized}
+use Rattle.store.specs.declared.Lengths.{Lengths}
 use Rattle.printer.specs.Due.{Due, Reached, begins, text-due, goes-on, all-printed}
 use Rattle.printer.proofs.print_file.Statement.{statement}
 use Rattle.printer.proofs.print_file.Tie as tie
@@ -70,9 +71,7 @@ sized l =
     let z = turn l .loop .inv .0 in
     let k = l .load-record .kept .1 .1 .1 in
     record {
-      floats = k .0 ∙ z .floats;
-      numbers = k .1 .0 ∙ z .numbers;
-      hashes = k .1 .1 .0 ∙ z .hashes;
+      store = (λ i. record { floats = k .0 i; numbers = k .1 .0 i; hashes = k .1 .1 .0 i }) ∙ z .store;
       work = k .1 .1 .1 .0 ∙ z .work;
       ids = k .1 .1 .1 .1 .0 ∙ z .ids;
       distances = k .1 .1 .1 .1 .1 .0 ∙ z .distances;
@@ -100,7 +99,7 @@ handed-on c =
 
 loop-holds : tie.Need-loop-holds Inv-loop μ-loop
 loop-holds c = (
-  record { floats = refl; numbers = refl; hashes = refl; work = refl; ids = refl; distances = refl },
+  record { store = refl; work = refl; ids = refl; distances = refl },
   refl,
   tt,
   begins (c .before .args .file .now) _,
@@ -109,13 +108,13 @@ loop-holds c = (
 )
 
 slice-aggregate-load-record : tie.Need-slice-aggregate-load-record Inv-loop μ-loop
-slice-aggregate-load-record c = search needs
+slice-aggregate-load-record c = search (needs, ap (λ (n : Lengths). n .floats) (c .before .loop .inv .0 .store))
 
 slice-aggregate-load-record-2 : tie.Need-slice-aggregate-load-record-2 Inv-loop μ-loop
-slice-aggregate-load-record-2 c = search needs
+slice-aggregate-load-record-2 c = search (needs, ap (λ (n : Lengths). n .numbers) (c .before .before .loop .inv .0 .store))
 
 slice-aggregate-load-record-3 : tie.Need-slice-aggregate-load-record-3 Inv-loop μ-loop
-slice-aggregate-load-record-3 c = search needs
+slice-aggregate-load-record-3 c = search (needs, ap (λ (n : Lengths). n .hashes) (c .before .before .before .loop .inv .0 .store))
 
 slice-aggregate-load-record-4 : tie.Need-slice-aggregate-load-record-4 Inv-loop μ-loop
 slice-aggregate-load-record-4 c = search needs
