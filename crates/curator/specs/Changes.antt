@@ -31,7 +31,6 @@ use Rattle.store.specs.Lent.{lengthsOf}
 use Rattle.curator.specs.Arguments.{AddCall}
 use Rattle.curator.specs.Rows.{firstOf, stateRow, newRows, addRows, buildRows}
 use Rattle.curator.specs.Calls.{factsOf, hashesOfLabels, heldVectors, heldEntries, splittingOf, fresh, grown, builtWith}
-use Rattle.store.specs.Lent.{lengthsOf}
 
 -- ---- free parts
 

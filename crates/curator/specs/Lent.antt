@@ -15,8 +15,6 @@ use Rattle.settings.specs.declared.Check.{Check}
 use Rattle.curator.specs.declared.CuratorIndex.{CuratorIndex}
 use Rattle.curator.specs.Limits.{stateSound, indexShape}
 use Rattle.curator.specs.Rows.{firstOf, stateRow, addRows}
-use Rattle.lists.specs.Lists.{total}
-use Rattle.store.specs.declared.Lengths.{Lengths}
 use Rattle.curator.specs.Calls.{factsOf}
 use Rattle.curator.specs.Arguments.{AddCall}
 

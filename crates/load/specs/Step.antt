@@ -1,4 +1,4 @@
--- One step of a load in full: what is read, which calls are made of it, and what is printed. It is the contract of `step`.
+-- One step of a load in full: what is read, which calls are made of it, and what is printed. It is the contract of `load_record`.
 use Prim.Native.Nat.{ℕ, _≤_, _<_}
 use mathlib.Core.Bool.{Bool, true, false, cond}
 use mathlib.Core.List.{List, [], _++_}

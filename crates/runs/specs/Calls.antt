@@ -41,7 +41,7 @@ pub record AlikeSearch (call call′ : SearchCall) : Type 0 where
   pub ids : length (call .ids) ≡ length (call′ .ids)
   pub distances : length (call .distances) ≡ length (call′ .distances)
 
--- the same lengths are lent, and the same is asked
+-- the same lengths are lent, and the same is asked; one clause serves every change, so it names the work list of an add too
 abbrev pub Alike : Call → Call → Type 0
 Alike (change fronts work c) (change fronts′ work′ c′) = (fronts ≡ fronts′) × (length work ≡ length work′) × (c ≡ c′)
 Alike (change fronts work c) (search fronts′ work′ call′) = ⊥

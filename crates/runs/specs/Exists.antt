@@ -1,5 +1,5 @@
--- Nothing of demand 3 is empty: every call has an outcome, whatever index, lists and arguments it is given, and so every list of calls has a run, for
--- every setting that `new` accepts. Whatever an outcome leaves free can be anything; here it is zeros.
+-- Nothing of demand 3 is empty: every call has an outcome, whatever index, lists and arguments it is given, and so every list of calls whose document
+-- ids are u32s has a run, for every setting that `new` accepts. Whatever an outcome leaves free can be anything; here it is zeros.
 use Prim.Native.Nat.{ℕ}
 use mathlib.Core.List.{List, [], _∷_}
 use mathlib.Core.Path.{_≡_, refl, sym, ap, _∙_, subst}
