@@ -8,7 +8,7 @@ ghost use Rattle.node_table.specs.Table.{cells, column, blockStart};
 ghost use Rattle.child_links.specs.Contracts.{Counts};
 use node_table::copy_to;
 use node_table::set_starts;
-use node_table::wide;
+use store::wide;
 
 // Writes the child links from `links` on, from the last node to the first; the child counts stand in the column at `at`. The nodes that have no
 // parent yet wait on a stack in the work list, the lowest number on top: a node takes its children from there, and goes there itself.

@@ -4,7 +4,7 @@ ghost use Prim.Native.Nat.{ℕ, _+_, _*_, _<_, _≤_, _^_};
 ghost use lib.ListN.{length, getD};
 ghost use Rattle.node_table.specs.Table.{cell, written, sumTo};
 ghost use Rattle.entry_leaves.specs.Leaves.{marked, leavesMarked};
-use node_table::wide;
+use store::wide;
 
 // Writes `node` at each of the places that `ids` names.
 fn mark_leaf(work: &mut [u32], ids: &[u32], node: u32)

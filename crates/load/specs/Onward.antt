@@ -1,6 +1,5 @@
 -- Where a step leaves a file: every record that it goes on after has bytes, so a loop over steps ends. What it printed stands in the text.
-use Prim.Native.Nat.{ℕ, _-_, _≤_, _<_}
-use native.Mathlib.Omega.{arith}
+use Prim.Native.Nat.{ℕ, _≤_, _<_}
 use mathlib.Core.Bool.{Bool, true, false, cond}
 use mathlib.Core.List.{List}
 use mathlib.Core.Path.{_≡_, refl, sym, subst}
@@ -32,13 +31,6 @@ use Rattle.load.specs.Step.{Lent, known, openedBy, addedBy, foundBy, Sea
 abbrev pub Onward : List ℕ → ℕ → Step → Type 0
 Onward file at (Ended n) = Unit {0}
 Onward file at (Next loading next n) = (at < next) × (next ≤ length file) × (length file ≤ 65536)
-
--- fewer bytes are left
-pub fewer-left : (file : List ℕ) (at : ℕ) {step : Step} {loading : Loading} {next n : ℕ} → step ≡ Next loading next n → Onward file at step
-    → length file - next < length file - at
-fewer-left file at {step} {loading} {next} {n} e h =
-    let onward : Onward file at (Next loading next n) = subst (λ (s : Step). Onward file at s) e h in
-    omega arith
 
 -- how many bytes a step says that it wrote
 pub printed-step : (carried : Carried) (n : ℕ) → printedOf (stepOf carried n) ≡ n

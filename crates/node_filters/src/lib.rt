@@ -9,7 +9,7 @@ ghost use Rattle.bloom.specs.Filter.{insertAll, unionAll};
 ghost use Rattle.node_filters.specs.Filters.{filterMade, filtersMade};
 ghost use Rattle.node_filters.specs.Contracts.{RowFits};
 use node_table::Places;
-use node_table::wide;
+use store::wide;
 
 // The four words of a filter.
 fn words(hashes: &[u64], at: usize) -> [u64; 4]

@@ -32,13 +32,6 @@ pub fn places_of(shape: Shape) -> Places
     }
 }
 
-// A number of a list as an index.
-pub fn wide(x: u32) -> usize
-    ensures { λ r. ⌜ r ≡ x ⌝ }
-{
-    x as usize
-}
-
 // The start of a block of `count` elements that would begin at `at`: 0 where it is empty.
 fn start_of(at: u32, count: u32) -> u32
     ensures { λ r. ⌜ r ≡ startAt at count ⌝ }

@@ -1,21 +1,16 @@
--- Laws on lent lists that the proofs of several crates use: a lent part, a vector within the floats, and what work keeps. Assumes nothing.
-use Prim.Native.Nat.{ℕ, suc, _+_, _-_, _*_, _≤_, _<_}
+-- Laws on lent lists that the proofs of several crates use: a vector within the floats, and what work keeps. Assumes nothing.
+use Prim.Native.Nat.{ℕ, suc, _+_, _*_, _≤_, _<_}
 use native.Mathlib.Nat.{suc-mul, mul-le-mul-right, mul-comm}
 use native.Mathlib.Omega.{arith}
 use mathlib.Core.Path.{_≡_, refl, _∙_}
 use mathlib.Core.List.{List}
 use lib.Ieee.{Float}
-use lib.ListN.{length, take, drop}
+use lib.ListN.{length, drop}
 use lib.Seq.{sets, length-sets}
-use Rattle.lists.specs.Lists.{part}
 use Rattle.lists.specs.Parts.{drop-sets}
 use Rattle.store.specs.declared.Shape.{Shape}
 use Rattle.store.specs.Store.{Limits, floatsSize, workSize}
 use Rattle.walk.specs.Contracts.{Works}
-
--- a lent part of a list, by its start and end
-pub lent-is {ℓ} : {A : Type ℓ} (l : List A) (a e s n : ℕ) → a ≡ s → e ≡ s + n → take (e - a) (drop a l) ≡ part s n l
-lent-is l a e s n p q = let d : e - a ≡ n = omega arith in rw (d, p)
 
 -- vector i lies within the floats
 pub vector-within : (s : Shape) (floats : List Float) (i n : ℕ) → Limits s → floatsSize s ≤ length floats → i < n → n ≤ s .vectors + s .nodes

@@ -5,13 +5,13 @@ use Rattle.best_first_walk.specs.declared.Walked.{Walked}
 use Rattle.best_first_walk.specs.declared.Walked.the-variants as walked
 use Rattle.best_first_search.specs.Ranks.{Firsts}
 use Rattle.walk.specs.Wanted.{most}
-use Rattle.walk.specs.LentLaws.{lent-is, works-trans, works-sets}
+use Rattle.walk.specs.LentLaws.{works-trans, works-sets}
 use Rattle.walk.specs.Contracts.{Works}
 use Rattle.store.specs.Lent.{storeOf}
 use Rattle.walk.specs.StoreView.{hitAt, storeView}
 use Rattle.walk.specs.Walk.{View, walk}
 use Rattle.store.specs.Store.{hitsAt, workSize}
-use Rattle.lists.specs.Parts.{length-part, lent-part}
+use Rattle.lists.specs.Parts.{length-part, lent-part, lent-is}
 use borrow.Author.Needs.{needs}
 use lib.ListN.{length, take, drop}
 use lib.Seq.{sets}

@@ -14,7 +14,7 @@ use Rattle.leaf_hits.specs.declared.Added.{Added}
 use Rattle.leaf_hits.specs.declared.Added.the-variants as added
 use Rattle.walk.specs.declared.look.Look.{Look}
 use Rattle.walk.specs.declared.look.Look.the-variants as look
-use Rattle.walk.specs.LentLaws.{lent-is, works-trans, works-sets}
+use Rattle.walk.specs.LentLaws.{works-trans, works-sets}
 use Rattle.walk.specs.Contracts.{StoreLent, Works, Looks}
 use Rattle.walk.specs.StoreView.{hitAt, storeView}
 use Rattle.lists.specs.Tests.{allPass, all-pass}
@@ -23,7 +23,7 @@ use Rattle.walk.specs.Walk.{View, hits, damage, shown}
 use Rattle.walk.specs.WalkLaws.{ChildrenBelow}
 use Rattle.store.specs.Store.{marksAt, workSize}
 use Rattle.lists.specs.Lists.{part}
-use Rattle.lists.specs.Parts.{length-part, lent-part}
+use Rattle.lists.specs.Parts.{length-part, lent-part, lent-is}
 use borrow.Author.Needs.{needs}
 use borrow.Author.Tests.{not-true, not-false, lt-ltb}
 use lib.Dec.{eqb, ltb}

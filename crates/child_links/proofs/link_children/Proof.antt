@@ -41,7 +41,7 @@ turn c =
     let apart = s .pre .0 in
     turn-of cs l (args .work .now) (args .nodes) (args .links) (at-loop .numbers) (at-loop .work) (at-loop .top) (at-loop .end) i (at-loop .i) (c .wide .result)
     (s .pre .1 .1 .1 .1) (length-cells (args .at) (args .nodes) l) (s .pre .1 .1 .0) j h linking
-    (c .wide .ensures ∙ ap (λ (r : List ℕ). cell (args .at) r i) (linking .numbers-is)
+    (c .wide .ensures .0 ∙ ap (λ (r : List ℕ). cell (args .at) r i) (linking .numbers-is)
     ∙ getD-sets-before l (args .links + at-loop .end) (linkUp (at-loop .i) (drop (at-loop .i) cs) .links) (args .at + 6 * i) 0 (omega arith)
     ∙ sym (getD-cells (args .at) (args .nodes) l i h))
 

@@ -37,7 +37,7 @@ mul-work : tie.Need-mul-work Inv-loop μ-loop
 mul-work c =
     let start = c .before .before .before .before .before .before in
     let at-loop = c .before .before .before .loop in
-    let e = c .wide .ensures in
+    let e = c .wide .ensures .0 in
     let b = start .pre .1 .1 (at-loop .k) (omega arith) in
     omega arith
 
@@ -45,7 +45,7 @@ slice-read-work : tie.Need-slice-read-work Inv-loop μ-loop
 slice-read-work c =
     let start = c .before .before .before .before .before .before .before in
     let at-loop = c .before .before .before .before .loop in
-    let e = c .before .wide .ensures in
+    let e = c .before .wide .ensures .0 in
     let b = start .pre .1 .1 (at-loop .k) (omega arith) in
     omega arith
 
@@ -70,7 +70,7 @@ loop-again c =
     let at-loop = c .before .before .before .before .loop in
     let args = start .args in
     let k = at-loop .k in
-    let e = c .before .wide .ensures in
+    let e = c .before .wide .ensures .0 in
     let b = start .pre .1 .1 k (omega arith) in
     let p : ℕ → ℕ = λ k. args .at + k in
     let f : ℕ → ℕ = λ k. getD (args .work .now) (getD (args .numbers .now) (args .owners + k) 0) 0 in (

@@ -32,14 +32,14 @@ wide-requires c κs = search needs
 mul-work : tie.Need-mul-work Inv-loop μ-loop
 mul-work c =
     let at-loop = c .before .before .before .loop in
-    let e = c .wide .ensures in
+    let e = c .wide .ensures .0 in
     let b = c .before .before .before .before .before .before .pre (at-loop .k) (omega arith) in
     omega arith
 
 slice-write-work : tie.Need-slice-write-work Inv-loop μ-loop
 slice-write-work c =
     let at-loop = c .before .before .before .loop in
-    let e = c .wide .ensures in
+    let e = c .wide .ensures .0 in
     let b = c .before .before .before .before .before .before .pre (at-loop .k) (omega arith) in
     omega arith
 
@@ -56,7 +56,7 @@ loop-again c =
     let p : ℕ → ℕ = λ k. getD (args .ids .now) k 0 in (
       omega arith,
       length-set (at-loop .work) (c .wide .result) (args .node) ∙ at-loop .inv .1,
-      ap (λ (q : ℕ). set (at-loop .work) q (args .node)) (c .wide .ensures)
+      ap (λ (q : ℕ). set (at-loop .work) q (args .node)) (c .wide .ensures .0)
           ∙ written-next p (λ k. args .node) (args .work .now) (at-loop .k) (args .node) (at-loop .work) (at-loop .inv .2) refl,
     )
 

@@ -38,7 +38,7 @@ block c =
     let at-loop = c .before .before .before .loop in
     let h : at-loop .i < args .nodes = c .before .before .loop-test .taken in
     let n = sumTo-next (cell (args .at) (args .numbers .now)) (at-loop .i) (args .nodes) h in
-    let e = c .wide .ensures in
+    let e = c .wide .ensures .0 in
     let f = at-loop .inv .2 in
     let p = s .pre .1 .1 .0 in
     record { node-lt = h; count-is = e; from-is = f; in-sum = n; in-order = omega arith }

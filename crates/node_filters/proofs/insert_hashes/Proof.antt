@@ -29,7 +29,7 @@ before c =
     let at-loop = c .before .before .before .loop in
     let h : at-loop .k < length (s .args .entries .now) = omega arith in
     let b = s .pre .1 (at-loop .k) h in
-    let e = c .wide .ensures in
+    let e = c .wide .ensures .0 in
     (h, omega arith, omega (arith, s .pre .0, at-loop .inv .1))
 
 add-end : tie.Need-add-end Inv-loop μ-loop
@@ -91,7 +91,7 @@ loop-again c =
     let k = at-loop .k in
     let x = c .before .before .before .before .before .wide .result in
     let insert = c .before .before .insert in
-    let next = inserted-next l₀ (at-loop .hashes) (insert .last .0) at entries k x (getD (at-loop .hashes) x 0) (s .pre .0) (r .0) (at-loop .inv .2) (c .before .before .before .before .before .wide .ensures) (r .1) refl (insert .ensures) in
+    let next = inserted-next l₀ (at-loop .hashes) (insert .last .0) at entries k x (getD (at-loop .hashes) x 0) (s .pre .0) (r .0) (at-loop .inv .2) (c .before .before .before .before .before .wide .ensures .0) (r .1) refl (insert .ensures) in
     (omega arith, ap (λ (r : List ℕ). length r) next ∙ length-sets l₀ at (inserted l₀ at entries (k + 1)), next)
 
 same-length : tie.Need-same-length Inv-loop μ-loop

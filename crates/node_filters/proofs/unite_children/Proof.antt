@@ -32,7 +32,7 @@ behind c =
     let h : at-loop .k < length (s .args .children .now) = omega arith in
     let a = s .pre .1 .0 (at-loop .k) h in
     let b = s .pre .1 .1 (at-loop .k) h in
-    let e = c .wide .ensures in
+    let e = c .wide .ensures .0 in
     (h, omega arith, omega (arith, b, e, at-loop .inv .1))
 
 add-end : tie.Need-add-end Inv-loop μ-loop
@@ -105,7 +105,7 @@ loop-again c =
     let words = c .before .before .before .before .words in
     let four = united-four l₀ filters at children k (r .0) (at-loop .inv .3) (s .pre .1 .1 k (r .0)) in
     let next = united-next l₀ (at-loop .hashes) (unite .last .0) (words .result) filters at children k (c .before .before .before .before .before .wide .result) (s .pre .0) (r .0) (at-loop .inv .3) four (at-loop .inv .2)
-    (c .before .before .before .before .before .wide .ensures) (r .1) (words .ensures) (unite .ensures) in
+    (c .before .before .before .before .before .wide .ensures .0) (r .1) (words .ensures) (unite .ensures) in
     (omega arith, ap (λ (r : List ℕ). length r) next ∙ length-sets l₀ at (united l₀ filters at children (k + 1)), next, four)
 
 same-length : tie.Need-same-length Inv-loop μ-loop

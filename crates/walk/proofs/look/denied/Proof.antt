@@ -1,5 +1,5 @@
 -- `look::denied` meets its contract: everything is denied nowhere, a hash where the filter lacks one of its bits. Assumes nothing.
-use Rattle.walk.specs.LentLaws.{lent-is}
+use Rattle.lists.specs.Parts.{lent-is}
 use Rattle.bloom.specs.Filter.{mayContain}
 use mathlib.Core.Bool.{not}
 use Prim.Native.Nat.{_+_, _*_}
