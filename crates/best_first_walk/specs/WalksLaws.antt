@@ -1,16 +1,16 @@
 -- The hits' part of the work list has room for every hit, and for one number more than there are hits. Assumes nothing.
-use Prim.Native.Nat.{ℕ, _+_, _*_, _≤_, max}
+use Prim.Native.Nat.{ℕ, _+_, _≤_, max}
 use native.Mathlib.Omega.{arith}
 use mathlib.Core.Path.{_≡_}
 use mathlib.Core.List.{List}
 use lib.ListN.{length}
 use Rattle.lists.specs.Parts.{length-part}
 use Rattle.store.specs.declared.Shape.{Shape}
-use Rattle.store.specs.Store.{Limits, hitsAt, workSize}
+use Rattle.store.specs.Store.{Limits, workSize}
 use Rattle.walk.specs.declared.Wanted.{Wanted}
 use Rattle.store.specs.declared.Counts.{Counts}
 use Rattle.walk.specs.Wanted.{LeafList, vector-list, entry-list, listRead, heldIn, most}
-use Rattle.best_first_walk.specs.Walks.{hitsPart, foundAt, foundPart}
+use Rattle.best_first_walk.specs.Walks.{foundAt, foundPart}
 
 -- no more hits than the larger of the capacities
 few-held : (s : Shape) (c : Counts) (l : LeafList) → c .vectors ≤ s .vectors → c .entries ≤ s .entries → heldIn l c ≤ max (s .vectors) (s .entries)
@@ -19,11 +19,6 @@ few-held s c entry-list v e = omega arith
 
 pub few-hits : (s : Shape) (c : Counts) (wanted : Wanted) → c .vectors ≤ s .vectors → c .entries ≤ s .entries → most wanted c ≤ max (s .vectors) (s .entries)
 few-hits s c wanted v e = few-held s c (listRead wanted) v e
-
-pub hits-room : (s : Shape) (c : Counts) (wanted : Wanted) (work : List ℕ) → c .vectors ≤ s .vectors → c .entries ≤ s .entries → workSize s ≤ length work
-    → most wanted c * 3 ≤ length (hitsPart s work)
-hits-room s c wanted work v e size =
-    rw (length-part (hitsAt s) (3 * max (s .vectors) (s .entries)) work size) (let t : most wanted c ≤ max (s .vectors) (s .entries) = few-hits s c wanted v e in omega (arith, t))
 
 pub length-found : (s : Shape) (work : List ℕ) → Limits s → workSize s ≤ length work → length (foundPart s work) ≡ max (s .vectors) (s .entries) + 1
 length-found s work limits size = length-part (foundAt s) (max (s .vectors) (s .entries) + 1) work (omega (arith, limits .vectors-low))

@@ -13,7 +13,7 @@ use lib.Seq.{sets, ext-getD, getD-set-same, getD-set-other, drop-drop}
 use lib.Ieee.{Float}
 use Rattle.lists.specs.Maps.{getD-map}
 use Rattle.lists.specs.Lists.{part, countFrom}
-use Rattle.lists.specs.Parts.{part-part, length-part, part-sets-same, part-sets-before, part-sets-after, drop-sets-add}
+use Rattle.lists.specs.Parts.{part-part, part-sets-same, part-sets-before, part-sets-after, drop-sets-add}
 use Rattle.lists.specs.Frame.{AlikeBut}
 use Rattle.lists.specs.Counting.{length-countFrom, getD-countFrom}
 use Rattle.lists.specs.Tests.{which}
@@ -38,12 +38,6 @@ unfolding vectorsIn
 vectorOf-vectorsIn d n floats i h =
     getD-map (λ i. vectorAt d floats i) (countFrom 0 n) i 0 [] (rw length-countFrom h)
     ∙ ap (λ (k : ℕ). vectorAt d floats k) (getD-countFrom 0 n i 0 h ∙ zero-add i)
-
--- each of them has as many components as the dimension
-pub length-vectorOf : (d n : ℕ) (floats : List Float) (i : ℕ) → n * d ≤ length floats → i < n → length (vectorOf (vectorsIn d n floats) i) ≡ d
-length-vectorOf d n floats i h g =
-    let e = row-end d i n g in
-    ap (λ (l : List Float). length l) (vectorOf-vectorsIn d n floats i g) ∙ length-part (i * d) d floats (omega arith)
 
 -- lists of vectors are equal by their vectors
 vectorsIn-ext : (d n : ℕ) (a : List Float) (l : List (List Float)) → length l ≡ n → ((i : ℕ) → i < n → vectorAt d a i ≡ vectorOf l i)

@@ -1,35 +1,27 @@
 -- Laws of an add: what an accepted call may rely on.
-use Prim.Native.Nat.{ℕ, _≤_}
-use mathlib.Core.Bool.{Bool, true, false}
-use mathlib.Core.Path.{_≡_, refl, sym, ap, _∙_, subst}
-use mathlib.Core.List.{[]}
+use Prim.Native.Nat.{ℕ}
+use mathlib.Core.Bool.{true, false}
+use mathlib.Core.Path.{_≡_, refl, sym, _∙_, subst}
 use native.Mathlib.Omega.{arith}
-use borrow.Author.Tests.{not-false, leb-true, ltb-false, eqb-true, eqb-false}
-use lib.Dec.{leb, eqb}
+use borrow.Author.Tests.{not-false, ltb-false, eqb-true, eqb-false}
 use lib.ListN.{length}
 use Rattle.vector.specs.Vector.{allFinite}
-use Rattle.store.specs.declared.Shape.{Shape}
 use Rattle.store.specs.Store.{Store}
 use Rattle.store.specs.LentLaws.{store-long}
-use Rattle.store.specs.declared.Counts.{Counts}
 use Rattle.curator.specs.declared.Changed.{Changed}
 use Rattle.curator.specs.declared.Changed.the-variants as Changed′
 use Rattle.settings.specs.declared.Check.{Check}
 use Rattle.settings.specs.declared.Check.the-variants.{Fine, Refused}
 use Rattle.curator.specs.declared.CuratorIndex.{CuratorIndex}
-use Rattle.settings.specs.declared.refusal.Refusal.{Refusal}
-use Rattle.curator.specs.Limits.{stateSound, indexShape}
-use Rattle.settings.specs.Limits.{builtAllowed}
+use Rattle.curator.specs.Limits.{indexShape}
 use Rattle.curator.specs.Rows.{addRows}
-use Rattle.store.specs.declared.Lengths.{Lengths}
-use Rattle.store.specs.Lent.{storeShort, lengthsOf}
+use Rattle.store.specs.Lent.{lengthsOf}
 use Rattle.curator.specs.Calls.{grown}
 use Rattle.curator.specs.Changes.{addCheck, Wrote, AddsBy, Adds}
 use Rattle.curator.specs.Arguments.{AddCall}
 use Rattle.curator.specs.Lent.{AddRoom}
 use Rattle.curator.specs.RowLaws.{NoneHolds, fine-none, rowsOfAdd, add-check-rows}
-use Rattle.curator.specs.StateLaws.{Sound, sound-facts, facts-sound}
-use Rattle.lists.specs.Tests.{and-both}
+use Rattle.curator.specs.StateLaws.{Sound, sound-facts}
 use Rattle.curator.specs.OutcomeLaws.{carried-is, refused-is}
 
 -- What an accepted add was asked of, as plain facts.
@@ -79,46 +71,3 @@ adds-accepted index store call index′ store′ h = by (addCheck index store ca
         → (addCheck index store call ≡ Fine) × (index′ ≡ grown index (length (call .lengths))) × Wrote index store call store′
     by Fine e (a, w) = let same = carried-is (grown index (length (call .lengths))) (Changed′.Index index′) a in (e, (cc), w)
     by (Refused r) e (a, w) = let same = refused-is r (Changed′.Index index′) a in let z : _≡_ {A = ℕ} 0 1 = cc in absurd (omega arith)
-
--- a refused add changes nothing
-pub adds-refused : (index : CuratorIndex) (store : Store) (call : AddCall) (r : Refusal) (store′ : Store)
-    → Adds index store call (Changed′.Refused r) store′ → (addCheck index store call ≡ Refused r) × (store′ ≡ store)
-unfolding Adds AddsBy
-adds-refused index store call r store′ h = by (addCheck index store call) refl h
-  where
-    by : (check : Check) → addCheck index store call ≡ check → AddsBy check index store call (Changed′.Refused r) store′
-        → (addCheck index store call ≡ Refused r) × (store′ ≡ store)
-    by Fine e (a, w) =
-        let same = carried-is (grown index (length (call .lengths))) (Changed′.Refused r) a in let z : _≡_ {A = ℕ} 0 1 = cc in absurd (omega arith)
-    by (Refused q) e (a, w) = let same = refused-is q (Changed′.Refused r) a in (e ∙ (cc), w)
-
--- ---- soundness
-
-unbuilt-allowed : (built : Bool) (held : Counts) → built ≡ false → builtAllowed built held ≡ eqb (held .nodes) 0
-unfolding builtAllowed
-unbuilt-allowed built held e = rw e
-
-pub grown-sound : (index : CuratorIndex) (store : Store) (call : AddCall) → Accepted index store call
-    → Sound (grown index (length (call .lengths)))
-grown-sound index store call a =
-    let next = grown index (length (call .lengths)) in
-    record {
-      limits = a .room .limits;
-      leaf-size = a .sound .leaf-size;
-      ef-search = a .sound .ef-search;
-      beam-width = a .sound .beam-width;
-      vectors = omega (arith, a .room .vectors);
-      entries = a .room .entries;
-      nodes = a .sound .nodes;
-      built =
-          unbuilt-allowed (index .built) (next .counts) (a .unbuilt)
-          ∙ sym (unbuilt-allowed (index .built) (index .counts) (a .unbuilt))
-          ∙ a .sound .built;
-    }
-
--- an accepted add returns a sound state
-pub adds-sound : (index : CuratorIndex) (store : Store) (call : AddCall) (index′ : CuratorIndex) (store′ : Store)
-    → Adds index store call (Changed′.Index index′) store′ → stateSound index′ ≡ true
-adds-sound index store call index′ store′ h =
-    let (fine, e, _) = adds-accepted index store call index′ store′ h in
-    ap stateSound e ∙ facts-sound _ (grown-sound index store call (add-facts index store call fine))

@@ -1,21 +1,14 @@
 -- Laws of the labels of an add: the i-th label starts at the sum of the lengths before it.
-use Prim.Native.Nat.{ℕ, zero, suc, _+_, _<_}
-use mathlib.Core.Path.{_≡_, refl, sym, ap, _∙_}
-use mathlib.Core.List.{List, [], _∷_, _++_, map}
-use native.Mathlib.Nat.{zero-add, add-assoc}
-use native.Mathlib.Omega.{arith}
-use lib.ListN.{length, getD, take, drop, length-map}
+use Prim.Native.Nat.{ℕ, suc, _+_, _<_}
+use mathlib.Core.Path.{_≡_, refl, ap, _∙_}
+use mathlib.Core.List.{List, [], _∷_, map}
+use lib.ListN.{length, getD, drop, length-map}
 use lib.Seq.{drop-cons, drop-drop}
 use Rattle.label.specs.Fnv.{fnv}
 use Rattle.lists.specs.Lists.{part, total, pieces}
 use Rattle.curator.specs.Calls.{hashesOfLabels}
 
 -- ---- sums
-
-pub total-append : (a b : List ℕ) → total (a ++ b) ≡ total a + total b
-unfolding total
-total-append [] b = sym (zero-add (total b))
-total-append (x ∷ a) b = ap (λ (n : ℕ). x + n) (total-append a b) ∙ sym (add-assoc x (total a) (total b))
 
 -- the lengths from a place on
 pub total-drop : (l : List ℕ) (i : ℕ) → i < length l → total (drop i l) ≡ getD l i 0 + total (drop (suc i) l)
@@ -24,22 +17,10 @@ total-drop l i h = ap total (drop-cons l i 0 h)
 
 -- ---- labels
 
--- the i-th label: it starts at the sum of the lengths before it
-abbrev pub labelAt : List ℕ → List ℕ → ℕ → List ℕ
-labelAt lengths bytes i = part (total (take i lengths)) (getD lengths i 0) bytes
-
 pub length-labelsOf : (lengths bytes : List ℕ) → length (pieces lengths bytes) ≡ length lengths
 unfolding pieces
 length-labelsOf [] bytes = refl
 length-labelsOf (n ∷ lengths) bytes = ap suc (length-labelsOf lengths (drop n bytes))
-
-pub label-at : (lengths bytes : List ℕ) (i : ℕ) → i < length lengths → getD (pieces lengths bytes) i [] ≡ labelAt lengths bytes i
-unfolding pieces total
-label-at [] bytes i h = absurd (omega arith)
-label-at (n ∷ lengths) bytes zero h = refl
-label-at (n ∷ lengths) bytes (suc i) h =
-    label-at lengths (drop n bytes) i (omega arith)
-    ∙ ap (λ (r : List ℕ). take (getD lengths i 0) r) (drop-drop (total (take i lengths)) n bytes)
 
 -- ---- their hashes
 

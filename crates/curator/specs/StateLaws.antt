@@ -1,6 +1,6 @@
 -- Laws of states and of what a store holds, for the theory of runs.
 use Prim.Native.Nat.{ℕ, _≤_}
-use mathlib.Core.Bool.{Bool, true, false, not, _&&_}
+use mathlib.Core.Bool.{Bool, true, not, _&&_}
 use mathlib.Core.Path.{_≡_, refl, sym, ap, _∙_}
 use mathlib.Core.List.{List, [], _∷_}
 use native.Mathlib.Omega.{arith}
@@ -17,7 +17,6 @@ use Rattle.settings.specs.declared.Check.{Check}
 use Rattle.settings.specs.declared.Check.the-variants as Check′
 use Rattle.curator.specs.declared.CuratorIndex.{CuratorIndex}
 use Rattle.settings.specs.declared.CuratorParams.{CuratorParams}
-use Rattle.settings.specs.declared.refusal.Refusal.{Refusal}
 use Rattle.curator.specs.Calls.{fresh}
 use Rattle.curator.specs.Changes.{newAnswer, created, Creates}
 use Rattle.curator.specs.RowLaws.{creates-is, NoneHolds, fine-none, row-passes}
@@ -185,16 +184,6 @@ created-accepted dimension params capacities index h =
         → (index ≡ fresh dimension params capacities) × NoneHolds (newRows dimension params capacities)
     by Check′.Fine f g = (cc, fine-none (newRows dimension params capacities) f)
     by (Check′.Refused r) f g = let z : _≡_ {A = ℕ} 0 1 = cc in absurd (omega arith)
-
-pub created-refused : (dimension : ℕ) (params : CuratorParams) (capacities : Capacities) (r : Refusal)
-    → Creates dimension params capacities (Changed′.Refused r) → firstOf (newRows dimension params capacities) ≡ Check′.Refused r
-unfolding created newAnswer
-created-refused dimension params capacities r h =
-    by (firstOf (newRows dimension params capacities)) (sym (creates-is dimension params capacities (Changed′.Refused r) h))
-  where
-    by : (check : Check) → newAnswer check dimension params capacities ≡ Changed′.Refused r → check ≡ Check′.Refused r
-    by Check′.Fine g = let z : _≡_ {A = ℕ} 0 1 = cc in absurd (omega arith)
-    by (Check′.Refused q) g = cc
 
 -- a fresh state within the limits is sound
 pub fresh-sound : (dimension : ℕ) (params : CuratorParams) (capacities : Capacities) → NoneHolds (newRows dimension params capacities)

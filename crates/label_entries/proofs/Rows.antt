@@ -73,11 +73,6 @@ module _ (at : ℕ) (numbers : List ℕ) (nodes : List Node) (d : Node) (six : p
       sumTo-congr (cell (at + 1) numbers) (λ j. length (getD nodes j d .children)) i (λ j b. child-count j (let k : j < length nodes = omega arith in k))
       ∙ sumTo-block (λ node. node .children) nodes d i h
 
-  pub id-sum : (i : ℕ) → i ≤ length nodes → sumTo (cell (at + 3) numbers) i ≡ blockAt (λ node. node .ids) nodes i
-  id-sum i h =
-      sumTo-congr (cell (at + 3) numbers) (λ j. length (getD nodes j d .ids)) i (λ j b. id-count j (let k : j < length nodes = omega arith in k))
-      ∙ sumTo-block (λ node. node .ids) nodes d i h
-
 pub cells-are : (at : ℕ) (numbers : List ℕ) (nodes : List Node) → part at (6 * length nodes) numbers ≡ madeFrom 0 nodes
     → cells (at + 1) (length nodes) numbers ≡ map (λ node. length (node .children)) nodes
 unfolding noNode

@@ -9,10 +9,10 @@ use Prim.Native.Nat.{ℕ, zero, suc, _+_, _-_, _≤_, _<_, zero-le, suc-le-suc}
 use native.Mathlib.Nat.{not-suc-le-zero, le-of-suc-le-suc, add-zero, zero-add, suc-add, zero-lt-suc}
 use native.Mathlib.Omega.{arith}
 use mathlib.Core.List.{List, [], _∷_, _++_, map, map-append, append-assoc, append-nil, List·Memᴰ, List·Memᴰ·head, List·Memᴰ·tail, List·Memᴰ·not-nil, List·Memᴰ·append-cases, Memᴰ·append-left, Memᴰ·append-right}
-use lib.ListN.{length, getD, take, drop, length-append}
+use lib.ListN.{length, getD, length-append}
 use lib.Dec.{eqb}
 use borrow.Author.Tests.{eqb-true, eq-eqb, ne-eqb}
-use Rattle.lists.specs.Lists.{part, keep, joined, countFrom, isIn}
+use Rattle.lists.specs.Lists.{keep, joined, countFrom, isIn}
 use Rattle.lists.specs.Tests.{which}
 
 -- ---- an element and its place
@@ -71,10 +71,6 @@ pub Memᴰ-isIn : {x : ℕ} {l : List ℕ} → List·Memᴰ x l → isIn x l ≡
 Memᴰ-isIn {x} (List·Memᴰ·head {x = y} {xs = ys} e) = isIn-cons x y ys ∙ ap (λ (b : Bool). b || isIn x ys) (eq-eqb x y e)
 Memᴰ-isIn {x} (List·Memᴰ·tail {x = y} {xs = ys} m) = isIn-cons x y ys ∙ ap (λ (b : Bool). eqb x y || b) (Memᴰ-isIn m) ∙ or-true (eqb x y)
 
--- a number is in a list exactly if it stands at some place
-pub isIn-getD : (x : ℕ) (l : List ℕ) (d : ℕ) → isIn x l ≡ true → (k : ℕ) × (k < length l) × (getD l k d ≡ x)
-isIn-getD x l d h = Memᴰ-getD d (isIn-Memᴰ x l h)
-
 pub getD-isIn : (l : List ℕ) (k d : ℕ) → k < length l → isIn (getD l k d) l ≡ true
 getD-isIn l k d h = Memᴰ-isIn (getD-Memᴰ l k d h)
 
@@ -118,24 +114,6 @@ countFrom-append i (suc m) n =
 pub countFrom-snoc : (i n : ℕ) → countFrom i (suc n) ≡ countFrom i n ++ ((i + n) ∷ [])
 unfolding countFrom
 countFrom-snoc i n = let e : suc n ≡ n + 1 = omega arith in ap (λ (k : ℕ). countFrom i k) e ∙ countFrom-append i n 1
-
-pub take-countFrom : (m i n : ℕ) → m ≤ n → take m (countFrom i n) ≡ countFrom i m
-unfolding countFrom
-take-countFrom zero i n h = refl
-take-countFrom (suc m) i zero h = absurd (not-suc-le-zero h)
-take-countFrom (suc m) i (suc n) h = ap (λ (r : List ℕ). i ∷ r) (take-countFrom m (suc i) n (le-of-suc-le-suc h))
-
-pub drop-countFrom : (m i n : ℕ) → drop m (countFrom i n) ≡ countFrom (i + m) (n - m)
-unfolding countFrom
-drop-countFrom zero i n = let e : n - zero ≡ n = omega arith in rw (add-zero, e)
-drop-countFrom (suc m) i zero = let e : zero - suc m ≡ zero = omega arith in rw e
-drop-countFrom (suc m) i (suc n) =
-    let e : suc i + m ≡ i + suc m = omega arith in
-    let f : n - m ≡ suc n - suc m = omega arith in
-    drop-countFrom m (suc i) n ∙ ap₂ (λ (a b : ℕ). countFrom a b) e f
-
-pub part-countFrom : (s c i n : ℕ) → s + c ≤ n → part s c (countFrom i n) ≡ countFrom (i + s) c
-part-countFrom s c i n h = ap (λ (r : List ℕ). take c r) (drop-countFrom s i n) ∙ take-countFrom c (i + s) (n - s) (omega arith)
 
 -- a number is in `countFrom i n` exactly if it is at least i and below i + n
 pub isIn-countFrom : (x i n : ℕ) → i ≤ x → x < i + n → isIn x (countFrom i n) ≡ true
@@ -225,20 +203,6 @@ module _ {ℓ} {A : Type ℓ} where
   length-keep-not p [] = refl
   length-keep-not p (x ∷ xs) = cond-length (p x) x (keep p xs) (keep (λ y. not (p y)) xs) (length xs) (length-keep-not p xs)
 
-  keep-cond : (p : A → Bool) (b : Bool) (x : A) (xs ys : List A) → keep p xs ≡ ys → keep p (cond b (x ∷ xs) xs) ≡ cond (p x && b) (x ∷ ys) ys
-  keep-cond p b x xs ys e = go b (p x) refl
-    where
-      go : (b c : Bool) → p x ≡ c → keep p (cond b (x ∷ xs) xs) ≡ cond (c && b) (x ∷ ys) ys
-      go true true q = keep-pass p x xs q ∙ ap (λ (r : List A). x ∷ r) e
-      go true false q = keep-fail p x xs q ∙ e
-      go false true q = e
-      go false false q = e
-
-  pub keep-keep : (p q : A → Bool) (l : List A) → keep p (keep q l) ≡ keep (λ x. p x && q x) l
-  unfolding keep
-  keep-keep p q [] = refl
-  keep-keep p q (x ∷ xs) = keep-cond p (q x) x (keep q xs) (keep (λ y. p y && q y) xs) (keep-keep p q xs)
-
   -- an element of what is kept passes, and is of the list; and back
   cons-kept : (p : A → Bool) (x y : A) (ys : List A) (b : Bool) → p y ≡ b → List·Memᴰ x (cond b (y ∷ keep p ys) (keep p ys))
       → (List·Memᴰ x (keep p ys) → (p x ≡ true) × List·Memᴰ x ys) → (p x ≡ true) × List·Memᴰ x (y ∷ ys)
@@ -294,19 +258,6 @@ module _ {ℓ} {A : Type ℓ} where
   unfolding sumOf
   sumOf-append f [] ys = sym (zero-add (sumOf f ys))
   sumOf-append f (x ∷ xs) ys = let e = sumOf-append f xs ys in omega (arith, e)
-
-  pub sumOf-congr : (f g : A → ℕ) (l : List A) → ((x : A) → List·Memᴰ x l → f x ≡ g x) → sumOf f l ≡ sumOf g l
-  unfolding sumOf
-  sumOf-congr f g [] h = refl
-  sumOf-congr f g (x ∷ xs) h = ap₂ (λ (a b : ℕ). a + b) (h x (List·Memᴰ·head refl)) (sumOf-congr f g xs (λ y m. h y (List·Memᴰ·tail m)))
-
-  pub sumOf-none : (f : A → ℕ) (l : List A) → ((x : A) → List·Memᴰ x l → f x ≡ zero) → sumOf f l ≡ zero
-  unfolding sumOf
-  sumOf-none f [] h = refl
-  sumOf-none f (x ∷ xs) h =
-      let a : f x ≡ zero = h x (List·Memᴰ·head refl) in
-      let b : sumOf f xs ≡ zero = sumOf-none f xs (λ y m. h y (List·Memᴰ·tail m)) in
-      omega arith
 
   pub sumOf-map {κ} : {B : Type κ} (f : A → ℕ) (g : B → A) (l : List B) → sumOf f (map g l) ≡ sumOf (λ x. f (g x)) l
   unfolding sumOf
@@ -376,18 +327,6 @@ module _ {ℓ} {A B : Type ℓ} where
       Memᴰ·append-left (joined f ys) (subst (λ (z : B). List·Memᴰ a (f z)) e m)
   joined-Memᴰ f a (List·Memᴰ·tail {x = y} {xs = ys} n) m = Memᴰ·append-right (f y) (joined-Memᴰ f a n m)
 
-pub isIn-joined : {B : Type 0} (f : B → List ℕ) (a : ℕ) (l : List B) → isIn a (joined f l) ≡ true → (x : B) × List·Memᴰ x l × (isIn a (f x) ≡ true)
-isIn-joined f a l h = let r = Memᴰ-joined f a l (isIn-Memᴰ a (joined f l) h) in (r .0, r .1, Memᴰ-isIn (r .2))
-
-pub joined-isIn : {B : Type 0} (f : B → List ℕ) (a : ℕ) {x : B} {l : List B} → List·Memᴰ x l → isIn a (f x) ≡ true → isIn a (joined f l) ≡ true
-joined-isIn f a {x} {l} m h = Memᴰ-isIn (joined-Memᴰ f a m (isIn-Memᴰ a (f x) h))
-
-module _ {ℓ} {A : Type ℓ} where
-  pub joined-singletons : (l : List A) → joined (λ x. x ∷ []) l ≡ l
-  unfolding joined
-  joined-singletons [] = refl
-  joined-singletons (x ∷ xs) = ap (λ (r : List A). x ∷ r) (joined-singletons xs)
-
 module _ {ℓ} {A B C : Type ℓ} where
   pub joined-map : (f : B → List A) (g : C → B) (l : List C) → joined f (map g l) ≡ joined (λ x. f (g x)) l
   unfolding joined
@@ -398,8 +337,3 @@ module _ {ℓ} {A B C : Type ℓ} where
   unfolding joined
   map-joined g f [] = refl
   map-joined g f (x ∷ xs) = map-append g (f x) (joined f xs) ∙ ap (λ (r : List C). map g (f x) ++ r) (map-joined g f xs)
-
-  pub joined-joined : (f : B → List A) (g : C → List B) (l : List C) → joined f (joined g l) ≡ joined (λ x. joined f (g x)) l
-  unfolding joined
-  joined-joined f g [] = refl
-  joined-joined f g (x ∷ xs) = joined-append f (g x) (joined g xs) ∙ ap (λ (r : List A). joined f (g x) ++ r) (joined-joined f g xs)

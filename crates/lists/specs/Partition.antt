@@ -5,7 +5,7 @@
 -- `keep`, `joined`, `sumOf` and `count`. "x is in exactly one of the lists" is `count x (joined f l) ≡ 1`.
 use mathlib.Core.Path.{_≡_, refl, sym, ap, ap₂, _∙_, subst}
 use mathlib.Core.Logic.{_⊎_, inl, inr}
-use mathlib.Core.Bool.{Bool, true, false, cond, not, false≢true}
+use mathlib.Core.Bool.{Bool, true, false, cond, false≢true}
 use Prim.Native.Nat.{ℕ, zero, suc, _+_, _-_, _≤_, _<_}
 use native.Mathlib.Nat.{not-suc-le-zero, le-of-suc-le-suc, zero-add, eq-zero-or-pos}
 use native.Mathlib.Omega.{arith}
@@ -16,7 +16,7 @@ use lib.Dec.{eqb}
 use lib.Arith.{lt-of-le-ne}
 use borrow.Author.Tests.{eqb-true, eqb-false, eq-eqb, ne-eqb}
 use Rattle.lists.specs.Lists.{keep, joined, countFrom, isIn}
-use Rattle.lists.specs.Counting.{getD-Memᴰ, isIn-ext, isIn-Memᴰ, Memᴰ-isIn, isIn-keep, countFrom-cons, countFrom-append, isIn-countFrom-not, Memᴰ-countFrom, keep-nil, keep-pass, keep-fail, joined-cons, joined-append, joined-congr, joined-none, sumOf, sumOf-append, sumOf-joined}
+use Rattle.lists.specs.Counting.{getD-Memᴰ, isIn-ext, isIn-Memᴰ, Memᴰ-isIn, isIn-keep, countFrom-cons, countFrom-append, isIn-countFrom-not, Memᴰ-countFrom, keep-nil, keep-pass, keep-fail, joined-cons, joined-append, joined-congr, joined-none, sumOf, sumOf-append}
 use Rattle.lists.specs.Tests.{which}
 
 -- ---- laws of every permutation
@@ -73,12 +73,6 @@ perm-isIn x xs ys p =
 -- ---- of `joined` and `keep`
 
 module _ {ℓ} {A B : Type ℓ} where
-  -- each list in another order
-  pub perm-joined : (f g : B → List A) (l : List B) → ((x : B) → List·Memᴰ x l → List·Permᴰ (f x) (g x)) → List·Permᴰ (joined f l) (joined g l)
-  unfolding joined
-  perm-joined f g [] h = List·Permᴰ·nil
-  perm-joined f g (x ∷ xs) h = perm-append (h x (List·Memᴰ·head refl)) (perm-joined f g xs (λ y m. h y (List·Memᴰ·tail m)))
-
   -- the lists in another order
   pub perm-joined-list : (f : B → List A) {l m : List B} → List·Permᴰ l m → List·Permᴰ (joined f l) (joined f m)
   unfolding joined
@@ -101,20 +95,6 @@ module _ {ℓ} {A B : Type ℓ} where
           ap (joined f) (keep-fail p x xs e) ∙ r ∙ ap (λ (q : List A). q ++ joined f xs) (sym (h x (List·Memᴰ·head refl) e)) ∙ sym (joined-cons f x xs)
 
 module _ {ℓ} {A : Type ℓ} where
-  -- whether a list has an element
-  unfoldable pub nonEmpty : List A → Bool
-  nonEmpty [] = false
-  nonEmpty (x ∷ xs) = true
-
-  pub nonEmpty-false : (l : List A) → nonEmpty l ≡ false → l ≡ []
-  unfolding nonEmpty
-  nonEmpty-false [] e = refl
-  nonEmpty-false (x ∷ xs) e = absurd (false≢true (sym e))
-
-  -- empty lists may be left out of a list of lists
-  pub joined-nonEmpty : (ls : List (List A)) → joined (λ l. l) (keep nonEmpty ls) ≡ joined (λ l. l) ls
-  joined-nonEmpty ls = joined-keep (λ l. l) nonEmpty ls (λ l m e. nonEmpty-false l e)
-
   cond-joined : (b : Bool) (x : A) (r : List A) → cond b (x ∷ r) r ≡ cond b (x ∷ []) [] ++ r
   cond-joined true x r = refl
   cond-joined false x r = refl
@@ -129,17 +109,6 @@ module _ {ℓ} {A : Type ℓ} where
   perm-keep p {l} {m} q =
       List·Permᴰ·trans (perm-of-eq (keep-is-joined p l))
       (List·Permᴰ·trans (perm-joined-list (λ x. cond (p x) (x ∷ []) []) q) (perm-of-eq (sym (keep-is-joined p m))))
-
-  -- those that pass, then those that do not
-  cond-not : (b : Bool) (x : A) (xs ys : List A) {l : List A} → List·Permᴰ (xs ++ ys) l
-      → List·Permᴰ (cond b (x ∷ xs) xs ++ cond (not b) (x ∷ ys) ys) (x ∷ l)
-  cond-not true x xs ys p = List·Permᴰ·cons refl p
-  cond-not false x xs ys p = List·Permᴰ·trans (Permᴰ·middle x xs ys) (List·Permᴰ·cons refl p)
-
-  pub perm-keep-not : (p : A → Bool) (l : List A) → List·Permᴰ (keep p l ++ keep (λ x. not (p x)) l) l
-  unfolding keep
-  perm-keep-not p [] = List·Permᴰ·nil
-  perm-keep-not p (x ∷ xs) = cond-not (p x) x (keep p xs) (keep (λ y. not (p y)) xs) (perm-keep-not p xs)
 
 -- ---- a list sorted into classes
 
@@ -219,10 +188,6 @@ count-cons x y ys = refl
 pub count-append : (x : ℕ) (xs ys : List ℕ) → count x (xs ++ ys) ≡ count x xs + count x ys
 unfolding count
 count-append x xs ys = sumOf-append (hit x) xs ys
-
-pub count-joined : {B : Type 0} (x : ℕ) (f : B → List ℕ) (l : List B) → count x (joined f l) ≡ sumOf (λ y. count x (f y)) l
-unfolding count
-count-joined x f l = sumOf-joined (hit x) f l
 
 pub perm-count : (x : ℕ) (xs ys : List ℕ) → List·Permᴰ xs ys → count x xs ≡ count x ys
 unfolding count

@@ -3,13 +3,12 @@
 -- In order: a part's length and elements, parts of parts, of `_++_` and after a store; a run of stores, read element by
 -- element, before, in and after it, by `take`, `drop` and `part`; two runs; a part that is written back; lent parts; what stands behind a place; one element and four.
 use mathlib.Core.Path.{_≡_, refl, sym, ap, ap₂, _∙_}
-use mathlib.Core.Logic.{_⊎_, inl, inr}
 use Prim.Native.Nat.{ℕ, zero, suc, _+_, _-_, _≤_, _<_}
-use native.Mathlib.Nat.{not-suc-le-zero, le-of-suc-le-suc, add-zero, zero-add, add-suc, sub-zero, zero-sub, suc-sub-suc, le-of-eq}
+use native.Mathlib.Nat.{not-suc-le-zero, le-of-suc-le-suc, add-zero, add-suc, sub-zero, zero-sub, suc-sub-suc, le-of-eq}
 use native.Mathlib.Omega.{arith}
 use mathlib.Core.List.{List, [], _∷_, _++_, map, append-assoc}
 use lib.ListN.{length, getD, set, take, drop, length-set, length-drop, length-append, take-append-drop}
-use lib.Seq.{sets, sets-eq, slice, length-sets, length-take-le, take-length, take-nil, drop-nil, take-suc, drop-cons, take-append-seam, take-append-le, drop-append-le, drop-append-add, drop-at, getD-set-same, getD-set-other, set-set, set-comm, take-set-le, take-set-lt, drop-set-lt, drop-set-add, getD-take, getD-drop, take-take, drop-drop, take-add, ext-getD}
+use lib.Seq.{sets, sets-eq, slice, length-take-le, take-nil, drop-nil, drop-cons, take-append-seam, drop-append-add, drop-at, getD-set-same, getD-set-other, set-set, set-comm, take-set-le, take-set-lt, drop-set-lt, drop-set-add, getD-take, getD-drop, take-take, drop-drop, take-add}
 use Rattle.lists.specs.Lists.{part}
 
 -- the place after one more element
@@ -38,16 +37,9 @@ module _ {ℓ} {A : Type ℓ} where
   pub part-zero : (s : ℕ) (l : List A) → part s zero l ≡ []
   part-zero s l = refl
 
-  pub part-all : (l : List A) → part zero (length l) l ≡ l
-  part-all l = take-length l
-
   -- one more element in front, and at the end
   pub part-cons : (s c : ℕ) (l : List A) (d : A) → s < length l → part s (suc c) l ≡ getD l s d ∷ part (suc s) c l
   part-cons s c l d h = ap (λ (r : List A). take (suc c) r) (drop-cons l s d h)
-
-  pub part-snoc : (s c : ℕ) (l : List A) (d : A) → s + c < length l → part s (suc c) l ≡ part s c l ++ (getD l (s + c) d ∷ [])
-  part-snoc s c l d h =
-      take-suc (drop s l) c d (rw length-drop (omega arith)) ∙ ap (λ (x : A). part s c l ++ (x ∷ [])) (getD-drop s l c d)
 
   -- one element, and four
   pub part-one : (s : ℕ) (l : List A) (d : A) → s + 1 ≤ length l → part s 1 l ≡ getD l s d ∷ []
@@ -83,12 +75,6 @@ module _ {ℓ} {A : Type ℓ} where
       ∙ ap (λ (r : List A). take s l ++ r) (take-append-drop c (drop s l))
       ∙ take-append-drop s l
 
-  -- left of the seam, right of it, and a list in the middle
-  pub part-append-left : (s c : ℕ) (xs ys : List A) → s + c ≤ length xs → part s c (xs ++ ys) ≡ part s c xs
-  part-append-left s c xs ys h =
-      ap (λ (r : List A). take c r) (drop-append-le s xs ys (omega arith))
-      ∙ take-append-le c (drop s xs) ys (rw length-drop (omega arith))
-
   pub part-append-right : (s c : ℕ) (xs ys : List A) → part (length xs + s) c (xs ++ ys) ≡ part s c ys
   part-append-right s c xs ys = ap (λ (r : List A). take c r) (drop-append-add xs ys s)
 
@@ -98,32 +84,11 @@ module _ {ℓ} {A : Type ℓ} where
       ∙ ap (λ (r : List A). take (length ys) r) (drop-at xs (ys ++ zs) (length xs) refl)
       ∙ take-append-seam ys zs
 
-  -- two lists that agree at each place of a part have the same part
-  pub ext-part : (d : A) (s c : ℕ) (l m : List A) → s + c ≤ length l → s + c ≤ length m
-      → ((i : ℕ) → i < c → getD l (s + i) d ≡ getD m (s + i) d) → part s c l ≡ part s c m
-  ext-part d s c l m hl hm h =
-      let n : length (part s c l) ≡ c = length-part s c l hl in
-      ext-getD d (part s c l) (part s c m) (n ∙ sym (length-part s c m hm))
-      (λ i b. let b′ : i < c = omega arith in getD-part s c l i d b′ ∙ h i b′ ∙ sym (getD-part s c m i d b′))
-
   -- a store before a part, after it, and in it
   pub part-set-before : (s c : ℕ) (l : List A) (i : ℕ) (x : A) → i < s → part s c (set l i x) ≡ part s c l
   part-set-before s c l i x h = ap (λ (r : List A). take c r) (drop-set-lt s l i x h)
 
-  pub part-set-after : (s c : ℕ) (l : List A) (i : ℕ) (x : A) → s + c ≤ i → part s c (set l i x) ≡ part s c l
-  part-set-after s c l i x h =
-      part-slice s c (set l i x) ∙ ap (λ (r : List A). drop s r) (take-set-le (s + c) l i x h) ∙ sym (part-slice s c l)
-
-  pub part-set-in : (s c : ℕ) (l : List A) (i : ℕ) (x : A) → i < c → part s c (set l (s + i) x) ≡ set (part s c l) i x
-  part-set-in s c l i x h = ap (λ (r : List A). take c r) (drop-set-add s l i x) ∙ take-set-lt c (drop s l) i x h
-
   -- ---- a run of stores
-
-  pub sets-nil : (l : List A) (i : ℕ) → sets l i [] ≡ l
-  sets-nil l i = refl
-
-  pub sets-one : (l : List A) (i : ℕ) (x : A) → set l i x ≡ sets l i (x ∷ [])
-  sets-one l i x = refl
 
   pub sets-cons : (x : A) (l : List A) (i : ℕ) (vs : List A) → sets (x ∷ l) (suc i) vs ≡ x ∷ sets l i vs
   sets-cons x l i [] = refl
@@ -199,9 +164,6 @@ module _ {ℓ} {A : Type ℓ} where
   pub part-sets-after : (s c : ℕ) (l : List A) (i : ℕ) (vs : List A) → i + length vs ≤ s → part s c (sets l i vs) ≡ part s c l
   part-sets-after s c l i vs h = ap (λ (r : List A). take c r) (drop-sets s l i vs h)
 
-  pub part-sets-in : (s c : ℕ) (l : List A) (i : ℕ) (vs : List A) → i + length vs ≤ c → part s c (sets l (s + i) vs) ≡ sets (part s c l) i vs
-  part-sets-in s c l i vs h = ap (λ (r : List A). take c r) (drop-sets-add s l i vs) ∙ take-sets-in c (drop s l) i vs h
-
   -- a part, and what is written directly behind it
   pub part-sets-grown : (s c : ℕ) (l vs : List A) (n : ℕ) → length vs ≡ n → s + c + n ≤ length l → part s (c + n) (sets l (s + c) vs) ≡ part s c l ++ vs
   part-sets-grown s c l vs n e h =
@@ -222,11 +184,6 @@ module _ {ℓ} {A : Type ℓ} where
   set-sets-after l i x j (v ∷ vs) h =
       set-sets-after (set l j v) i x (suc j) vs (omega arith)
       ∙ ap (λ (r : List A). sets r (suc j) vs) (set-comm l j i v x (λ e. omega arith))
-
-  pub set-sets-comm : (l : List A) (i : ℕ) (x : A) (j : ℕ) (vs : List A) → (i < j) ⊎ (j + length vs ≤ i)
-      → set (sets l j vs) i x ≡ sets (set l i x) j vs
-  set-sets-comm l i x j vs (inl h) = set-sets-before l i x j vs h
-  set-sets-comm l i x j vs (inr h) = set-sets-after l i x j vs h
 
   -- runs that do not meet, the first before the second
   pub sets-comm : (l : List A) (i : ℕ) (xs : List A) (j : ℕ) (ys : List A) → i + length xs ≤ j
@@ -268,24 +225,6 @@ module _ {ℓ} {A : Type ℓ} where
       ∙ ap (λ (r : List A). take a m ++ part a n m ++ r) rest
       ∙ split-part a n m
 
-  -- a run written into a part that is then written back
-  pub sets-in-part : (l : List A) (a n i : ℕ) (ys : List A) → a + n ≤ length l → i + length ys ≤ n
-      → sets l a (sets (part a n l) i ys) ≡ sets l (a + i) ys
-  sets-in-part l a n i ys h g =
-      ap (λ (r : List A). sets l a r) (sym (part-sets-in a n l i ys g))
-      ∙ sets-part l (sets l (a + i) ys) a n h (rw length-sets h) (sym (take-sets a l (a + i) ys (omega arith)))
-      (sym (drop-sets (a + n) l (a + i) ys (omega arith)))
-
-  -- a single store in the part
-  pub sets-part-set : (l : List A) (a n i : ℕ) (x : A) → a + n ≤ length l → i < n → sets l a (set (part a n l) i x) ≡ set l (a + i) x
-  sets-part-set l a n i x h g = sets-in-part l a n i (x ∷ []) h (let k : i + 1 ≤ n = omega arith in k)
-
-  -- the part's front was overwritten
-  pub sets-of-sets-part : (l : List A) (a n : ℕ) (ys : List A) → a + n ≤ length l → length ys ≤ n
-      → sets l a (sets (part a n l) zero ys) ≡ sets l a ys
-  sets-of-sets-part l a n ys h g =
-      sets-in-part l a n zero ys h (let k : zero + length ys ≤ n = omega arith in k) ∙ ap (λ (k : ℕ). sets l k ys) (add-zero a)
-
   -- ---- a lent part, as the borrow checker writes it
 
   -- `&l[a..e]` by its start and length
@@ -312,16 +251,6 @@ module _ {ℓ} {A : Type ℓ} where
       sym (sets-eq ys l a (omega arith)
       ∙ append-assoc (take a l) ys (drop (a + length ys) l)
       ∙ ap (λ (r : List A). take a l ++ (ys ++ r)) (sym (drop-drop (length ys) a l) ∙ ap (λ (k : ℕ). drop k (drop a l)) n))
-
-  -- `&mut l[a..]`
-  pub lent-rest : (l : List A) (a : ℕ) (ys : List A) → a ≤ length l → length ys ≡ length l - a
-      → take a l ++ (ys ++ drop (length l - a) (drop a l)) ≡ sets l a ys
-  lent-rest l a ys h n = lent-part l a (length l) ys h (let k : length l ≤ length l = omega arith in k) n
-
-  -- `&mut l[..e]`
-  pub lent-front : (l : List A) (e : ℕ) (ys : List A) → e ≤ length l → length ys ≡ e → ys ++ drop e l ≡ sets l zero ys
-  lent-front l e ys g n =
-      sym (sets-eq ys l zero (omega arith) ∙ ap (λ (k : ℕ). ys ++ drop k l) (zero-add (length ys) ∙ n))
 
 -- ---- what stands behind a place
 

@@ -6,7 +6,7 @@ use native.Mathlib.Omega.{arith}
 use native.Mathlib.Nat.{le-of-lt}
 use native.Mathlib.Numerals.{add-one}
 use lib.ListN.{length, getD, set, take, length-take}
-use lib.Seq.{sets, take-suc, take-all, length-take-le, length-sets}
+use lib.Seq.{sets, take-suc, take-all, length-take-le}
 use Rattle.lists.specs.Parts.{sets-snoc, getD-sets-after, getD-sets-before}
 
 module _ {ℓ} {A : Type ℓ} where
@@ -28,6 +28,3 @@ module _ {ℓ} {A : Type ℓ} where
 
   pub before-written : (l m : List A) (a i : ℕ) (v : List A) (k : ℕ) (d : A) → m ≡ sets l a (take i v) → k < a → getD m k d ≡ getD l k d
   before-written l m a i v k d e h = rw e (getD-sets-before l a (take i v) k d h)
-
-  pub written-length : (l m : List A) (a i : ℕ) (v : List A) → m ≡ sets l a (take i v) → length m ≡ length l
-  written-length l m a i v e = rw e (length-sets l a (take i v))

@@ -41,9 +41,6 @@ pub record Agree (upTo : Lengths) (store store′ : Store) : Type 0 where
 pub agree-sym : {upTo : Lengths} {store store′ : Store} → Agree upTo store store′ → Agree upTo store′ store
 agree-sym a = record { floats = sym (a .floats); numbers = sym (a .numbers); hashes = sym (a .hashes) }
 
-pub agree-trans : {upTo : Lengths} {a b c : Store} → Agree upTo a b → Agree upTo b c → Agree upTo a c
-agree-trans p q = record { floats = p .floats ∙ q .floats; numbers = p .numbers ∙ q .numbers; hashes = p .hashes ∙ q .hashes }
-
 pub agree-less : (less upTo : Lengths) (store store′ : Store) → NoShorter less upTo → Agree upTo store store′ → Agree less store store′
 agree-less less upTo store store′ h a =
     record {

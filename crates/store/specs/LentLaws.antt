@@ -1,9 +1,9 @@
 -- Lists that are not too short are as long as the sizes, and the other way round. Assumes nothing.
 use Prim.Native.Nat.{ℕ, _≤_}
-use mathlib.Core.Bool.{Bool, true, false, not, _&&_, _||_}
-use mathlib.Core.Path.{_≡_, refl, sym, ap, ap₂, _∙_}
+use mathlib.Core.Bool.{Bool, true, false, not, _&&_}
+use mathlib.Core.Path.{_≡_}
 use lib.Dec.{leb}
-use borrow.Author.Tests.{leb-true, le-leb, not-false}
+use borrow.Author.Tests.{leb-true, not-false}
 use Rattle.lists.specs.Tests.{and-left, and-right, or-left, or-right}
 use Rattle.store.specs.declared.Shape.{Shape}
 use Rattle.store.specs.declared.Lengths.{Lengths}
@@ -31,19 +31,8 @@ module _ (s : Shape) (lent : Lengths) where
         hashes = leb-true (hashesSize s) (lent .hashes) (and-right numbersFit hashesFit rest);
       }
 
-  pub long-store : Long s lent → storeShort s lent ≡ false
-  unfolding storeShort
-  long-store l =
-      ap not
-      (ap₂ _&&_ (le-leb (floatsSize s) (lent .floats) (l .floats))
-      (ap₂ _&&_ (le-leb (numbersSize s) (lent .numbers) (l .numbers)) (le-leb (hashesSize s) (lent .hashes) (l .hashes))))
-
   pub lists-long : (work : ℕ) → listsShort s lent work ≡ false → Long s lent × (workSize s ≤ work)
   unfolding listsShort
   lists-long work e =
       let short = not (leb (workSize s) work) in
       (store-long (or-left (storeShort s lent) short e), leb-true (workSize s) work (not-false (leb (workSize s) work) (or-right (storeShort s lent) short e)))
-
-  pub long-lists : (work : ℕ) → Long s lent → workSize s ≤ work → listsShort s lent work ≡ false
-  unfolding listsShort
-  long-lists work l h = ap₂ _||_ (long-store l) (ap not (le-leb (workSize s) work h))

@@ -2,16 +2,15 @@
 -- leave as it was.
 use Prim.Native.Nat.{ℕ, zero, suc, _+_, _*_, _≤_, _<_}
 use mathlib.Core.Path.{_≡_, refl, sym, ap, ap₂, _∙_}
-use mathlib.Core.Logic.{_⊎_, inl, inr}
 use mathlib.Core.List.{List, [], _∷_, _++_, List·Memᴰ, List·Memᴰ·head, List·Memᴰ·tail}
 use native.Mathlib.Nat.{zero-add, add-zero, add-assoc, zero-mul, suc-mul, mul-comm, mul-add, add-mul, mul-le-mul-right, not-suc-le-zero, le-of-suc-le-suc}
 use native.Mathlib.Omega.{arith}
 use lib.Ieee.{Float}
 use lib.ListN.{length, getD, take, length-append}
-use lib.Seq.{sets, length-sets, take-append-seam, take-length}
+use lib.Seq.{sets, length-sets, take-append-seam}
 use Rattle.lists.specs.Lists.{part, joined}
-use Rattle.lists.specs.Counting.{sumOf, length-joined, getD-Memᴰ}
-use Rattle.lists.specs.Parts.{getD-part, part-part, part-append-right, part-sets-same, part-sets-before, part-sets-after}
+use Rattle.lists.specs.Counting.{sumOf, getD-Memᴰ}
+use Rattle.lists.specs.Parts.{getD-part, part-part, part-append-right, part-sets-same, part-sets-before}
 use Rattle.store.specs.declared.Shape.{Shape}
 use Rattle.store.specs.Store.{vectorAt, centroidsAt, centresAt, floatsSize, orderAt, nodesAt, linksAt, entryOrderAt, numbersSize, filtersAt, hashesSize}
 use Rattle.tree.specs.Tree.{Splitting, treeOf, size}
@@ -43,17 +42,6 @@ module _ {B : Type 0} where
       let e = length-append (f x) (joined f l) in
       let r = block-end f l i d (le-of-suc-le-suc h) in
       omega arith
-
-  -- the next block starts where this one ends, and the last ends with the list
-  pub blockAt-suc : {A : Type 0} (f : B → List A) (l : List B) (i : ℕ) (d : B) → i < length l
-      → blockAt f l (suc i) ≡ blockAt f l i + length (f (getD l i d))
-  unfolding sumOf
-  blockAt-suc f [] i d h = absurd (not-suc-le-zero h)
-  blockAt-suc f (x ∷ l) zero d h = omega arith
-  blockAt-suc f (x ∷ l) (suc i) d h = let r = blockAt-suc f l i d (le-of-suc-le-suc h) in omega arith
-
-  pub blockAt-all : {A : Type 0} (f : B → List A) (l : List B) → blockAt f l (length l) ≡ length (joined f l)
-  blockAt-all f l = ap (sumOf (λ x. length (f x))) (take-length l) ∙ sym (length-joined f l)
 
   -- blocks of one width
   pub length-blocks : {A : Type 0} (f : B → List A) (width : ℕ) (l : List B) → ((x : B) → List·Memᴰ x l → length (f x) ≡ width)
@@ -130,35 +118,6 @@ length-sixFrom c v e [] = refl
 length-sixFrom c v e (node ∷ rest) =
     let r = length-sixFrom (c + length (node .children)) (v + length (node .ids)) (e + length (node .entries)) rest in omega arith
 
-later : {A : Type 0} (at : ℕ) (xs ys : List A) → at + length xs + length ys ≡ at + length (xs ++ ys)
-later at xs ys = let e = length-append xs ys in omega arith
-
--- the nodes of two lists one after the other
-pub sixFrom-append : (c v e : ℕ) (xs ys : List Node)
-    → sixFrom c v e (xs ++ ys)
-    ≡ sixFrom c v e xs
-    ++ sixFrom (c + length (joined (λ node. node .children) xs)) (v + length (joined (λ node. node .ids) xs)) (e + length (joined (λ node. node .entries) xs)) ys
-unfolding sixFrom sixOf joined
-sixFrom-append c v e [] ys = λ k. sixFrom (sym (add-zero c) k) (sym (add-zero v) k) (sym (add-zero e) k) ys
-sixFrom-append c v e (node ∷ xs) ys =
-    let p = later c (node .children) (joined (λ node. node .children) xs) in
-    let q = later v (node .ids) (joined (λ node. node .ids) xs) in
-    let r = later e (node .entries) (joined (λ node. node .entries) xs) in
-    ap (λ (l : List ℕ). sixOf c v e node ++ l)
-    (sixFrom-append (c + length (node .children)) (v + length (node .ids)) (e + length (node .entries)) xs ys
-    ∙ (λ k. sixFrom (c + length (node .children)) (v + length (node .ids)) (e + length (node .entries)) xs ++ sixFrom (p k) (q k) (r k) ys))
-
-pub sixFrom-snoc : (xs : List Node) (node : Node)
-    → sixFrom 0 0 0 (xs ++ (node ∷ []))
-    ≡ sixFrom 0 0 0 xs
-    ++ sixOf (length (joined (λ node. node .children) xs)) (length (joined (λ node. node .ids) xs)) (length (joined (λ node. node .entries) xs)) node
-unfolding sixFrom sixOf
-sixFrom-snoc xs node =
-    sixFrom-append 0 0 0 xs (node ∷ [])
-    ∙ ap (λ (l : List ℕ). sixFrom 0 0 0 xs ++ l)
-    (six-same node (zero-add (length (joined (λ node. node .children) xs))) (zero-add (length (joined (λ node. node .ids) xs)))
-    (zero-add (length (joined (λ node. node .entries) xs))))
-
 -- the six numbers of the node with a number
 pub six-part : (c v e : ℕ) (nodes : List Node) (i : ℕ) (d : Node) → i < length nodes
     → part (i * 6) 6 (sixFrom c v e nodes)
@@ -224,61 +183,9 @@ length-numbersOf s nodes numbers =
     ∙ length-sets one (nodesAt s) (sixFrom 0 0 0 nodes)
     ∙ length-sets numbers (orderAt s) ids
 
--- a part that begins at or after the end of another, or ends before it begins
-abbrev pub Apart : ℕ → ℕ → ℕ → ℕ → Type 0
-Apart a n b m = (a + n ≤ b) ⊎ (b + m ≤ a)
-
-pub part-apart : {A : Type 0} (a n : ℕ) (l : List A) (b : ℕ) (vs : List A) → Apart a n b (length vs) → part a n (sets l b vs) ≡ part a n l
-part-apart a n l b vs (inl h) = part-sets-before a n l b vs h
-part-apart a n l b vs (inr h) = part-sets-after a n l b vs h
-
--- what stands apart from all that is written is as it was
-pub numbers-apart : (s : Shape) (nodes : List Node) (numbers : List ℕ) (a n : ℕ) → Apart a n (orderAt s) (length (joined (λ node. node .ids) nodes))
-    → Apart a n (nodesAt s) (length (sixFrom 0 0 0 nodes)) → Apart a n (linksAt s) (length (joined (λ node. node .children) nodes))
-    → Apart a n (entryOrderAt s) (length (joined (λ node. node .entries) nodes)) → part a n (numbersOf s nodes numbers) ≡ part a n numbers
-unfolding numbersOf
-numbers-apart s nodes numbers a n p q r t =
-    let ids = joined (λ node. node .ids) nodes in
-    let one = sets numbers (orderAt s) ids in
-    let two = sets one (nodesAt s) (sixFrom 0 0 0 nodes) in
-    let three = sets two (linksAt s) (joined (λ node. node .children) nodes) in
-    part-apart a n three (entryOrderAt s) (joined (λ node. node .entries) nodes) t
-    ∙ part-apart a n two (linksAt s) (joined (λ node. node .children) nodes) r
-    ∙ part-apart a n one (nodesAt s) (sixFrom 0 0 0 nodes) q
-    ∙ part-apart a n numbers (orderAt s) ids p
-
 module _ (s : Shape) (nodes : List Node) (numbers : List ℕ) (fit : NodesFit s nodes) where
   six-fit : length (sixFrom 0 0 0 nodes) ≤ 6 * s .nodes
   six-fit = let e = length-sixFrom 0 0 0 nodes in let h = fit .nodes-fit in omega arith
-
-  -- 'otherwise what stood there before': document ids and owners; past the counts held; the surplus
-  pub numbers-front : (a n : ℕ) → a + n ≤ orderAt s → part a n (numbersOf s nodes numbers) ≡ part a n numbers
-  numbers-front a n h = numbers-apart s nodes numbers a n (inl (omega arith)) (inl (omega arith)) (inl (omega arith)) (inl (omega arith))
-
-  pub numbers-past-ids : (a n : ℕ) → orderAt s + length (joined (λ node. node .ids) nodes) ≤ a → a + n ≤ nodesAt s
-      → part a n (numbersOf s nodes numbers) ≡ part a n numbers
-  numbers-past-ids a n h g = numbers-apart s nodes numbers a n (inr h) (inl g) (inl (omega arith)) (inl (omega arith))
-
-  pub numbers-past-nodes : (a n : ℕ) → nodesAt s + 6 * length nodes ≤ a → a + n ≤ linksAt s → part a n (numbersOf s nodes numbers) ≡ part a n numbers
-  numbers-past-nodes a n h g =
-      let e = length-sixFrom 0 0 0 nodes in
-      let i = fit .ids-fit in
-      numbers-apart s nodes numbers a n (inr (omega arith)) (inr (omega arith)) (inl g) (inl (omega arith))
-
-  pub numbers-past-links : (a n : ℕ) → linksAt s + length (joined (λ node. node .children) nodes) ≤ a → a + n ≤ entryOrderAt s
-      → part a n (numbersOf s nodes numbers) ≡ part a n numbers
-  numbers-past-links a n h g =
-      let e = six-fit in
-      let i = fit .ids-fit in
-      numbers-apart s nodes numbers a n (inr (omega arith)) (inr (omega arith)) (inr h) (inl g)
-
-  pub numbers-past-entries : (a n : ℕ) → entryOrderAt s + length (joined (λ node. node .entries) nodes) ≤ a
-      → part a n (numbersOf s nodes numbers) ≡ part a n numbers
-  numbers-past-entries a n h =
-      let e = six-fit in
-      let i = fit .ids-fit in
-      let c = fit .links-fit in
-      numbers-apart s nodes numbers a n (inr (omega arith)) (inr (omega arith)) (inr (omega arith)) (inr h)
 
 module _ (s : Shape) (nodes : List Node) (numbers : List ℕ) (fit : NodesFit s nodes) (long : numbersSize s ≤ length numbers) where
   -- the parts that are written
@@ -359,11 +266,6 @@ module _ (s : Shape) (nodes : List Node) (numbers : List ℕ) (fit : NodesFit s 
       ≡ getD nodes i d .children
   children-read i d h = block-in (λ node. node .children) (linksAt s) i d numbers-links h
 
-  pub ids-read : (i : ℕ) (d : Node) → i < length nodes
-      → part (orderAt s + startOf (blockAt (λ node. node .ids) nodes i) (getD nodes i d .ids)) (length (getD nodes i d .ids)) (numbersOf s nodes numbers)
-      ≡ getD nodes i d .ids
-  ids-read i d h = block-in (λ node. node .ids) (orderAt s) i d numbers-order h
-
   pub entries-read : (i : ℕ) (d : Node) → i < length nodes
       → part (entryOrderAt s + startOf (blockAt (λ node. node .entries) nodes i) (getD nodes i d .entries)) (length (getD nodes i d .entries)) (numbersOf s nodes numbers)
       ≡ getD nodes i d .entries
@@ -375,18 +277,7 @@ pub length-hashesOf : (s : Shape) (nodes : List Node) (hashes : List ℕ) → le
 unfolding hashesOf
 length-hashesOf s nodes hashes = length-sets hashes (filtersAt s) (joined (λ node. node .filter) nodes)
 
-pub hashes-front : (s : Shape) (nodes : List Node) (hashes : List ℕ) (a n : ℕ) → a + n ≤ filtersAt s
-    → part a n (hashesOf s nodes hashes) ≡ part a n hashes
-unfolding hashesOf
-hashes-front s nodes hashes a n h = part-sets-before a n hashes (filtersAt s) (joined (λ node. node .filter) nodes) h
-
 module _ (s : Shape) (nodes : List Node) (hashes : List ℕ) (four : (node : Node) → List·Memᴰ node nodes → length (node .filter) ≡ 4) where
-  pub hashes-past : (a n : ℕ) → filtersAt s + length nodes * 4 ≤ a → part a n (hashesOf s nodes hashes) ≡ part a n hashes
-  unfolding hashesOf
-  hashes-past a n h =
-      let e = length-blocks (λ node. node .filter) 4 nodes four in
-      part-sets-after a n hashes (filtersAt s) (joined (λ node. node .filter) nodes) (omega arith)
-
   pub filter-read : length nodes ≤ s .nodes → hashesSize s ≤ length hashes → (i : ℕ) (d : Node) → i < length nodes
       → part (filtersAt s + i * 4) 4 (hashesOf s nodes hashes) ≡ getD nodes i d .filter
   unfolding hashesOf
@@ -405,24 +296,6 @@ length-floatsOf s nodes centres floats =
     length-sets (sets floats (centroidsAt s) (joined (λ node. node .centroid) nodes)) (centresAt s) centres
     ∙ length-sets floats (centroidsAt s) (joined (λ node. node .centroid) nodes)
 
--- the vectors are as they were
-front-le : (d v i : ℕ) → i < v → i * d + d ≤ d * v
-front-le d v i h = let a = suc-mul i d in let b = mul-le-mul-right d h in let c = mul-comm v d in omega arith
-
-centroids-le : (d v m : ℕ) → d * v ≤ d * (v + m)
-centroids-le d v m = let e = mul-add d v m in omega arith
-
-module _ (s : Shape) (nodes : List Node) (centres floats : List Float) where
-  pub floats-front : (a n : ℕ) → a + n ≤ centroidsAt s → part a n (floatsOf s nodes centres floats) ≡ part a n floats
-  unfolding floatsOf
-  floats-front a n h =
-      let e = centroids-le (s .dimension) (s .vectors) (s .nodes) in
-      part-sets-before a n (sets floats (centroidsAt s) (joined (λ node. node .centroid) nodes)) (centresAt s) centres (omega arith)
-      ∙ part-sets-before a n floats (centroidsAt s) (joined (λ node. node .centroid) nodes) h
-
-  pub vector-read : (i : ℕ) → i < s .vectors → vectorAt (s .dimension) (floatsOf s nodes centres floats) i ≡ vectorAt (s .dimension) floats i
-  vector-read i h = floats-front (i * s .dimension) (s .dimension) (front-le (s .dimension) (s .vectors) i h)
-
 module _ (s : Shape) (nodes : List Node) (centres floats : List Float) (wide : (node : Node) → List·Memᴰ node nodes → length (node .centroid) ≡ s .dimension)
     (fit : length nodes ≤ s .nodes) where
   -- the centroids end before the centres begin
@@ -433,21 +306,6 @@ module _ (s : Shape) (nodes : List Node) (centres floats : List Float) (wide : (
       let b = mul-comm (s .nodes) (s .dimension) in
       let c = mul-add (s .dimension) (s .vectors) (s .nodes) in
       omega arith
-
-  pub floats-past-centroids : (a n : ℕ) → centroidsAt s + length nodes * s .dimension ≤ a → a + n ≤ centresAt s
-      → part a n (floatsOf s nodes centres floats) ≡ part a n floats
-  unfolding floatsOf
-  floats-past-centroids a n h g =
-      let e = length-blocks (λ node. node .centroid) (s .dimension) nodes wide in
-      part-sets-before a n (sets floats (centroidsAt s) (joined (λ node. node .centroid) nodes)) (centresAt s) centres g
-      ∙ part-sets-after a n floats (centroidsAt s) (joined (λ node. node .centroid) nodes) (omega arith)
-
-  pub floats-past-centres : (a n : ℕ) → centresAt s + length centres ≤ a → part a n (floatsOf s nodes centres floats) ≡ part a n floats
-  unfolding floatsOf
-  floats-past-centres a n h =
-      let e = centroids-end in
-      part-sets-after a n (sets floats (centroidsAt s) (joined (λ node. node .centroid) nodes)) (centresAt s) centres h
-      ∙ part-sets-after a n floats (centroidsAt s) (joined (λ node. node .centroid) nodes) (omega arith)
 
   pub floats-centroids : floatsSize s ≤ length floats
       → part (centroidsAt s) (length (joined (λ node. node .centroid) nodes)) (floatsOf s nodes centres floats) ≡ joined (λ node. node .centroid) nodes

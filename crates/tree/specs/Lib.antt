@@ -10,5 +10,4 @@ pub mod Subtrees
 pub mod Steps
 pub mod Links
 pub mod LayoutLaws
-pub mod LeafEntries
 pub mod StepTrials

@@ -105,16 +105,6 @@ module _ (s : Splitting) (vectors : List (List Float)) (e : Entries) where
         ∙ ap (λ (r : List ℕ). linked (i ∷ roots (i + size tree) rest) r (linkUp (i + (size tree + sizes rest)) cs))
         (sym (joined-append (λ node. node .children) (nodesFrom s vectors e i tree) (forestNodes s vectors e (i + size tree) rest)))
 
-  -- Linking up a tree's nodes, with others after them: the tree's root is on the stack, and the links are the children, node by node.
-  pub stack-tree : (i : ℕ) (t : Tree) (cs : List ℕ) → linkUp i (childCounts t ++ cs) .stack ≡ i ∷ linkUp (i + size t) cs .stack
-  unfolding linked
-  stack-tree i t cs = ap (λ (r : Linked). r .stack) (linkUp-tree i t cs)
-
-  pub links-tree : (i : ℕ) (t : Tree) (cs : List ℕ)
-      → linkUp i (childCounts t ++ cs) .links ≡ joined (λ node. node .children) (nodesFrom s vectors e i t) ++ linkUp (i + size t) cs .links
-  unfolding linked
-  links-tree i t cs = ap (λ (r : Linked). r .links) (linkUp-tree i t cs)
-
   -- the counts are those of the nodes
   pub counts-nodesFrom : (i : ℕ) (t : Tree) → map (λ node. length (node .children)) (nodesFrom s vectors e i t) ≡ childCounts t
   unfolding rootNode

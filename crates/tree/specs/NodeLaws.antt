@@ -2,20 +2,20 @@
 use Prim.Native.Nat.{ℕ, zero, suc, _+_, _-_, _*_, _≤_, _<_}
 use mathlib.Core.Path.{_≡_, refl, sym, ap, ap₂, _∙_}
 use mathlib.Core.Logic.{_⊎_, inl, inr}
-use mathlib.Core.Bool.{Bool, true, false, _&&_, _||_}
+use mathlib.Core.Bool.{Bool, true, false, _||_}
 use mathlib.Core.List.{List, [], _∷_, _++_, map, append-nil, append-assoc, map-map, List·Memᴰ, List·Memᴰ·not-nil, List·Memᴰ·cases-cons, List·Memᴰ·head, List·Memᴰ·tail, Memᴰ·map}
 use native.Mathlib.Nat.{not-suc-le-zero, le-of-suc-le-suc}
 use native.Mathlib.Omega.{arith}
 use lib.Ieee.{Float}
 use lib.ListN.{length, getD, length-append}
 use Rattle.lists.specs.Lists.{keep, joined, countFrom, isIn}
-use Rattle.lists.specs.Counting.{getD-Memᴰ, isIn-append, isIn-keep, isIn-countFrom, Memᴰ-countFrom, countFrom-cons, countFrom-append, length-countFrom, keep-nil, keep-pass, keep-fail, keep-congr, keep-all, keep-none, isIn-nil, Memᴰ-keep, joined-append, joined-Memᴰ}
+use Rattle.lists.specs.Counting.{getD-Memᴰ, isIn-append, isIn-countFrom, Memᴰ-countFrom, countFrom-cons, countFrom-append, length-countFrom, keep-nil, keep-pass, keep-fail, keep-congr, keep-all, keep-none, isIn-nil, Memᴰ-keep, joined-append, joined-Memᴰ}
 use Rattle.lists.specs.Partition.{List·Permᴰ, List·Permᴰ·nil, List·Permᴰ·cons, List·Permᴰ·trans, Permᴰ·symm, Permᴰ·middle, Permᴰ·append-right, List·Permᴰ·append-comm, perm-of-eq, perm-append, perm-length, perm-isIn, perm-Memᴰ, count, isIn-count, Memᴰ-count, count-append}
 use Rattle.bloom.specs.Filter.{emptyFilter, insertAll, mayContain, union, unionAll}
 use Rattle.bloom.specs.FilterLaws.{insertAll-split, insertAll-four, mayContain-all, union-assoc, union-comm, union-self, union-empty, union-empty-right, union-four}
-use Rattle.tree.specs.Tree.{Tree, Forest, leaf, inner, none, more, Splitting, groups, treeOf, size, sizes}
+use Rattle.tree.specs.Tree.{Tree, Forest, leaf, inner, none, more, Splitting, treeOf, size, sizes}
 use Rattle.tree.specs.Nodes.{Entries, Node, nodesFrom, forestNodes, nodesOf, roots, entriesOf, filterOf}
-use Rattle.tree.specs.TreeLaws.{of-both, keptIds, leafIds, forestIds, Fair, AllFair, perm-leafIds, Once, once-left, once-right, once-perm, once-countFrom, once-treeOf, perm-treeOf, perm-groups, size-some, size-treeOf}
+use Rattle.tree.specs.TreeLaws.{of-both, keptIds, leafIds, forestIds, Fair, AllFair, perm-leafIds, Once, once-left, once-right, once-perm, once-countFrom, once-treeOf, perm-treeOf, size-some, size-treeOf}
 
 -- ---- how many nodes, and their ids
 
@@ -65,10 +65,6 @@ module _ (s : Splitting) (vectors : List (List Float)) (e : Entries) where
       let r = Memᴰ-countFrom id 0 (length vectors) (perm-Memᴰ (perm-ids b) (joined-Memᴰ (λ node. node .ids) id m n)) in omega (arith, r .1)
 
 -- ---- entries
-
-and-true : (b : Bool) → (b && true) ≡ b
-and-true true = refl
-and-true false = refl
 
 -- what passes one of two tests that nothing passes both
 pub keep-or {ℓ} : {A : Type ℓ} (p q : A → Bool) (l : List A) → ((x : A) → List·Memᴰ x l → p x ≡ true → q x ≡ true → ⊥)
@@ -143,13 +139,6 @@ module _ (e : Entries) where
   entry-below ids x m =
       let r = Memᴰ-countFrom x 0 (length (e .owners)) (Memᴰ-keep (λ number. isIn (getD (e .owners) number 0) ids) x (countFrom 0 (length (e .owners))) m .1) in
       omega (arith, r .1)
-
-  pub entry-owner : (ids : List ℕ) (x : ℕ) → x < length (e .owners) → isIn x (entriesOf e ids) ≡ isIn (getD (e .owners) x 0) ids
-  unfolding entriesOf
-  entry-owner ids x h =
-      isIn-keep (λ number. isIn (getD (e .owners) number 0) ids) x (countFrom 0 (length (e .owners)))
-      ∙ ap (λ (b : Bool). isIn (getD (e .owners) x 0) ids && b) (isIn-countFrom x 0 (length (e .owners)) (omega arith) (omega arith))
-      ∙ and-true (isIn (getD (e .owners) x 0) ids)
 
   -- the ids count as a bag
   pub entriesOf-perm : (xs ys : List ℕ) → List·Permᴰ xs ys → entriesOf e xs ≡ entriesOf e ys
@@ -234,14 +223,6 @@ module _ (s : Splitting) (vectors : List (List Float)) (e : Entries) where
       one-list x (λ node. node .ids) (nodesOf s vectors e) i j d
       (once-perm (joined (λ node. node .ids) (nodesOf s vectors e)) (countFrom 0 (length vectors)) (perm-ids s vectors e b)
       (once-countFrom 0 (length vectors)) x)
-
-  pub entry-one-leaf : 1 ≤ s .branching → ((k : ℕ) → k < length (e .owners) → getD (e .owners) k 0 < length vectors) → (x i j : ℕ) (d : Node)
-      → i < length (nodesOf s vectors e) → j < length (nodesOf s vectors e) → List·Memᴰ x (getD (nodesOf s vectors e) i d .entries)
-      → List·Memᴰ x (getD (nodesOf s vectors e) j d .entries) → i ≡ j
-  entry-one-leaf b h x i j d =
-      one-list x (λ node. node .entries) (nodesOf s vectors e) i j d
-      (once-perm (joined (λ node. node .entries) (nodesOf s vectors e)) (countFrom 0 (length (e .owners))) (perm-entries b h)
-      (once-countFrom 0 (length (e .owners))) x)
 
 -- ---- filters
 
@@ -359,10 +340,6 @@ unfolding Fair
 filterOf-children e ids children h =
     filterOf-parts e ids (map keptIds (treesOf children)) (List·Permᴰ·trans (perm-children-ids children (h .1)) (h .0))
     ∙ ap (unionAll emptyFilter) (map-map (filterOf e) keptIds (treesOf children))
-
-pub filterOf-groups : (s : Splitting) (vectors : List (List Float)) (e : Entries) (ids : List ℕ) → 1 ≤ s .branching
-    → filterOf e ids ≡ unionAll emptyFilter (map (filterOf e) (groups s vectors ids))
-filterOf-groups s vectors e ids b = filterOf-parts e ids (groups s vectors ids) (perm-groups s vectors ids b)
 
 -- ---- children's numbers
 

@@ -1,25 +1,25 @@
 -- The tree made node by node, in the order of the numbers. A group waits to become a node: its ids, and how many more levels may be split.
 -- The nodes of a group and of those that wait behind it are the group's node and then those of its children's groups and of the rest.
 use Prim.Native.Nat.{ℕ, zero, suc, _≤_}
-use mathlib.Core.Path.{_≡_, refl, sym, ap, ap₂, subst, _∙_}
+use mathlib.Core.Path.{_≡_, refl, sym, ap, ap₂, _∙_}
 use mathlib.Core.Logic.{_⊎_, inl, inr}
-use mathlib.Core.Bool.{Bool, true, false, cond, _||_, or-true, or-false, false≢true}
-use mathlib.Core.List.{List, [], _∷_, _++_, map, map-append, append-nil, List·Memᴰ, List·Memᴰ·not-nil, Memᴰ·of-map}
+use mathlib.Core.Bool.{Bool, true, false, cond, false≢true}
+use mathlib.Core.List.{List, [], _∷_, _++_, map, map-append, append-nil}
 use native.Mathlib.Omega.{arith}
-use borrow.Author.Tests.{leb-true, leb-false, ne-eqb}
-use lib.Dec.{leb, eqb}
+use borrow.Author.Tests.{leb-true, leb-false}
+use lib.Dec.{leb}
 use lib.Ieee.{Float}
 use lib.ListN.{length, length-append, length-map}
 use Rattle.lists.specs.Lists.{joined, countFrom}
 use Rattle.lists.specs.Counting.{joined-append, joined-map}
 use Rattle.lists.specs.Tests.{which}
-use Rattle.lists.specs.Partition.{List·Permᴰ, List·Permᴰ·trans, perm-of-eq, perm-joined}
+use Rattle.lists.specs.Partition.{List·Permᴰ, List·Permᴰ·trans, perm-of-eq}
 use Rattle.cluster.specs.Clusters.{clusters, meanOf}
 use Rattle.cluster.specs.ClustersLaws.{perm-clusters}
 use Rattle.tree.specs.Tree.{Tree, Forest, leaf, inner, none, more, Splitting, groups, forestOf, grow, treeOf, size}
-use Rattle.tree.specs.Nodes.{Entries, Node, nodesOf, filterOf}
-use Rattle.tree.specs.TreeLaws.{of-both, kept-grow, leafIds, forestIds, perm-grow, grow-zero, grow-leaf, grow-inner, joined-groups, group-some}
-use Rattle.tree.specs.NodeLaws.{treesOf, length-roots, ids-nodesFrom, length-nodesOf}
+use Rattle.tree.specs.Nodes.{Entries, Node, nodesOf}
+use Rattle.tree.specs.TreeLaws.{kept-grow, grow-zero, grow-leaf, grow-inner, joined-groups}
+use Rattle.tree.specs.NodeLaws.{treesOf, length-roots}
 use Rattle.tree.specs.Subtrees.{subs, forestSubs, length-subs, childrenOf, ownIds, rootNode, numbered, map-numbered, nodes-numbered}
 
 -- A group of ids that waits to become a node, and how many more levels may be split: 16 at the root.
@@ -68,27 +68,6 @@ module _ (s : Splitting) (vectors : List (List Float)) where
   pub childGroups-split : (g : Group) → isLeaf s (g .levels) (g .ids) ≡ false → childGroups s vectors g ≡ split s vectors (g .levels) (g .ids)
   unfolding childGroups
   childGroups-split g h = ap (λ (b : Bool). cond b [] (split s vectors (g .levels) (g .ids))) h
-
-  -- the test as the code makes it
-  pub isLeaf-test : (levels : ℕ) (ids : List ℕ) → isLeaf s levels ids ≡ (leb (length ids) (s .leaf-size) || eqb levels 0)
-  unfolding isLeaf
-  isLeaf-test zero ids = sym (or-true (leb (length ids) (s .leaf-size)))
-  isLeaf-test (suc levels) ids = sym (ap (λ (b : Bool). leb (length ids) (s .leaf-size) || b) (ne-eqb (suc levels) 0 (λ e. omega arith)) ∙ or-false (leb (length ids) (s .leaf-size)))
-
-  -- children's groups have ids, and one level fewer
-  split-group : (levels : ℕ) (ids : List ℕ) (child : Group) → List·Memᴰ child (split s vectors levels ids)
-      → (1 ≤ length (child .ids)) × (suc (child .levels) ≡ levels)
-  unfolding split
-  split-group zero ids child m = absurd (List·Memᴰ·not-nil m)
-  split-group (suc levels) ids child m =
-      let r = Memᴰ·of-map (λ group. record { levels = levels; ids = group }) (groups s vectors ids) m in
-      subst (λ (c : Group). (1 ≤ length (c .ids)) × (suc (c .levels) ≡ suc levels)) (r .2) (group-some s vectors ids (r .0) (r .1), refl)
-
-  pub child-group : (g child : Group) → List·Memᴰ child (childGroups s vectors g) → (1 ≤ length (child .ids)) × (suc (child .levels) ≡ g .levels)
-  unfolding childGroups
-  child-group g child =
-      of-both (λ l. List·Memᴰ child l → (1 ≤ length (child .ids)) × (suc (child .levels) ≡ g .levels)) (isLeaf s (g .levels) (g .ids)) []
-      (split s vectors (g .levels) (g .ids)) (λ m. absurd (List·Memᴰ·not-nil m)) (split-group (g .levels) (g .ids) child)
 
   -- ---- the law of the loop
 
@@ -186,11 +165,6 @@ module _ (s : Splitting) (vectors : List (List Float)) where
   treesOf-grown [] = refl
   treesOf-grown (g ∷ rest) = ap (λ (r : List Tree). grown s vectors g ∷ r) (treesOf-grown rest)
 
-  ids-grown : (l : List Group) → forestIds (forestGrown l) ≡ joined (λ g. leafIds (grown s vectors g)) l
-  unfolding forestGrown forestIds joined
-  ids-grown [] = refl
-  ids-grown (g ∷ rest) = ap (λ (r : List ℕ). leafIds (grown s vectors g) ++ r) (ids-grown rest)
-
   forestOf-grown : (levels : ℕ) (l : List (List ℕ))
       → forestOf (grow s vectors levels) l ≡ forestGrown (map (λ group. record { levels = levels; ids = group }) l)
   unfolding forestOf forestGrown
@@ -235,34 +209,6 @@ module _ (s : Splitting) (vectors : List (List Float)) where
       go (inr h) = ap (λ (t : Tree). treesOf (childrenOf t)) (grown-inner g h) ∙ treesOf-grown (childGroups s vectors g)
 
   -- ---- the leaf order
-
-  -- the ids of the leaves, left to right, while a list of groups waits
-  unfoldable pub leafOrder : List Group → List ℕ
-  unfolding joined leafIds grow
-  leafOrder waiting = joined (λ g. leafIds (grown s vectors g)) waiting
-
-  pub leafOrder-none : leafOrder [] ≡ []
-  unfolding leafOrder
-  leafOrder-none = refl
-
-  -- a leaf's ids come off the front; a split keeps the order of the leaves
-  pub leafOrder-leaf : (g : Group) (rest : List Group) → isLeaf s (g .levels) (g .ids) ≡ true → leafOrder (g ∷ rest) ≡ g .ids ++ leafOrder rest
-  unfolding leafOrder joined leafIds
-  leafOrder-leaf g rest h = ap (λ (t : Tree). leafIds t ++ leafOrder rest) (grown-leaf g h)
-
-  pub leafOrder-split : (g : Group) (rest : List Group) → isLeaf s (g .levels) (g .ids) ≡ false
-      → leafOrder (g ∷ rest) ≡ leafOrder (childGroups s vectors g ++ rest)
-  unfolding leafOrder joined leafIds
-  leafOrder-split g rest h =
-      ap (λ (t : Tree). leafIds t ++ leafOrder rest) (grown-inner g h)
-      ∙ ap (λ (l : List ℕ). l ++ leafOrder rest) (ids-grown (childGroups s vectors g))
-      ∙ sym (joined-append (λ g. leafIds (grown s vectors g)) (childGroups s vectors g) rest)
-
-  -- the ids that wait are, as a bag, those of the leaves to come
-  pub leafOrder-perm : 1 ≤ s .branching → (waiting : List Group) → List·Permᴰ (leafOrder waiting) (joined (λ g. g .ids) waiting)
-  unfolding leafOrder
-  leafOrder-perm b waiting =
-      perm-joined (λ g. leafIds (grown s vectors g)) (λ g. g .ids) waiting (λ g m. perm-grow s vectors b (g .levels) (g .ids))
 
   -- A split puts the clusters, in order, in the group's place.
   pub split-ids : (g : Group) → isLeaf s (g .levels) (g .ids) ≡ false
@@ -324,17 +270,3 @@ module _ (s : Splitting) (vectors : List (List Float)) (e : Entries) where
   made-centroids =
       map-made (λ node. node .centroid) (λ g. meanOf (s .dimension) vectors (g .ids))
       (λ k g. ap (meanOf (s .dimension) vectors) (kept-grow s vectors (g .levels) (g .ids)))
-
-  pub made-filters : map (λ node. node .filter) (nodesOf s vectors e) ≡ map (λ g. filterOf e (g .ids)) (made s vectors (rootGroup s vectors ∷ []))
-  unfolding rootNode
-  made-filters =
-      map-made (λ node. node .filter) (λ g. filterOf e (g .ids)) (λ k g. ap (filterOf e) (kept-grow s vectors (g .levels) (g .ids)))
-
-  -- the leaf order of the whole tree
-  pub leafOrder-nodes : joined (λ node. node .ids) (nodesOf s vectors e) ≡ leafOrder s vectors (rootGroup s vectors ∷ [])
-  unfolding nodesOf treeOf leafOrder joined
-  leafOrder-nodes = ids-nodesFrom s vectors e 0 (treeOf s vectors) ∙ sym (append-nil (leafIds (treeOf s vectors)))
-
-  pub length-nodes-made : length (nodesOf s vectors e) ≡ length (made s vectors (rootGroup s vectors ∷ []))
-  unfolding treeOf
-  length-nodes-made = length-nodesOf s vectors e ∙ sym (length-made s vectors (rootGroup s vectors))

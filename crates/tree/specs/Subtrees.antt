@@ -8,19 +8,19 @@ use mathlib.Core.List.{List, [], _∷_, _++_, map, map-map, append-nil, append-a
 use native.Mathlib.Nat.{zero-add, add-zero, not-suc-le-zero, le-of-suc-le-suc}
 use native.Mathlib.Omega.{arith}
 use borrow.Author.Tests.{ltb-true, ltb-false}
-use lib.Dec.{leb, ltb}
+use lib.Dec.{ltb}
 use lib.Ieee.{Float}
-use lib.ListN.{length, getD, take, drop, length-append, length-drop, List·getD-append}
-use lib.Seq.{drop-append-le, drop-append-add, drop-append-seam, take-append-seam, getD-append-add, getD-drop, drop-drop}
+use lib.ListN.{length, getD, drop, length-append, length-drop, List·getD-append}
+use lib.Seq.{drop-append-le, drop-append-add, drop-append-seam, getD-append-add, getD-drop, drop-drop}
 use Rattle.lists.specs.Maps.{map-on}
-use Rattle.lists.specs.Lists.{part, joined}
-use Rattle.lists.specs.Counting.{getD-Memᴰ, joined-cons, joined-append, joined-map, joined-joined}
+use Rattle.lists.specs.Lists.{joined}
+use Rattle.lists.specs.Counting.{getD-Memᴰ, joined-append}
 use Rattle.lists.specs.Tests.{which}
 use Rattle.bloom.specs.Filter.{emptyFilter, insertAll, unionAll}
 use Rattle.cluster.specs.Clusters.{meanOf}
-use Rattle.tree.specs.Tree.{Tree, Forest, leaf, inner, none, more, Splitting, groups, forestOf, grow, treeOf, size, sizes}
+use Rattle.tree.specs.Tree.{Tree, Forest, leaf, inner, none, more, Splitting, treeOf, size, sizes}
 use Rattle.tree.specs.Nodes.{Entries, Node, nodesFrom, forestNodes, nodesOf, roots, entriesOf, filterOf}
-use Rattle.tree.specs.TreeLaws.{of-both, keptIds, leafIds, forestIds, Fair, AllFair}
+use Rattle.tree.specs.TreeLaws.{keptIds, leafIds, forestIds, Fair, AllFair}
 use Rattle.cluster.specs.ClustersLaws.{length-meanOf}
 use Rattle.tree.specs.NodeLaws.{entriesOf-nil, length-filterOf, filterOf-nil, treesOf, filterOf-children, root-range}
 
@@ -93,11 +93,6 @@ module _ {ℓ κ} {A : Type ℓ} {B : Type κ} where
       let e : suc i + length xs ≡ i + suc (length xs) = omega arith in
       ap (λ (r : List B). f i x ∷ r) (numbered-append f (suc i) xs ys ∙ ap (λ (n : ℕ). numbered f (suc i) xs ++ numbered f n ys) e)
 
-  pub length-numbered : (f : ℕ → A → B) (i : ℕ) (l : List A) → length (numbered f i l) ≡ length l
-  unfolding numbered
-  length-numbered f i [] = refl
-  length-numbered f i (x ∷ xs) = ap suc (length-numbered f (suc i) xs)
-
   pub getD-numbered : (f : ℕ → A → B) (i : ℕ) (l : List A) (k : ℕ) (d : B) (d′ : A) → k < length l → getD (numbered f i l) k d ≡ f (i + k) (getD l k d′)
   unfolding numbered
   getD-numbered f i [] k d d′ h = absurd (not-suc-le-zero h)
@@ -123,25 +118,6 @@ module _ {ℓ κ} {A : Type ℓ} {B : Type κ} where
   unfolding numbered
   map-numbered g h f i [] q = refl
   map-numbered g h f i (x ∷ xs) q = ap₂ _∷_ (q i x) (map-numbered g h f (suc i) xs q)
-
-pub joined-numbered : {A B C : Type 0} (g : B → List C) (h : A → List C) (f : ℕ → A → B) (i : ℕ) (l : List A) → ((k : ℕ) (x : A) → g (f k x) ≡ h x)
-    → joined g (numbered f i l) ≡ joined h l
-unfolding numbered joined
-joined-numbered g h f i [] q = refl
-joined-numbered {C = C} g h f i (x ∷ xs) q = ap₂ (λ (a b : List C). a ++ b) (q i x) (joined-numbered g h f (suc i) xs q)
-
-pub drop-numbered : {A B : Type 0} (f : ℕ → A → B) (i : ℕ) (l : List A) (k : ℕ) → drop k (numbered f i l) ≡ numbered f (i + k) (drop k l)
-unfolding numbered
-drop-numbered f i l zero = ap (λ (n : ℕ). numbered f n l) (sym (add-zero i))
-drop-numbered f i [] (suc k) = refl
-drop-numbered f i (x ∷ xs) (suc k) =
-    let e : suc i + k ≡ i + suc k = omega arith in drop-numbered f (suc i) xs k ∙ ap (λ (n : ℕ). numbered f n (drop k xs)) e
-
-pub take-numbered : {A B : Type 0} (f : ℕ → A → B) (i : ℕ) (l : List A) (k : ℕ) → take k (numbered f i l) ≡ numbered f i (take k l)
-unfolding numbered
-take-numbered f i l zero = refl
-take-numbered f i [] (suc k) = refl
-take-numbered {B = B} f i (x ∷ xs) (suc k) = ap (λ (r : List B). f i x ∷ r) (take-numbered f (suc i) xs k)
 
 module _ (s : Splitting) (vectors : List (List Float)) (e : Entries) where
   innerNode : ℕ → List ℕ → Forest → List ℕ → Node
@@ -193,11 +169,6 @@ module _ (s : Splitting) (vectors : List (List Float)) (e : Entries) where
   unfolding nodesOf
   getD-nodesOf = node-at (treeOf s vectors)
 
-  -- what the nodes give one after another, whatever their numbers, their subtrees give
-  pub joined-nodes : {A : Type 0} (f : Node → List A) (g : Tree → List A) (i : ℕ) (t : Tree)
-      → ((k : ℕ) (sub : Tree) → f (rootNode s vectors e k sub) ≡ g sub) → joined f (nodesFrom s vectors e i t) ≡ joined g (subs t)
-  joined-nodes f g i t h = ap (joined f) (nodes-numbered i t) ∙ joined-numbered f g (rootNode s vectors e) i (subs t) h
-
   -- what holds of the root of each subtree, whatever its number, holds of each node
   pub every-node {μ} : (P : Node → Type μ) (i : ℕ) (t : Tree) → ((k : ℕ) (sub : Tree) → List·Memᴰ sub (subs t) → P (rootNode s vectors e k sub))
       → (node : Node) → List·Memᴰ node (nodesFrom s vectors e i t) → P node
@@ -248,15 +219,6 @@ mutual
   forest-begins (more tree rest) i d h =
       begins-either (subs tree) (forestSubs rest) i d (subst (λ (n : ℕ). i < n) (length-append (subs tree) (forestSubs rest)) h)
       (λ k g. sub-begins tree k d g) (λ k g. forest-begins rest k d g)
-
--- Each subtree occupies the numbers from its own to its own plus its size.
-pub sub-part : (t : Tree) (i : ℕ) (d : Tree) → i < size t → part i (size (getD (subs t) i d)) (subs t) ≡ subs (getD (subs t) i d)
-sub-part t i d h =
-    let b = sub-begins t i d (rw length-subs h) in
-    let sub = getD (subs t) i d in
-    ap (λ (l : List Tree). take (size sub) l) (b .1)
-    ∙ ap (λ (n : ℕ). take n (subs sub ++ b .0)) (sym (length-subs sub))
-    ∙ take-append-seam (subs sub) (b .0)
 
 pub sub-end : (t : Tree) (i : ℕ) (d : Tree) → i < size t → i + size (getD (subs t) i d) ≤ size t
 sub-end t i d h =
@@ -341,30 +303,6 @@ children-tile t i d h T end next =
 
 -- ---- what is gathered below a node
 
-pub forestSubs-joined : (f : Forest) → forestSubs f ≡ joined subs (treesOf f)
-unfolding forestSubs treesOf joined
-forestSubs-joined none = refl
-forestSubs-joined (more tree rest) = ap (λ (r : List Tree). subs tree ++ r) (forestSubs-joined rest)
-
--- What is gathered from a tree is what its root gives and what is gathered from its children.
-pub subs-joined : {A : Type 0} (g : Tree → List A) (t : Tree)
-    → joined g (subs t) ≡ g t ++ joined (λ child. joined g (subs child)) (treesOf (childrenOf t))
-subs-joined {A} g t =
-    ap (joined g) (subs-cons t)
-    ∙ joined-cons g t (forestSubs (childrenOf t))
-    ∙ ap (λ (r : List A). g t ++ r) (ap (joined g) (forestSubs-joined (childrenOf t)) ∙ joined-joined g subs (treesOf (childrenOf t)))
-
--- the same by numbers
-pub below-at : {A : Type 0} (g : Tree → List A) (t : Tree) (i : ℕ) (d : Tree) → i < size t
-    → joined g (subs (getD (subs t) i d))
-    ≡ g (getD (subs t) i d) ++ joined (λ c. joined g (subs (getD (subs t) c d))) (roots (suc i) (childrenOf (getD (subs t) i d)))
-below-at {A} g t i d h =
-    let sub = getD (subs t) i d in
-    subs-joined g sub
-    ∙ ap (λ (r : List A). g sub ++ r)
-    (ap (joined (λ child. joined g (subs child))) (sym (subs-children t i d h))
-    ∙ joined-map (λ child. joined g (subs child)) (λ c. getD (subs t) c d) (roots (suc i) (childrenOf sub)))
-
 -- the ids below a node are those that are laid out at and below it
 mutual
   unfolding leafIds forestIds subs forestSubs ownIds joined
@@ -402,61 +340,9 @@ mutual
   fair-forest (more tree rest) sub h m =
       fair-either (subs tree) (forestSubs rest) sub (List·Memᴰ·append-cases (subs tree) m) (λ n. fair-sub tree sub (h .0) n) (λ n. fair-forest rest sub (h .1) n)
 
--- Every subtree of a grown tree is grown, with no more levels left, from some ids: so the leaf rule holds at every node.
-pub record Grown (s : Splitting) (vectors : List (List Float)) (levels : ℕ) (t : Tree) : Type 0 where
-  pub left : ℕ
-  pub from : List ℕ
-  pub fewer : left ≤ levels
-  pub is : t ≡ grow s vectors left from
-
-module _ (s : Splitting) (vectors : List (List Float)) where
-  in-forest : (f : List ℕ → Tree) (l : List (List ℕ)) (sub : Tree) → List·Memᴰ sub (forestSubs (forestOf f l)) → (ids : List ℕ) × List·Memᴰ sub (subs (f ids))
-  unfolding forestOf forestSubs
-  in-forest f [] sub m = absurd (List·Memᴰ·not-nil m)
-  in-forest f (ids ∷ l) sub m = go (List·Memᴰ·append-cases (subs (f ids)) m) (in-forest f l sub)
-    where
-      go : List·Memᴰ sub (subs (f ids)) ⊎ List·Memᴰ sub (forestSubs (forestOf f l))
-          → (List·Memᴰ sub (forestSubs (forestOf f l)) → (ids : List ℕ) × List·Memᴰ sub (subs (f ids))) → (ids : List ℕ) × List·Memᴰ sub (subs (f ids))
-      go (inl n) later = (ids, n)
-      go (inr n) later = later n
-
-  cases : (t sub : Tree) → List·Memᴰ sub (subs t) → (sub ≡ t) ⊎ List·Memᴰ sub (forestSubs (childrenOf t))
-  cases t sub m = List·Memᴰ·cases-cons (subst (λ (l : List Tree). List·Memᴰ sub l) (subs-cons t) m)
-
-  step : (levels : ℕ) (ids : List ℕ) (sub : Tree) → (sub ≡ grow s vectors levels ids) ⊎ List·Memᴰ sub (forestSubs (childrenOf (grow s vectors levels ids)))
-      → (List·Memᴰ sub (forestSubs (childrenOf (grow s vectors levels ids))) → Grown s vectors levels sub) → Grown s vectors levels sub
-  step levels ids sub (inl q) later = record { left = levels; from = ids; fewer = omega arith; is = q }
-  step levels ids sub (inr m) later = later m
-
-  deeper : (levels : ℕ) (sub : Tree) → Grown s vectors levels sub → Grown s vectors (suc levels) sub
-  deeper levels sub g = let h = g .fewer in record { left = g .left; from = g .from; fewer = omega arith; is = g .is }
-
-  pub sub-grown : (levels : ℕ) (ids : List ℕ) (sub : Tree) → List·Memᴰ sub (subs (grow s vectors levels ids)) → Grown s vectors levels sub
-  unfolding grow childrenOf forestSubs
-  sub-grown zero ids sub m = step zero ids sub (cases (grow s vectors zero ids) sub m) (λ n. absurd (List·Memᴰ·not-nil n))
-  sub-grown (suc levels) ids sub m =
-      step (suc levels) ids sub (cases (grow s vectors (suc levels) ids) sub m)
-      (of-both (λ t. List·Memᴰ sub (forestSubs (childrenOf t)) → Grown s vectors (suc levels) sub) (leb (length ids) (s .leaf-size)) (leaf ids)
-      (inner ids (forestOf (grow s vectors levels) (groups s vectors ids))) (λ n. absurd (List·Memᴰ·not-nil n))
-      (λ n.
-      let r = in-forest (grow s vectors levels) (groups s vectors ids) sub n in
-      deeper levels sub (sub-grown levels (r .0) sub (r .1))))
-
 -- ---- nodes: what holds of each
 
 module _ (s : Splitting) (vectors : List (List Float)) (e : Entries) where
-  -- the nodes of a subtree are those of its interval
-  pub nodes-part : (t : Tree) (k : ℕ) (d : Tree) → k < size t
-      → part k (size (getD (subs t) k d)) (nodesFrom s vectors e 0 t) ≡ nodesFrom s vectors e k (getD (subs t) k d)
-  nodes-part t k d h =
-      let sub = getD (subs t) k d in
-      let f = rootNode s vectors e in
-      ap (λ (l : List Node). part k (size sub) l) (nodes-numbered s vectors e 0 t)
-      ∙ ap (λ (l : List Node). take (size sub) l) (drop-numbered f 0 (subs t) k)
-      ∙ take-numbered f (0 + k) (drop k (subs t)) (size sub)
-      ∙ ap₂ (λ (n : ℕ) (l : List Tree). numbered f n l) (zero-add k) (sub-part t k d h)
-      ∙ sym (nodes-numbered s vectors e k sub)
-
   -- the entries of a node are those whose owner is among its ids
   pub node-entries : (i : ℕ) (t : Tree) (node : Node) → List·Memᴰ node (nodesFrom s vectors e i t) → node .entries ≡ entriesOf e (node .ids)
   unfolding rootNode

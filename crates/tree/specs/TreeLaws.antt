@@ -14,7 +14,7 @@ use lib.Dec.{leb, ltb}
 use lib.Ieee.{Float}
 use lib.ListN.{length, length-append}
 use Rattle.lists.specs.Lists.{joined, countFrom}
-use Rattle.lists.specs.Counting.{Memᴰ-keep, length-countFrom, sumOf}
+use Rattle.lists.specs.Counting.{Memᴰ-keep, length-countFrom}
 use Rattle.lists.specs.Partition.{List·Permᴰ, List·Permᴰ·nil, List·Permᴰ·trans, Permᴰ·refl, perm-of-eq, perm-append, perm-length, joined-keep, count, perm-count, count-append, count-countFrom, count-countFrom-not}
 use Rattle.cluster.specs.Clusters.{clusters}
 use Rattle.cluster.specs.ClustersLaws.{perm-clusters}
@@ -95,27 +95,12 @@ groups-le s vectors ids b =
     let e = perm-length (perm-groups s vectors ids b) in
     omega arith
 
--- a node that is split has a child
-pub groups-some : (s : Splitting) (vectors : List (List Float)) (ids : List ℕ) → 1 ≤ s .branching → 1 ≤ length ids
-    → 1 ≤ length (groups s vectors ids)
-unfolding joined
-groups-some s vectors ids b h = go (groups s vectors ids) (perm-length (perm-groups s vectors ids b))
-  where
-    go : (l : List (List ℕ)) → length (joined (λ group. group) l) ≡ length ids → 1 ≤ length l
-    go [] e = absurd (omega (arith, e, h))
-    go (x ∷ l) e = omega arith
-
 -- ---- how many nodes there are
 
 pub size-some : (t : Tree) → 1 ≤ size t
 unfolding size
 size-some (leaf ids) = omega arith
 size-some (inner ids children) = omega arith
-
-pub sizes-forestOf : (f : List ℕ → Tree) (l : List (List ℕ)) → sizes (forestOf f l) ≡ sumOf (λ ids. size (f ids)) l
-unfolding forestOf sizes sumOf
-sizes-forestOf f [] = refl
-sizes-forestOf f (ids ∷ l) = ap (λ (n : ℕ). size (f ids) + n) (sizes-forestOf f l)
 
 -- with a bound on each tree by its ids
 sizes-bound : (levels : ℕ) (f : List ℕ → Tree) → ((ids : List ℕ) → size (f ids) ≤ 1 + levels * length ids) → (l : List (List ℕ))

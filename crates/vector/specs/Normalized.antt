@@ -3,14 +3,9 @@ use mathlib.Core.Path.{_≡_, refl, ap, _∙_}
 use mathlib.Core.List.{List}
 use lib.ListN.{length}
 use lib.Ieee.{Float}
-use Rattle.vector.specs.Vector.{dot, Norm, dividedBy, Normalized}
+use Rattle.vector.specs.Vector.{dot, dividedBy, Normalized}
 use Rattle.vector.specs.VectorLaws.{dot-fits, length-dividedBy}
 use Rattle.square_root.specs.RootForms.{rootOf, rootOf-root, root-is}
-
--- the norm
-pub norm-is : (v : List Float) (n : Float) → Norm v n → n ≡ rootOf (dot v v)
-unfolding Norm
-norm-is v n h = root-is (dot v v) n (dot-fits v v) h
 
 -- the vector as it is stored
 unfoldable pub normalized : List Float → List Float

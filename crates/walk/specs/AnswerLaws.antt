@@ -1,37 +1,19 @@
 -- Laws of the answer: with different documents nothing is dropped; a larger budget never makes an answer worse. Assumes nothing.
-use Prim.Native.Nat.{ℕ, suc, _+_, _/_, _^_, _≤_, _<_}
+use Prim.Native.Nat.{ℕ, _/_, _^_, _≤_, _<_}
 use native.Mathlib.Omega.{arith}
 use mathlib.Core.Path.{_≡_, refl, sym, ap, _∙_, subst}
-use mathlib.Core.Logic.{_⊎_, inl, inr}
-use mathlib.Core.Bool.{Bool, true, false, cond, false≢true}
+use mathlib.Core.Bool.{Bool, cond, false≢true}
 use mathlib.Core.List.{List, [], _∷_, _++_, map, map-append}
-use lib.Dec.{eqb}
-use lib.Ieee.{Float}
 use lib.ListN.{length, getD, take}
-use borrow.Author.Tests.{eqb-true, eqb-false, eq-eqb, ne-eqb}
+use borrow.Author.Tests.{eq-eqb, ne-eqb}
 use Rattle.lists.specs.Lists.{isIn}
 use Rattle.lists.specs.Counting.{isIn-here, keep-all}
-use Rattle.lists.specs.Tests.{which}
 use Rattle.lists.specs.Partition.{List·Permᴰ, Permᴰ·map, count, count-append, perm-count}
 use Rattle.record_queue.specs.Sorted.{sort, NoLater}
-use Rattle.record_queue.specs.SortedLaws.{sort-perm, length-sort, no-later-sort, no-later-take, no-later-at}
-use Rattle.total_order.specs.TotalOrder.{keyOf, ofKey}
+use Rattle.record_queue.specs.SortedLaws.{sort-perm, no-later-sort, no-later-take, no-later-at}
 use Rattle.walk.specs.Walk.{Progress}
 use Rattle.walk.specs.WalkLaws.{Different, different-head, different-tail}
-use Rattle.walk.specs.Answer.{hitOf, documentOf, distanceOf, dropAfter, dropRepeats, listed, everyHit, ranked}
-
--- ---- what a hit holds
-
-pub document-of : (distance : Float) (document vector : ℕ) → document < 2 ^ 32 → vector < 2 ^ 32 → documentOf (hitOf distance document vector) ≡ document
-document-of distance document vector d v = omega arith
-
-pub key-of : (distance : Float) (document vector : ℕ) → document < 2 ^ 32 → vector < 2 ^ 32 → hitOf distance document vector / 2 ^ 64 ≡ keyOf distance
-key-of distance document vector d v = omega arith
-
-pub distance-of : (distance : Float) (document vector : ℕ) → document < 2 ^ 32 → vector < 2 ^ 32 → ofKey (keyOf distance) ≡ distance
-    → distanceOf (hitOf distance document vector) ≡ distance
-unfolding distanceOf
-distance-of distance document vector d v e = ap ofKey (key-of distance document vector d v) ∙ e
+use Rattle.walk.specs.Answer.{documentOf, dropAfter, dropRepeats, listed, everyHit, ranked}
 
 -- ---- repeats
 
@@ -90,23 +72,6 @@ different-part f more xs d x =
 
 pub ranked-all : (p : Progress) → Different (map documentOf (p .found)) → ranked p ≡ sort (p .found)
 ranked-all p d = ranked-is p ∙ repeats-none (sort (p .found)) (different-perm documentOf (p .found) (sort (p .found)) (sort-perm (p .found)) d)
-
--- no more are ranked than were found
-drop-fewer : (document : ℕ) (l : List ℕ) → length (dropAfter document l) ≤ length l
-drop-fewer document [] = omega (arith, ap length (drop-nil document))
-drop-fewer document (hit ∷ rest) = go (which (eqb (documentOf hit) document)) (drop-fewer document rest) (drop-fewer (documentOf hit) rest)
-  where
-    go : (eqb (documentOf hit) document ≡ true) ⊎ (eqb (documentOf hit) document ≡ false) → length (dropAfter document rest) ≤ length rest
-        → length (dropAfter (documentOf hit) rest) ≤ length rest → length (dropAfter document (hit ∷ rest)) ≤ suc (length rest)
-    go (inl e) a b = omega (arith, a, ap length (drop-same document hit rest (eqb-true (documentOf hit) document e)))
-    go (inr e) a b = omega (arith, b, ap length (drop-other document hit rest (eqb-false (documentOf hit) document e)))
-
-repeats-fewer : (l : List ℕ) → length (dropRepeats l) ≤ length l
-repeats-fewer [] = omega (arith, ap length repeats-nil)
-repeats-fewer (hit ∷ rest) = omega (arith, ap length (repeats-cons hit rest), drop-fewer (documentOf hit) rest)
-
-pub length-ranked : (p : Progress) → length (ranked p) ≤ length (p .found)
-length-ranked p = omega (arith, ap length (ranked-is p), repeats-fewer (sort (p .found)), length-sort (p .found))
 
 -- ---- larger budgets
 

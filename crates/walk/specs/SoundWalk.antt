@@ -16,7 +16,7 @@ use Rattle.lists.specs.Tests.{which, either}
 use Rattle.lists.specs.Partition.{List·Permᴰ, Permᴰ·symm, hit, count, hit-same, hit-other, count-nil, count-cons, perm-sumOf, perm-Memᴰ, count-perm, Memᴰ-count}
 use Rattle.record_queue.specs.Sorted.{insert, sort}
 use Rattle.record_queue.specs.SortedLaws.{le-or-lt, sort-to-perm, perm-sort}
-use Rattle.walk.specs.Walk.{Shown, children, hits, damage, View, waitingNode, nodeNumber, Progress, State, damaged, going, pushAll, give, shown, step, walkFrom, walk, none, whole}
+use Rattle.walk.specs.Walk.{Shown, children, hits, damage, View, waitingNode, nodeNumber, Progress, State, going, pushAll, give, shown, step, walkFrom, walk, none, whole}
 use Rattle.walk.specs.WalkLaws.{openedOne, pushedOne, withHits, startProgress, pushAll-nil, pushAll-fresh, give-children, give-hits, step-none, step-open, walk-zero, walk-suc, walk-is, numbersOf, number-of, numbers-insert, none-waiting, nil-waiting, opened-cut}
 
 -- 1 for a number from `from` up to `to`, 0 for others
@@ -125,10 +125,6 @@ tiled-inside size x from to (c ∷ cs) s t =
         omega (arith, r, n, m, between-in from to x (let t : from ≤ x = omega arith in t) last)))
 
 -- ---- the walk's account
-
--- what the nodes of a list have due below them, by any function of hits
-abbrev dueAt : (ℕ → List ℕ) → (ℕ → ℕ) → ℕ → ℕ
-dueAt below f n = sumOf f (below n)
 
 -- Of a progress, with children `rest` that are still to be pushed: what was found with what is due below the nodes that wait, or will, is what is due in
 -- all; the nodes opened with the sizes of those are at most the tree's; every number is pushed, or to be pushed, or strictly below such a node at most

@@ -11,13 +11,13 @@ use mathlib.Core.List.{List, [], _∷_, _++_, map, append-assoc, List·Memᴰ, L
 use lib.Dec.{leb, eqb}
 use lib.ListN.{length, length-append}
 use borrow.Author.Tests.{leb-true, leb-false, le-leb, lt-leb, eqb-true, eqb-false, not-true}
-use Rattle.lists.specs.Lists.{keep, joined, isIn}
-use Rattle.lists.specs.Counting.{isIn-nil, isIn-Memᴰ, keep-nil, keep-pass, keep-fail, Memᴰ-keep, length-keep-not, joined-nil, joined-cons, joined-Memᴰ}
+use Rattle.lists.specs.Lists.{keep, isIn}
+use Rattle.lists.specs.Counting.{isIn-nil, isIn-Memᴰ, keep-nil, keep-pass, keep-fail, Memᴰ-keep, length-keep-not}
 use Rattle.lists.specs.Tests.{which, either}
-use Rattle.lists.specs.Partition.{List·Permᴰ, Permᴰ·map, hit, count, hit-same, hit-other, count-nil, count-cons, count-append, perm-count, count-perm, count-not-in, Memᴰ-count, count-Memᴰ, count-keep-fail, count-keep-pass}
+use Rattle.lists.specs.Partition.{List·Permᴰ, Permᴰ·map, hit, count, hit-same, hit-other, count-nil, count-cons, perm-count, count-not-in, Memᴰ-count, count-Memᴰ, count-keep-fail, count-keep-pass}
 use Rattle.record_queue.specs.Sorted.{insert}
 use Rattle.record_queue.specs.SortedLaws.{insert-perm}
-use Rattle.walk.specs.Walk.{Shown, children, hits, damage, View, waitingNode, nodeNumber, Progress, State, damaged, going, pushOne, pushAll, addHits, give, shown, open′, step, walkFrom, start, walk, none, whole}
+use Rattle.walk.specs.Walk.{Shown, children, hits, damage, View, waitingNode, nodeNumber, Progress, State, damaged, going, pushOne, pushAll, addHits, give, shown, open′, step, walkFrom, walk, none, whole}
 
 -- ---- the definitions, case by case
 
@@ -234,20 +234,6 @@ module _ (view : View) where
       d (going p)
       (record { opened = grows-refl (p .opened); found = grows-refl (p .found); pushed = grows-refl (p .pushed) }))
 
-  -- The walk of a larger budget is undamaged only if that of a smaller one is, whose opened nodes and hits are then a beginning of its own
-  -- (the last stand first)
-  pub smaller-first : (b d : ℕ) (q : Progress) → walk view (b + d) ≡ going q → (p : Progress) × (walk view b ≡ going p) × Later p q
-  smaller-first b d q e =
-      go (walk view b) refl
-      (ap (walkFrom view d) (walk-is view b) ∙ sym (walk-more view b d (going (startProgress view))) ∙ sym (walk-is view (b + d)) ∙ e)
-    where
-      go : (s : State) → walk view b ≡ s → walkFrom view d (walk view b) ≡ going q → (p : Progress) × (walk view b ≡ going p) × Later p q
-      go damaged f g = absurd (differ (sym (damaged-stays view d) ∙ ap (walkFrom view d) (sym f) ∙ g))
-        where
-          differ : damaged ≡ going q → ⊥
-          differ w = let z : _≡_ {A = ℕ} 0 1 = cc in omega arith
-      go (going p) f g = (p, f, later p d q (ap (walkFrom view d) (sym f) ∙ g))
-
   -- what both walks found and opened
   pub larger-later : (b d : ℕ) (p q : Progress) → walk view b ≡ going p → walk view (b + d) ≡ going q → Later p q
   larger-later b d p q e f =
@@ -351,11 +337,6 @@ module _ (view : View) where
       go (least ∷ rest) e f =
           subst (Holds (Budget (suc b) p)) (sym (walk-suc view b (going p) ∙ ap (walkFrom view b) (step-open view p least rest e)))
           (more least rest e f (give view (shown view (nodeNumber least)) (openedOne least rest p)) (give-gave (shown view (nodeNumber least)) (openedOne least rest p)))
-
-  pub opened-budget : (b : ℕ) (p : Progress) → walk view b ≡ going p → length (p .opened) ≤ b
-  opened-budget b p e =
-      let h : length (p .opened) ≤ b + 0 = holds-at (Budget b (startProgress view)) (walkFrom view b (going (startProgress view))) p (sym (walk-is view b) ∙ e) (budget b (startProgress view)) .most in
-      omega arith
 
   pub opened-cut : (b : ℕ) (p : Progress) → walk view b ≡ going p → whole p ≡ false → length (p .opened) ≡ b
   opened-cut b p e w =
@@ -491,92 +472,6 @@ module _ (view : View) (n : ℕ) (fits : n ≤ 2 ^ 64) (children-below : Childre
 
   pub once : 0 < n → (b : ℕ) (p : Progress) → walk view b ≡ going p → Once n p
   once pos b p e = kept-walk view (Once n) once-kept (once-start pos) b p e
-
-  -- Opened nodes are different numbers
-  pub opened-different : 0 < n → (b : ℕ) (p : Progress) → walk view b ≡ going p → Different (p .opened)
-  opened-different pos b p e x = let o = once pos b p e in omega (arith, o .different x, o .counted x)
-
-  -- They are below the node count, so at most as many
-  pub opened-below : 0 < n → (b : ℕ) (p : Progress) → walk view b ≡ going p → (x : ℕ) → List·Memᴰ x (p .opened) → x < n
-  opened-below pos b p e x m =
-      let o = once pos b p e in
-      let some : 0 < count x (p .opened) = Memᴰ-count m in
-      o .below x (count-Memᴰ x (p .pushed) (let t : 0 < count x (p .pushed) = omega (arith, o .counted x, some) in t))
-
-  pub opened-most : 0 < n → (b : ℕ) (p : Progress) → walk view b ≡ going p → length (p .opened) ≤ n
-  opened-most pos b p e = different-below n (p .opened) (opened-different pos b p e) (opened-below pos b p e)
-
-  -- Where none waits, the nodes opened are the nodes pushed
-  pub whole-opened : 0 < n → (b : ℕ) (p : Progress) → walk view b ≡ going p → whole p ≡ true → List·Permᴰ (p .opened) (p .pushed)
-  whole-opened pos b p e w =
-      let o = once pos b p e in
-      let nothing : p .waiting ≡ [] = none-waiting (p .waiting) w in
-      count-perm (p .opened) (p .pushed)
-      (λ x. omega (arith, o .counted x, ap (λ (l : List ℕ). count x (numbersOf l)) nothing, count-nil x))
-
--- ---- whole walks
-
--- What is pushed are the root and the children that the opened nodes show; the hits are those that the opened nodes show
-pub record Traced (view : View) (p : Progress) : Type 0 where
-  pub pushed : (x : ℕ) → count x (p .pushed) ≡ hit x 0 + count x (joined (λ i. childrenOf (shown view i)) (p .opened))
-  pub found : p .found ≡ joined (λ i. hitsOf (shown view i)) (p .opened)
-  pub sound : (i : ℕ) → List·Memᴰ i (p .opened) → shown view i ≡ damage → ⊥
-
-module _ (view : View) where
-  pub traced : (b : ℕ) (p : Progress) → walk view b ≡ going p → Traced view p
-  traced b p e =
-      holds-at (Traced view) (walk view b) p e
-      (subst (Holds (Traced view)) (sym (walk-is view b)) (stepped view (Traced view) opens b (going (startProgress view)) begins))
-    where
-      begins : Traced view (startProgress view)
-      begins = record {
-        pushed = λ x. omega (arith, count-cons x 0 [], count-nil x, ap (count x) (joined-nil (λ i. childrenOf (shown view i))));
-        found = sym (joined-nil (λ i. hitsOf (shown view i)));
-        sound = λ i m. absurd (List·Memᴰ·not-nil m);
-      }
-
-      opens : Stepped view (Traced view)
-      opens q least rest w h =
-          let i = nodeNumber least in
-          holds-map
-          (λ r g. record {
-            pushed = λ x. omega (
-              arith,
-              g .pushed x,
-              h .pushed x,
-              ap (λ (o : List ℕ). count x (joined (λ j. childrenOf (shown view j)) o)) (g .opened),
-              ap (count x) (joined-cons (λ j. childrenOf (shown view j)) i (q .opened)),
-              count-append x (childrenOf (shown view i)) (joined (λ j. childrenOf (shown view j)) (q .opened)),
-            );
-            found = g .found ∙ ap (λ (l : List ℕ). hitsOf (shown view i) ++ l) (h .found) ∙ sym (joined-cons (λ j. hitsOf (shown view j)) i (q .opened))
-                ∙ ap (joined (λ j. hitsOf (shown view j))) (sym (g .opened));
-            sound = λ j m d. either (List·Memᴰ·cases-cons (subst (List·Memᴰ j) (g .opened) m))
-                (λ same. g .sound (ap (shown view) (sym same) ∙ d)) (λ k. h .sound j k d);
-          })
-          (give view (shown view i) (openedOne least rest q)) (give-gave view (shown view i) (openedOne least rest q))
-
-  -- the nodes that are reached from the root through shown children; a denied node shows none
-  pub data Reached : ℕ → Type 0 where
-    root : Reached 0
-    child : {i c : ℕ} (numbers : List ℕ) → Reached i → shown view i ≡ children numbers → List·Memᴰ c numbers → Reached c
-
-module _ (view : View) (n : ℕ) (fits : n ≤ 2 ^ 64) (children-below : ChildrenBelow view n) (some-nodes : 0 < n) where
-  pushed-opened : (b : ℕ) (p : Progress) → walk view b ≡ going p → whole p ≡ true → (x : ℕ) → 0 < count x (p .pushed) → List·Memᴰ x (p .opened)
-  pushed-opened b p e w x k =
-      count-Memᴰ x (p .opened)
-      (omega (arith, k, perm-count x (p .opened) (p .pushed) (whole-opened view n fits children-below some-nodes b p e w)))
-
-  shown-opened : (b : ℕ) (p : Progress) → walk view b ≡ going p → whole p ≡ true → (i x : ℕ) (numbers : List ℕ) → List·Memᴰ i (p .opened)
-      → shown view i ≡ children numbers → List·Memᴰ x numbers → List·Memᴰ x (p .opened)
-  shown-opened b p e w i x numbers o s m =
-      let there : List·Memᴰ x (childrenOf (shown view i)) = subst (λ (sh : Shown). List·Memᴰ x (childrenOf sh)) (sym s) m in
-      let some : 0 < count x (joined (λ j. childrenOf (shown view j)) (p .opened)) = Memᴰ-count (joined-Memᴰ (λ j. childrenOf (shown view j)) x o there) in
-      pushed-opened b p e w x (omega (arith, some, traced view b p e .pushed x))
-
-  -- A walk that ends with none waiting has opened every node that is reached (each once, by `opened-different`)
-  pub whole-reached : (b : ℕ) (p : Progress) → walk view b ≡ going p → whole p ≡ true → (i : ℕ) → Reached view i → List·Memᴰ i (p .opened)
-  whole-reached b p e w i root = pushed-opened b p e w 0 (omega (arith, traced view b p e .pushed 0, hit-same 0 0 refl))
-  whole-reached b p e w i (child {i = j} {c = c} numbers r s m) = shown-opened b p e w j c numbers (whole-reached b p e w j r) s m
 
 -- ---- equal views
 
