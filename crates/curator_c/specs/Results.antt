@@ -18,7 +18,7 @@ use Rattle.settings.specs.declared.refusal.Refusal.{Refusal}
 use Rattle.settings.specs.declared.refusal.Refusal.the-variants as Refusal′
 use Rattle.settings.specs.declared.refusal.StateRefusal.the-variants.{InvalidState}
 use Rattle.curator.specs.Outcome.{changedNumber, foundNumber, foundValues, ChangeRefused}
-use Rattle.curator.specs.Changes.{created, Adds, Builds}
+use Rattle.curator.specs.Changes.{Creates, Adds, Builds}
 use Rattle.curator.specs.Arguments.{AddCall, SearchCall}
 use Rattle.curator.specs.Searches.{SearchEnd, Untouched, Searches}
 use Rattle.curator_c.specs.declared.state.Held.{Held}
@@ -47,9 +47,10 @@ storable state (Changed′.Index index) = cond (ltb (length state) places) (Chan
 storable state (Changed′.Refused r) = Changed′.Refused r
 
 -- the whole result of `curator_new`: 1, 2, then 4 where the list cannot hold a state
-unfoldable pub NewResult : ℕ → CuratorParams → Capacities → List ℕ → ℕ → List ℕ → Type 0
-unfolding storable created
-NewResult dimension params capacities state returned state′ = Returns (storable state (created dimension params capacities)) state returned state′
+pub record NewResult (dimension : ℕ) (params : CuratorParams) (capacities : Capacities) (state : List ℕ) (returned : ℕ) (state′ : List ℕ) : Type 0 where
+  pub answer : Changed
+  pub creates : Creates dimension params capacities answer
+  pub returns : Returns (storable state answer) state returned state′
 
 -- an add to the state that a list holds
 unfoldable pub AddsIn : Held → Store → AddCall → Changed → Store → Type 0

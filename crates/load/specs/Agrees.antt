@@ -33,8 +33,8 @@ use Rattle.settings.specs.declared.refusal.SettingsRefusal.the-variants.{Invali
 use Rattle.settings.specs.declared.refusal.InputRefusal.the-variants.{SettingsOrder}
 use Rattle.curator.specs.Outcome.{changedNumber}
 use Rattle.settings.specs.Refusals.{number, checkNumber}
-use Rattle.curator.specs.RowLaws.{number-positive, is-created}
-use Rattle.curator.specs.Changes.{created}
+use Rattle.curator.specs.RowLaws.{number-positive, creates-is}
+use Rattle.curator.specs.Changes.{Creates}
 use Rattle.curator.specs.Arguments.{AddCall, SearchCall, Asked, everything, labelled}
 use Rattle.curator.specs.Searches.{Searches}
 use Rattle.runs.specs.Calls.{Change, add, build, change, search, Alike}
@@ -90,20 +90,20 @@ change-whole s allowed m index lent z work work′ store′ what answer inv by =
 -- ---- settings
 
 open-by : (b : Bool) (index : CuratorIndex) (d : ℕ) (params : CuratorParams) (next : ℕ) (c : Carried) (lent : step.Lent)
-    → created d params capacities ≡ Changed′.Index index
+    → Creates d params capacities (Changed′.Index index)
     → c ≡ cond b (Refused (Settings InvalidConfig)) (Silent (Running index) next)
     → Agrees (cond b (stops (refusedText (Settings InvalidConfig))) (printed [] (running (record { dimension = d; params = params; capacities = capacities }) emptyModel))) next c lent
 open-by true index d params next c lent e k = (Settings InvalidConfig, k, refl)
 open-by false index d params next c lent e k =
     let s : Setting = record { dimension = d; params = params; capacities = capacities } in
-    let accepted = created-is s index (is-created d params capacities (Changed′.Index index) (sym e)) in (
+    let accepted = created-is s index e in (
       Running index,
       (λ n. ap (λ (x : Carried). stepOf x n) k),
       ap (λ (x : Carried). carriedText x (lent .ids) (lent .distances)) k,
       (accepted .1, begins s index (lent .store) (accepted .0)),
     )
 
-open-agrees : (answer : Changed) (d : ℕ) (params : CuratorParams) (next : ℕ) (c : Carried) (lent : step.Lent) → created d params capacities ≡ answer
+open-agrees : (answer : Changed) (d : ℕ) (params : CuratorParams) (next : ℕ) (c : Carried) (lent : step.Lent) → Creates d params capacities answer
     → c ≡ openedBy answer d next → Agrees (opened answer d params) next c lent
 unfolding opened
 open-agrees (Changed′.Refused r) d params next c lent e k = (r, k, refl)
@@ -262,7 +262,10 @@ pub record-agrees : (progress : Progress) (loading : Loading) (r : Record) (next
     → Stands progress loading (lent .store) → CarriesOut loading r next lent c lent′ → Agrees (carried progress r) next c lent′
 unfolding carried
 record-agrees unset Unset (settings d b l e w) next lent c lent′ z h out =
-    open-agrees (created d (file.paramsOf b l e w) capacities) d (file.paramsOf b l e w) next c lent′ refl (out .0)
+    let params = file.paramsOf b l e w in
+    let o = out .0 in
+    subst (λ (answer : Changed). Agrees (opened answer d params) next c lent′) (creates-is d params capacities (o .answer) (o .creates))
+    (open-agrees (o .answer) d params next c lent′ (o .creates) (o .comes))
 record-agrees unset Unset (vector document labels patterns) next lent c lent′ z h out = (Input SettingsOrder, out .0, refl)
 record-agrees unset Unset (filtered k label patterns) next lent c lent′ z h out = (Input SettingsOrder, out .0, refl)
 record-agrees unset Unset (unfiltered k patterns) next lent c lent′ z h out = (Input SettingsOrder, out .0, refl)

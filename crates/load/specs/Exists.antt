@@ -13,11 +13,13 @@ use lib.Seq.{sets, length-sets, length-take-le, drop-drop, drop-append-seam}
 use Rattle.lists.specs.Lists.{joined}
 use Rattle.store.specs.Store.{Store, workSize}
 use Rattle.store.specs.Lent.{lengthsOf, sizesOf}
+use Rattle.settings.specs.declared.CuratorParams.{CuratorParams}
 use Rattle.curator.specs.declared.CuratorIndex.{CuratorIndex}
 use Rattle.curator.specs.declared.Changed.{Changed}
 use Rattle.curator.specs.declared.Changed.the-variants as Changed′
 use Rattle.settings.specs.declared.refusal.Refusal.the-variants.{Input}
 use Rattle.settings.specs.declared.refusal.InputRefusal.the-variants.{BadRecord, SettingsOrder, FileTooLong}
+use Rattle.curator.specs.RowLaws.{is-created}
 use Rattle.curator.specs.Changes.{created, Builds}
 use Rattle.curator.specs.Arguments.{AddCall, SearchCall, everything, labelled}
 use Rattle.store.specs.Fronts.{zeros}
@@ -36,7 +38,7 @@ use Rattle.load.specs.declared.carry.Carried.the-variants.{End, Refused}
 use Rattle.load.specs.declared.Step.{Step}
 use Rattle.load.specs.declared.Step.the-variants.{Ended, Next}
 use Rattle.load.specs.File.{largest, answerPlaces, capacities, paramsOf, floats, addCall, fileText}
-use Rattle.load.specs.Step.{Lent, known, openedBy, addedBy, foundBy, searchWith, AddsVector, SearchesBuilt, Keeps, CarriesOut, CarriesRead, CarriesAt, Steps, stepOf, textOf}
+use Rattle.load.specs.Step.{Lent, known, openedBy, Opens, addedBy, foundBy, searchWith, AddsVector, SearchesBuilt, Keeps, CarriesOut, CarriesRead, CarriesAt, Steps, stepOf, textOf}
 use Rattle.load.specs.Onward.{Onward, steps-onward}
 use Rattle.load.specs.Theorem.{Sized, Chain, last, more}
 use Rattle.load.specs.Prints.{prints}
@@ -52,6 +54,18 @@ record Outcome (P : Carried → Lent → Type 0) (lent : Lent) : Type 0 where
 
 kept : (lent : Lent) (what : Carried) → Outcome (Keeps lent what) lent
 kept lent what = record { carried = what; lent′ = lent; holds = (refl, refl); lengths = refl }
+
+-- settings that come first
+opened : (dimension : ℕ) (params : CuratorParams) (next : ℕ) (lent : Lent)
+    → Outcome (λ carried lent′. Opens dimension params next carried × (lent′ ≡ lent)) lent
+opened dimension params next lent =
+    let answer = created dimension params capacities in
+    record {
+      carried = openedBy answer dimension next;
+      lent′ = lent;
+      holds = (record { answer = answer; creates = is-created dimension params capacities answer refl; comes = refl }, refl);
+      lengths = refl;
+    }
 
 -- after a build
 built : (index : CuratorIndex) (call : Lent → SearchCall) (next : ℕ) (lent : Lent) (answer : Changed) (store : Store) (work : List ℕ)
@@ -89,7 +103,7 @@ added index call next lent =
     }
 
 carried-out : (loading : Loading) (r : Record) (next : ℕ) (lent : Lent) → Outcome (CarriesOut loading r next lent) lent
-carried-out Unset (settings d b l e w) next lent = kept lent (openedBy (created d (paramsOf b l e w) capacities) d next)
+carried-out Unset (settings d b l e w) next lent = opened d (paramsOf b l e w) next lent
 carried-out Unset (vector document labels patterns) next lent = kept lent (Refused (Input SettingsOrder))
 carried-out Unset (filtered k label patterns) next lent = kept lent (Refused (Input SettingsOrder))
 carried-out Unset (unfiltered k patterns) next lent = kept lent (Refused (Input SettingsOrder))

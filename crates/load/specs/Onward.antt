@@ -14,7 +14,6 @@ use Rattle.curator.specs.declared.Found.the-variants as Found′
 use Rattle.settings.specs.declared.refusal.Refusal.{Refusal}
 use Rattle.settings.specs.declared.refusal.Refusal.the-variants.{Settings}
 use Rattle.settings.specs.declared.refusal.SettingsRefusal.the-variants.{InvalidConfig}
-use Rattle.curator.specs.Changes.{created}
 use Rattle.curator.specs.Arguments.{SearchCall}
 use Rattle.echo_file.specs.Format.{Record, settings, vector, filtered, unfiltered}
 use Rattle.echo_file.specs.Decode.{Decoded, none, found, decode}
@@ -24,7 +23,6 @@ use Rattle.load.specs.declared.carry.Carried.{Carried}
 use Rattle.load.specs.declared.carry.Carried.the-variants.{End, Refused, Silent, Answered}
 use Rattle.load.specs.declared.Step.{Step}
 use Rattle.load.specs.declared.Step.the-variants.{Ended, Next}
-use Rattle.load.specs.File.{capacities, paramsOf}
 use Rattle.load.specs.Step.{Lent, known, openedBy, addedBy, foundBy, SearchesBuilt, AfterBuild, CarriesOut, CarriesRead, CarriesAt, Steps, stepOf, printedOf}
 
 -- the file goes on at a place behind the record, within a file that is not too long
@@ -76,7 +74,7 @@ module _ (file : List ℕ) (at next : ℕ) (short : length file ≤ 65536) (furt
   out-goes : (loading : Loading) (r : Record) (lent : Lent) (carried : Carried) (lent′ : Lent) → CarriesOut loading r next lent carried lent′
       → Goes file at carried
   out-goes Unset (settings d branching leaf-size ef beam) lent carried lent′ h =
-      goes-as file at (h .0) (opened-goes (created d (paramsOf branching leaf-size ef beam) capacities) d)
+      goes-as file at (h .0 .comes) (opened-goes (h .0 .answer) d)
   out-goes Unset (vector document labels patterns) lent carried lent′ h = goes-as file at (h .0) (λ n. tt)
   out-goes Unset (filtered k label patterns) lent carried lent′ h = goes-as file at (h .0) (λ n. tt)
   out-goes Unset (unfiltered k patterns) lent carried lent′ h = goes-as file at (h .0) (λ n. tt)

@@ -7,6 +7,7 @@ use lib.Dec.{ltb, leb}
 use lib.Ieee.{Float}
 use lib.ListN.{length, drop}
 use Rattle.store.specs.Store.{Store}
+use Rattle.settings.specs.declared.CuratorParams.{CuratorParams}
 use Rattle.curator.specs.declared.CuratorIndex.{CuratorIndex}
 use Rattle.curator.specs.declared.Changed.{Changed}
 use Rattle.curator.specs.declared.Changed.the-variants as Changed′
@@ -15,7 +16,7 @@ use Rattle.curator.specs.declared.Found.the-variants as Found′
 use Rattle.settings.specs.declared.refusal.Refusal.the-variants.{Settings, Input}
 use Rattle.settings.specs.declared.refusal.SettingsRefusal.the-variants.{InvalidConfig}
 use Rattle.settings.specs.declared.refusal.InputRefusal.the-variants.{BadRecord, SettingsOrder, FileTooLong}
-use Rattle.curator.specs.Changes.{created, Adds, Builds}
+use Rattle.curator.specs.Changes.{Creates, Adds, Builds}
 use Rattle.curator.specs.Arguments.{AddCall, SearchCall, Asked, everything, labelled}
 use Rattle.curator.specs.Searches.{SearchEnd, Searches}
 use Rattle.echo_file.specs.declared.Known.{Known}
@@ -48,6 +49,11 @@ known (Running index) = record { dimension = index .dimension }
 abbrev pub openedBy : Changed → ℕ → ℕ → Carried
 openedBy (Changed′.Refused r) dimension next = Refused r
 openedBy (Changed′.Index index) dimension next = cond (ltb 16 dimension) (Refused (Settings InvalidConfig)) (Silent (Running index) next)
+
+pub record Opens (dimension : ℕ) (params : CuratorParams) (next : ℕ) (carried : Carried) : Type 0 where
+  pub answer : Changed
+  pub creates : Creates dimension params capacities answer
+  pub comes : carried ≡ openedBy answer dimension next
 
 -- a vector
 abbrev pub addedBy : Changed → ℕ → Carried
@@ -94,7 +100,7 @@ Keeps lent what carried lent′ = (carried ≡ what) × (lent′ ≡ lent)
 -- a complete record, after which the file goes on at a place; 17: 'settings not first, or given again'
 abbrev pub CarriesOut : Loading → Record → ℕ → Lent → Carried → Lent → Type 0
 CarriesOut Unset (settings dimension branching leaf-size ef beam) next lent carried lent′ =
-    Keeps lent (openedBy (created dimension (paramsOf branching leaf-size ef beam) capacities) dimension next) carried lent′
+    Opens dimension (paramsOf branching leaf-size ef beam) next carried × (lent′ ≡ lent)
 CarriesOut Unset (vector document labels patterns) next lent carried lent′ = Keeps lent (Refused (Input SettingsOrder)) carried lent′
 CarriesOut Unset (filtered k label patterns) next lent carried lent′ = Keeps lent (Refused (Input SettingsOrder)) carried lent′
 CarriesOut Unset (unfiltered k patterns) next lent carried lent′ = Keeps lent (Refused (Input SettingsOrder)) carried lent′

@@ -25,11 +25,11 @@ use Rattle.settings.specs.declared.refusal.Refusal.the-variants.{Settings, Inpu
 use Rattle.settings.specs.declared.refusal.SettingsRefusal.the-variants.{InvalidConfig}
 use Rattle.settings.specs.declared.refusal.InputRefusal.the-variants.{BadRecord, SettingsOrder, FileTooLong}
 use Rattle.curator.specs.Rows.{stateRow, searchRows}
-use Rattle.curator.specs.RowLaws.{fine-none, is-created}
+use Rattle.curator.specs.RowLaws.{fine-none}
 use Rattle.curator.specs.Calls.{factsOf}
 use Rattle.store.specs.Lent.{lengthsOf}
 use Rattle.curator.specs.Limits.{stateSound}
-use Rattle.curator.specs.Changes.{Adds, AddsBy, addCheck, Builds, BuildsBy, BuildsFine, buildCheck, created}
+use Rattle.curator.specs.Changes.{Adds, AddsBy, addCheck, Builds, BuildsBy, BuildsFine, buildCheck, Creates}
 use Rattle.curator.specs.Arguments.{AddCall, everything, labelled, SearchCall, askingOf}
 use Rattle.curator.specs.Searches.{SearchEnd, Searches, SearchesBy, searchCheck, WalkedTo}
 use Rattle.runs.specs.State.{created-is}
@@ -139,14 +139,14 @@ pub record Fit (carried : Carried) (lent : Lent) : Type 0 where
 refused-fit : (r : Refusal) (carried : Carried) (lent : Lent) → carried ≡ Refused r → Fit carried lent
 refused-fit r carried lent e = subst (λ (x : Carried). Fit x lent) (sym e) (record { hits = tt; narrow = tt })
 
-opened-fit : (x : Changed) (d : ℕ) (params : CuratorParams) (next : ℕ) (lent : Lent) → created d params capacities ≡ x → Fit (openedBy x d next) lent
+opened-fit : (x : Changed) (d : ℕ) (params : CuratorParams) (next : ℕ) (lent : Lent) → Creates d params capacities x → Fit (openedBy x d next) lent
 opened-fit (Changed′.Refused r) d params next lent e = record { hits = tt; narrow = tt }
 opened-fit (Changed′.Index index) d params next lent e = by (ltb 16 d) refl
   where
     by : (b : Bool) → ltb 16 d ≡ b → Fit (cond b (Refused (Settings InvalidConfig)) (Silent (Running index) next)) lent
     by true w = record { hits = tt; narrow = tt }
     by false w =
-        let is = created-is (record { dimension = d; params = params; capacities = capacities }) index (is-created d params capacities (Changed′.Index index) (sym e)) .0 in
+        let is = created-is (record { dimension = d; params = params; capacities = capacities }) index e .0 in
         let same : index .dimension ≡ d = ap (λ (i : CuratorIndex). i .dimension) is in
         let h = ltb-false 16 d w in
         record { hits = tt; narrow = omega (arith, h, same) }
@@ -177,8 +177,7 @@ out-fit : (loading : Loading) (r : format.Record) (next : ℕ) (lent : Lent) (ca
     → CarriesOut loading r next lent carried lent′ → Fit carried lent′
 unfolding Adds
 out-fit Unset (format.settings d b l e w) next lent carried lent′ n h =
-    subst (λ (x : Carried). Fit x lent′) (sym (h .0))
-    (opened-fit (created d (paramsOf b l e w) capacities) d (paramsOf b l e w) next lent′ refl)
+    subst (λ (x : Carried). Fit x lent′) (sym (h .0 .comes)) (opened-fit (h .0 .answer) d (paramsOf b l e w) next lent′ (h .0 .creates))
 out-fit Unset (format.vector document labels patterns) next lent carried lent′ n h = refused-fit (Input SettingsOrder) carried lent′ (h .0)
 out-fit Unset (format.filtered k label patterns) next lent carried lent′ n h = refused-fit (Input SettingsOrder) carried lent′ (h .0)
 out-fit Unset (format.unfiltered k patterns) next lent carried lent′ n h = refused-fit (Input SettingsOrder) carried lent′ (h .0)
