@@ -55,57 +55,50 @@ fn fill_and_print(ids: &[u32], distances: &[f32], count: usize) {
 // The index with a vector added under a document id; a refused call leaves it.
 fn added(
     index: CuratorIndex,
-    floats: &mut [f32],
-    numbers: &mut [u32],
-    hashes: &mut [u64],
+    floats: &mut [f32; 50],
+    numbers: &mut [u32; 51],
+    hashes: &mut [u64; 24],
     doc_id: u32,
     vector: &[f32],
 ) -> CuratorIndex {
-    let one = [1u8];
-    let changed = index.add(floats, numbers, hashes, doc_id, vector, &one, b"a");
+    let changed = index.add(floats, numbers, hashes, doc_id, vector, &[1], b"a");
     match changed {
         Changed::Index(next) => next,
         Changed::Refused(refusal) => index,
     }
 }
 
-// The records of the nearest four of three echoes, of 1 and 0, 0 and 2, and 3 and 4, to the first.
-fn records_of_a_search(fresh: CuratorIndex) {
-    let mut floats = [0.0f32; 50];
-    let mut numbers = [0u32; 51];
-    let mut hashes = [0u64; 24];
-    let mut work = [0u32; 27];
+// Three echoes are added, of 1 and 0, 0 and 2, and 3 and 4, and the index is built.
+fn three_built(
+    fresh: CuratorIndex,
+    floats: &mut [f32; 50],
+    numbers: &mut [u32; 51],
+    hashes: &mut [u64; 24],
+    work: &mut [u32; 27],
+) -> Changed {
+    let one = added(fresh, floats, numbers, hashes, 7, &[1.0, 0.0]);
+    let two = added(one, floats, numbers, hashes, 8, &[0.0, 2.0]);
+    let three = added(two, floats, numbers, hashes, 9, &[3.0, 4.0]);
+    build::build(three, floats, numbers, hashes, work)
+}
+
+// The records of the four nearest to 1 and 0.
+fn print_nearest(
+    built: CuratorIndex,
+    floats: &[f32; 50],
+    numbers: &[u32; 51],
+    hashes: &[u64; 24],
+    work: &mut [u32; 27],
+) {
     let mut ids = [0u32; 4];
     let mut distances = [0.0f32; 4];
-    let query = [1.0f32, 0.0];
-    let one = added(fresh, &mut floats, &mut numbers, &mut hashes, 7, &query);
-    let two = added(
-        one,
-        &mut floats,
-        &mut numbers,
-        &mut hashes,
-        8,
-        &[0.0f32, 2.0],
-    );
-    let three = added(
-        two,
-        &mut floats,
-        &mut numbers,
-        &mut hashes,
-        9,
-        &[3.0f32, 4.0],
-    );
-    let changed = build::build(three, &mut floats, &mut numbers, &mut hashes, &mut work);
-    let Changed::Index(built) = changed else {
-        return;
-    };
     let found = search::search(
         built,
-        &floats,
-        &numbers,
-        &hashes,
-        &mut work,
-        &query,
+        floats,
+        numbers,
+        hashes,
+        work,
+        &[1.0, 0.0],
         4,
         &mut ids,
         &mut distances,
@@ -119,6 +112,18 @@ fn records_of_a_search(fresh: CuratorIndex) {
         } => fill_and_print(&ids, &distances, count),
     }
     fill_and_print(&ids, &distances, 5);
+}
+
+fn records_of_a_search(fresh: CuratorIndex) {
+    let mut floats = [0.0f32; 50];
+    let mut numbers = [0u32; 51];
+    let mut hashes = [0u64; 24];
+    let mut work = [0u32; 27];
+    let changed = three_built(fresh, &mut floats, &mut numbers, &mut hashes, &mut work);
+    let Changed::Index(built) = changed else {
+        return;
+    };
+    print_nearest(built, &floats, &numbers, &hashes, &mut work);
 }
 
 fn main() {

@@ -64,15 +64,13 @@ struct Damage {
     second_value: u32,
 }
 
-fn overwrite(numbers: &mut [u32], place: usize, value: u32) {
-    if place < numbers.len() {
+fn overwrite(numbers: &mut [u32; 51], place: usize, value: u32) {
+    if place < 51 {
         numbers[place] = value;
     }
 }
 
-// The worked example with damage: V 4, E 4, M 5, so owners stand at 4, the leaf order of vectors at 8, six numbers per node at 12, child links at 42 and the
-// leaf order of entries at 47. Nodes 0 and 2 are inner, 1, 3 and 4 hold the vectors 0, 1 and 2.
-fn example(ef_search: usize, filtered: bool, label: &[u8], damage: Damage) {
+fn fresh_index(ef_search: usize) -> Changed {
     let params = CuratorParams {
         branching_factor: 2,
         max_leaf_size: 1,
@@ -84,7 +82,86 @@ fn example(ef_search: usize, filtered: bool, label: &[u8], damage: Damage) {
         entries: 4,
         nodes: 5,
     };
-    let made = CuratorIndex::new(2, params, capacities);
+    CuratorIndex::new(2, params, capacities)
+}
+
+// The index with one echo more, which has a label of one byte.
+fn added(
+    index: CuratorIndex,
+    floats: &mut [f32; 22],
+    numbers: &mut [u32; 51],
+    hashes: &mut [u64; 24],
+    doc_id: u32,
+    vector: &[f32],
+    label: &[u8],
+) -> CuratorIndex {
+    kept(
+        index,
+        index.add(floats, numbers, hashes, doc_id, vector, &[1], label),
+    )
+}
+
+// The three echoes of the example, built.
+fn example_index(
+    fresh: CuratorIndex,
+    floats: &mut [f32; 22],
+    numbers: &mut [u32; 51],
+    hashes: &mut [u64; 24],
+    work: &mut [u32; 27],
+) -> CuratorIndex {
+    let index = added(fresh, floats, numbers, hashes, 7, &[1.0, 0.0], b"a");
+    let index = added(index, floats, numbers, hashes, 8, &[0.0, 2.0], b"b");
+    let index = added(index, floats, numbers, hashes, 9, &[3.0, 4.0], b"a");
+    kept(index, build::build(index, floats, numbers, hashes, work))
+}
+
+// The four nearest to (1, 0): those with a label, or all.
+fn look_up(
+    index: CuratorIndex,
+    floats: &[f32; 22],
+    numbers: &[u32; 51],
+    hashes: &[u64; 24],
+    work: &mut [u32; 27],
+    filtered: bool,
+    label: &[u8],
+) {
+    let query = [1.0f32, 0.0];
+    let mut ids = [0u32; 4];
+    let mut distances = [0.0f32; 4];
+    let found: Found;
+    if filtered {
+        found = search::search_filtered(
+            index,
+            floats,
+            numbers,
+            hashes,
+            work,
+            &query,
+            label,
+            4,
+            &mut ids,
+            &mut distances,
+        );
+    } else {
+        found = search::search(
+            index,
+            floats,
+            numbers,
+            hashes,
+            work,
+            &query,
+            4,
+            &mut ids,
+            &mut distances,
+        );
+    }
+    print_found(found, &ids, &distances);
+}
+
+// The worked example with damage: V 4, E 4, M 5, so owners stand at 4, the leaf order of vectors at 8, six numbers per node at 12, child links at 42 and the
+// leaf order of entries at 47. Nodes 0 and 2 are inner, 1, 3 and 4 hold the vectors 0, 1 and 2.
+fn example(ef_search: usize, filtered: bool, label: &[u8], damage: Damage) {
+    let made = fresh_index(ef_search);
     let Changed::Index(fresh) = made else {
         io::write_all(STDOUT_FILENO, b"refused by new\n");
         return;
@@ -93,82 +170,18 @@ fn example(ef_search: usize, filtered: bool, label: &[u8], damage: Damage) {
     let mut numbers = [0u32; 51];
     let mut hashes = [0u64; 24];
     let mut work = [0u32; 27];
-    let mut ids = [0u32; 4];
-    let mut distances = [0.0f32; 4];
-    let one = [1u8];
-    let first = [1.0f32, 0.0];
-    let second = [0.0f32, 2.0];
-    let third = [3.0f32, 4.0];
-    let index = kept(
-        fresh,
-        fresh.add(
-            &mut floats,
-            &mut numbers,
-            &mut hashes,
-            7,
-            &first,
-            &one,
-            b"a",
-        ),
-    );
-    let index = kept(
-        index,
-        index.add(
-            &mut floats,
-            &mut numbers,
-            &mut hashes,
-            8,
-            &second,
-            &one,
-            b"b",
-        ),
-    );
-    let index = kept(
-        index,
-        index.add(
-            &mut floats,
-            &mut numbers,
-            &mut hashes,
-            9,
-            &third,
-            &one,
-            b"a",
-        ),
-    );
-    let index = kept(
-        index,
-        build::build(index, &mut floats, &mut numbers, &mut hashes, &mut work),
-    );
+    let index = example_index(fresh, &mut floats, &mut numbers, &mut hashes, &mut work);
     overwrite(&mut numbers, damage.first, damage.first_value);
     overwrite(&mut numbers, damage.second, damage.second_value);
-    if filtered {
-        let found = search::search_filtered(
-            index,
-            &floats,
-            &numbers,
-            &hashes,
-            &mut work,
-            &first,
-            label,
-            4,
-            &mut ids,
-            &mut distances,
-        );
-        print_found(found, &ids, &distances);
-    } else {
-        let found = search::search(
-            index,
-            &floats,
-            &numbers,
-            &hashes,
-            &mut work,
-            &first,
-            4,
-            &mut ids,
-            &mut distances,
-        );
-        print_found(found, &ids, &distances);
-    }
+    look_up(
+        index,
+        &floats,
+        &numbers,
+        &hashes,
+        &mut work,
+        filtered,
+        label,
+    );
 }
 
 fn one_place(filtered: bool, place: usize, value: u32) {
