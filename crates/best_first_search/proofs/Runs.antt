@@ -1,12 +1,11 @@
 -- Runs of equal document ids in sorted hits: a hit more never makes them fewer, so hits behind the first k runs of some are not among the first k of all.
 -- Assumes nothing.
-use Prim.Native.Nat.{ℕ, suc, _+_, _-_, _/_, _^_, _≤_, _<_}
+use Prim.Native.Nat.{ℕ, suc, _/_, _^_, _≤_, _<_}
 use native.Mathlib.Omega.{arith}
 use mathlib.Core.Path.{_≡_, refl, sym, ap, _∙_, subst}
 use mathlib.Core.Logic.{_⊎_, inl, inr}
-use mathlib.Core.Bool.{Bool, true, false, not, false≢true}
+use mathlib.Core.Bool.{Bool, true, false, false≢true}
 use mathlib.Core.List.{List, [], _∷_, _++_, List·Memᴰ, List·Memᴰ·head, List·Memᴰ·not-nil, List·Memᴰ·cases-cons, Memᴰ·append-right}
-use lib.Dec.{leb}
 use lib.ListN.{length, take, length-append}
 use lib.Seq.{take-append-le}
 use borrow.Author.Tests.{le-leb, leb-true}

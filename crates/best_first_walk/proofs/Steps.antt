@@ -9,17 +9,17 @@ use lib.Dec.{ltb}
 use mathlib.Core.List.{List, [], _∷_, _++_, map, map-append}
 use lib.Ieee.{Float}
 use lib.ListN.{length, getD, take, drop, set, replicate, length-set, length-append, length-replicate, getD-replicate, length-map}
-use lib.Seq.{take-set-le, getD-set-same, getD-set-other, drop-set-lt, sets, length-sets}
+use lib.Seq.{take-set-le, getD-set-same, getD-set-other, sets, length-sets}
 use Rattle.lists.specs.Lists.{part, isIn}
 use Rattle.lists.specs.Counting.{isIn-nil, isIn-here, isIn-later}
-use Rattle.lists.specs.Parts.{length-part, getD-sets-before, getD-sets-in, take-sets, part-sets-same, part-set-before, lent-part, drop-more, getD-behind, part-behind}
+use Rattle.lists.specs.Parts.{length-part, getD-sets-before, getD-sets-in, take-sets, part-sets-same, part-set-before, lent-part, getD-behind, part-behind}
 use Rattle.lists.specs.Partition.{count, hit, hit-same, count-cons, count-Memᴰ, perm-length, count-perm, count-append}
 use Rattle.record_queue.specs.declared.Record.{Record}
-use Rattle.record_queue.specs.Sorted.{sort, insert}
+use Rattle.record_queue.specs.Sorted.{sort}
 use Rattle.record_queue.specs.SortedLaws.{length-sort, insert-nil, sort-nil, sort-append-comm, sort-append-cong}
 use Rattle.record_queue.specs.Records.{value, records, Heap}
 use Rattle.record_queue.specs.RecordsLaws.{value-is, records-zero, records-same, length-records, heap-none, same-or-not}
-use Rattle.record_queue.specs.Queue.{Pushed, Popped}
+use Rattle.record_queue.specs.Queue.{Popped}
 use Rattle.store.specs.declared.Shape.{Shape}
 use Rattle.store.specs.Store.{Limits, vectorAt, marksAt, workSize}
 use Rattle.distance.specs.Distance.{distance}
@@ -28,14 +28,15 @@ use Rattle.walk.specs.StoreView.{storeView}
 use Rattle.lists.specs.Tests.{allPass, allPass-nil, allPass-append}
 use Rattle.walk.specs.declared.Wanted.{Wanted}
 use Rattle.store.specs.declared.Counts.{Counts}
-use Rattle.walk.specs.Walk.{View, waitingNode, nodeNumber, Progress, hits}
-use Rattle.walk.specs.WalkLaws.{openedOne, withHits, Once, numbersOf}
+use Rattle.walk.specs.Walk.{View, waitingNode, nodeNumber, Progress}
+use Rattle.walk.specs.WalkLaws.{openedOne, withHits}
+use Rattle.walk.specs.DifferentLaws.{Once, numbersOf}
 use Rattle.store.specs.Lent.{storeOf}
 use Rattle.walk.specs.Contracts.{Works}
 use Rattle.waiting_nodes.specs.Contracts.{insertEach, PushedNodes}
 use Rattle.waiting_nodes.specs.PushLaws.{insertEach-one}
 use Rattle.best_first_walk.specs.Walks.{foundAt, foundPart, Finds, Represents, Begins}
-use Rattle.walk.specs.LentLaws.{works-trans, works-sets}
+use Rattle.walk.specs.LentLaws.{works-trans, works-sets, works-front}
 
 -- ---- a node is marked, and nodes are pushed
 
@@ -169,22 +170,13 @@ module _ (s : Shape) (c : Counts) (hit : ℕ → ℕ) (p : Progress) (work ys : 
 -- ---- what the work list keeps
 
 pub works-marked : (s : Shape) (work : List ℕ) (child : ℕ) → child < s .nodes → Works s work (set work (marksAt s + child) 1)
-works-marked s work child below = record {
-  surplus = drop-set-lt (workSize s) work (marksAt s + child) 1 (omega arith);
-  size = length-set work (marksAt s + child) 1;
-}
+works-marked s work child below = works-sets s work (1 ∷ []) (marksAt s + child) (omega arith)
 
 pub works-pushed : (s : Shape) (work work′ new : List ℕ) (waiting : ℕ) → PushedNodes s work waiting new work′ → Works s work work′
-works-pushed s work work′ new waiting q = record {
-  surplus = drop-more (marksAt s) (workSize s) work′ work (omega arith) (q .behind);
-  size = q .size;
-}
+works-pushed s work work′ new waiting q = works-front s work work′ (marksAt s) (omega arith) (q .behind) (q .size)
 
 pub works-popped : (s : Shape) (work work′ : List ℕ) (waiting : ℕ) (r : Record) → waiting ≤ s .nodes → Popped 2 waiting work r work′ → Works s work work′
-works-popped s work work′ waiting r few q = record {
-  surplus = drop-more (waiting * 2) (workSize s) work′ work (omega arith) (q .behind);
-  size = q .size;
-}
+works-popped s work work′ waiting r few q = works-front s work work′ (waiting * 2) (omega arith) (q .behind) (q .size)
 
 -- ---- the beginning
 

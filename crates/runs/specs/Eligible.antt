@@ -13,7 +13,7 @@ use Rattle.lists.specs.Counting.{isIn-nil, isIn-later, Memᴰ-keep}
 use Rattle.total_order.specs.TotalOrder.{keyOf}
 use Rattle.vector.specs.Normalized.{normalized}
 use Rattle.walk.specs.declared.Wanted.{Wanted}
-use Rattle.walk.specs.WalkLaws.{Different, different-nil, different-cons}
+use Rattle.walk.specs.DifferentLaws.{Different, different-nil, different-cons}
 use Rattle.curator.specs.Arguments.{Question}
 use Rattle.curator.specs.Searches.{wantedOf}
 use Rattle.runs.specs.Model.{Setting, Model, ModelRow, noRow, rowHit}

@@ -18,7 +18,7 @@ use Rattle.vector.specs.Normalized.{normalized}
 use Rattle.walk.specs.declared.Wanted.{Wanted}
 use Rattle.walk.specs.Walk.{View, Progress, going, walk, whole}
 use Rattle.walk.specs.Answer.{documentOf, distanceOf, ranked}
-use Rattle.walk.specs.WalkLaws.{Different}
+use Rattle.walk.specs.DifferentLaws.{Different}
 use Rattle.walk.specs.SoundWalk.{sound-part, sound-whole}
 use Rattle.walk.specs.AnswerLaws.{ranked-all}
 use Rattle.curator.specs.Searches.{wantedOf}

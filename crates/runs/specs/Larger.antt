@@ -20,7 +20,7 @@ use Rattle.total_order.specs.TotalOrder.{totalOrder, keyOf}
 use Rattle.total_order.specs.OrderLaws.{totalOrder-key}
 use Rattle.vector.specs.Normalized.{normalized}
 use Rattle.walk.specs.Walk.{Progress, going, walk, whole}
-use Rattle.walk.specs.WalkLaws.{larger-later}
+use Rattle.walk.specs.BudgetLaws.{larger-later}
 use Rattle.walk.specs.Answer.{answer, documentOf, distanceOf, ranked}
 use Rattle.walk.specs.AnswerLaws.{never-worse, never-later}
 use Rattle.settings.specs.Refusals.{checkNumber}

@@ -27,7 +27,7 @@ use Rattle.tree.specs.Subtrees.{node-entries, node-children}
 use Rattle.tree.specs.LayoutLaws.{blockAt, row-read, start-read, start-end, six-getD, sixOf, length-sixFrom, length-blocks}
 use Rattle.walk.specs.declared.Wanted.{Wanted}
 use Rattle.walk.specs.Walk.{Shown, children, hits, damage, shown, walk}
-use Rattle.walk.specs.WalkLaws.{same-below}
+use Rattle.walk.specs.SameWalkLaws.{same-below}
 use Rattle.walk.specs.Answer.{hitOf}
 use Rattle.walk.specs.Wanted.{LeafList, vector-list, entry-list, denies, listRead, passes, given, heldIn}
 use Rattle.walk.specs.WantedLaws.{SameNumber, numbers-same, passes-same, given-same, given-read}

@@ -1,23 +1,22 @@
 -- What no row's case gives, and the walk's end as a search's.
 use Prim.Native.Nat.{ℕ, _+_, _≤_}
-use mathlib.Core.Bool.{Bool, true, false, not, _||_}
-use mathlib.Core.Path.{_≡_, refl, sym, ap, _∙_, subst}
+use mathlib.Core.Bool.{Bool, true, false}
+use mathlib.Core.Path.{_≡_, sym, ap, _∙_, subst}
 use mathlib.Core.List.{List, [], _∷_}
 use native.Mathlib.Omega.{arith}
-use borrow.Author.Tests.{not-false, leb-true, ltb-true, ltb-false, eqb-true}
-use lib.Dec.{leb, ltb, eqb}
+use borrow.Author.Tests.{not-false, ltb-true, ltb-false, eqb-true}
+use lib.Dec.{ltb}
 use lib.Ieee.{Float}
-use lib.ListN.{length, drop}
-use lib.Seq.{sets}
+use lib.ListN.{length}
 use Rattle.vector.specs.Vector.{dot, Normalized}
 use Rattle.lists.specs.Lists.{part}
-use Rattle.lists.specs.Parts.{length-part, sets-part}
+use Rattle.lists.specs.Parts.{length-part}
+use Rattle.lists.specs.Frame.{alike-is-sets}
 use Rattle.store.specs.declared.Shape.{Shape}
 use Rattle.store.specs.Store.{Store, workSize}
 use Rattle.store.specs.declared.Counts.{Counts}
 use Rattle.walk.specs.declared.Searched.{Searched}
 use Rattle.walk.specs.declared.Wanted.{Wanted}
-use Rattle.walk.specs.Answer.{answer}
 use Rattle.walk.specs.Contracts.{Works, SearchEnds, SearchGives}
 use Rattle.best_first_search.specs.Ranks.{SearchLent}
 use Rattle.walk.specs.StoreView.{storeView}
@@ -25,18 +24,16 @@ use Rattle.walk.specs.Walk.{State, damaged, going, walk}
 use Rattle.settings.specs.declared.Check.{Check}
 use Rattle.settings.specs.declared.Check.the-variants.{Fine}
 use Rattle.curator.specs.declared.CuratorIndex.{CuratorIndex}
-use Rattle.curator.specs.declared.Found.the-variants as found
 use Rattle.curator.specs.Calls.{factsOf}
-use Rattle.store.specs.Lent.{lengthsOf, storeShort, listsShort}
+use Rattle.store.specs.Lent.{lengthsOf}
 use Rattle.curator.specs.Changes.{Freed, workPart}
 use Rattle.curator.specs.Limits.{stateSound, indexShape}
 use Rattle.settings.specs.Limits.{builtAllowed}
 use Rattle.curator.specs.RowLaws.{NoneHolds, fine-none}
 use Rattle.curator.specs.Rows.{Row, stateRow, searchRows}
-use Rattle.store.specs.declared.Lengths.{Lengths}
 use Rattle.curator.specs.Searches.{wantedOf, SearchEnd, searchCheck, WalkedTo, Walked, SearchesBy, Searches}
 use Rattle.curator.specs.Arguments.{SearchCall, askingOf}
-use Rattle.curator.specs.StateLaws.{Sound, sound-facts}
+use Rattle.curator.specs.StateLaws.{sound-facts}
 use Rattle.lists.specs.Tests.{and-both, or-left, or-right}
 use Rattle.search.specs.Lent.{Ready, foundOf}
 use Rattle.store.specs.LentLaws.{lists-long}
@@ -97,12 +94,9 @@ searches-by index store work call end check e h = subst (λ (c : Check). Searche
 pub freed : (s : Shape) (work work′ : List ℕ) → workSize s ≤ length work → Works s work work′ → Freed (workPart s ∷ []) work work′
 unfolding Freed
 freed s work work′ room w =
-    let none : 0 + workSize s ≡ workSize s = omega arith in
     let before : 0 + workSize s ≤ length work = omega (arith, room) in
     let after : 0 + workSize s ≤ length work′ = omega (arith, room, w .size) in
-    let surplus : drop (0 + workSize s) work ≡ drop (0 + workSize s) work′ =
-    ap (λ (n : ℕ). drop n work) none ∙ sym (w .surplus) ∙ ap (λ (n : ℕ). drop n work′) (sym none) in
-    (part 0 (workSize s) work′, length-part 0 (workSize s) work′ after, sym (sets-part work work′ 0 (workSize s) before after refl surplus))
+    (part 0 (workSize s) work′, length-part 0 (workSize s) work′ after, alike-is-sets 0 (workSize s) work work′ (w .alike) before after)
 
 pub walked-to : (state : State) (index : CuratorIndex) (work : List ℕ) (call : SearchCall) (searched : Searched) (end : SearchEnd)
     → end .answer ≡ foundOf searched → Freed (workPart (indexShape index) ∷ []) work (end .work)

@@ -8,7 +8,7 @@ use lib.ListN.{length, take}
 use Rattle.lists.specs.Lists.{keep}
 use Rattle.record_queue.specs.Sorted.{sort}
 use Rattle.total_order.specs.TotalOrder.{keyOf, ofKey}
-use Rattle.walk.specs.Walk.{Progress, walk, none, whole}
+use Rattle.walk.specs.Walk.{Progress, none, whole}
 
 -- A hit is one number, so that `<` orders by distance in total order, then document id, then vector number: each of the three is below 2 ^ 32.
 abbrev pub hitOf : Float → ℕ → ℕ → ℕ

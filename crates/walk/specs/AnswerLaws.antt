@@ -12,7 +12,7 @@ use Rattle.lists.specs.Partition.{List·Permᴰ, Permᴰ·map, count, count-app
 use Rattle.record_queue.specs.Sorted.{sort, NoLater}
 use Rattle.record_queue.specs.SortedLaws.{sort-perm, no-later-sort, no-later-take, no-later-at}
 use Rattle.walk.specs.Walk.{Progress}
-use Rattle.walk.specs.WalkLaws.{Different, different-head, different-tail}
+use Rattle.walk.specs.DifferentLaws.{Different, different-head, different-tail}
 use Rattle.walk.specs.Answer.{documentOf, dropAfter, dropRepeats, listed, everyHit, ranked}
 
 -- ---- repeats

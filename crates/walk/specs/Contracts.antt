@@ -4,9 +4,10 @@ use mathlib.Core.Path.{_≡_}
 use mathlib.Core.Bool.{true, false}
 use mathlib.Core.List.{List}
 use lib.Ieee.{Float}
-use lib.ListN.{length, getD, drop}
+use lib.ListN.{length, getD}
 use lib.Seq.{sets}
 use Rattle.lists.specs.Lists.{part}
+use Rattle.lists.specs.Frame.{AlikeBut}
 use Rattle.store.specs.declared.Shape.{Shape}
 use Rattle.store.specs.declared.Counts.{Counts}
 use Rattle.store.specs.Store.{Store, Limits, CountsWithin, floatsSize, numbersSize, hashesSize, workSize}
@@ -59,7 +60,7 @@ pub record StoreLent (s : Shape) (c : Counts) (store : Store) (work : List ℕ) 
 
 -- nothing but the work part changed
 pub record Works (s : Shape) (work work′ : List ℕ) : Type 0 where
-  pub surplus : drop (workSize s) work′ ≡ drop (workSize s) work
+  pub alike : AlikeBut 0 (workSize s) work work′
   pub size : length work′ ≡ length work
 
 -- ---- what a node shows

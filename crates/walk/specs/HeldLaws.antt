@@ -16,7 +16,7 @@ use Rattle.lists.specs.Tests.{either}
 use Rattle.walk.specs.declared.Wanted.{Wanted}
 use Rattle.store.specs.declared.Counts.{Counts}
 use Rattle.walk.specs.Walk.{walk}
-use Rattle.walk.specs.WalkLaws.{opens-below}
+use Rattle.walk.specs.SameWalkLaws.{opens-below}
 use Rattle.walk.specs.Wanted.{LeafList, vector-list, entry-list, listRead, heldIn, denies}
 use Rattle.walk.specs.WantedLaws.{SameNumber, numbers-same}
 use Rattle.walk.specs.StoreView.{blockHeld, fieldOf, partOf, nodeField, ownerOf, entryRead, filterAt, storeView}

@@ -1,13 +1,13 @@
 -- Laws on lent lists that the proofs of several crates use: a vector within the floats, and what work keeps. Assumes nothing.
 use Prim.Native.Nat.{ℕ, suc, _+_, _*_, _≤_, _<_}
-use native.Mathlib.Nat.{suc-mul, mul-le-mul-right, mul-comm}
+use native.Mathlib.Nat.{zero-add, suc-mul, mul-le-mul-right, mul-comm}
 use native.Mathlib.Omega.{arith}
 use mathlib.Core.Path.{_≡_, refl, _∙_}
 use mathlib.Core.List.{List}
 use lib.Ieee.{Float}
 use lib.ListN.{length, drop}
 use lib.Seq.{sets, length-sets}
-use Rattle.lists.specs.Parts.{drop-sets}
+use Rattle.lists.specs.Frame.{AlikeBut, alike-refl, alike-trans, alike-sets, alike-widen}
 use Rattle.store.specs.declared.Shape.{Shape}
 use Rattle.store.specs.Store.{Limits, floatsSize, workSize}
 use Rattle.walk.specs.Contracts.{Works}
@@ -21,12 +21,27 @@ vector-within s floats i n limits size h below =
     let own : suc i * s .dimension ≡ i * s .dimension + s .dimension = suc-mul i (s .dimension) in
     omega arith
 
--- what the work list keeps
+-- ---- what the work list keeps
+
+-- lists with one rest are alike but for what stands before it
+alike-behind {ℓ} : {A : Type ℓ} (n : ℕ) (l m : List A) → drop n m ≡ drop n l → AlikeBut 0 n l m
+alike-behind n l m e = record { front = refl; rest = rw (zero-add n) e }
+
 pub works-refl : (s : Shape) (work : List ℕ) → Works s work work
-works-refl s work = record { surplus = refl; size = refl }
+works-refl s work = record { alike = alike-refl 0 (workSize s) work; size = refl }
 
 pub works-trans : (s : Shape) (a b c : List ℕ) → Works s a b → Works s b c → Works s a c
-works-trans s a b c p q = record { surplus = q .surplus ∙ p .surplus; size = q .size ∙ p .size }
+works-trans s a b c p q = record { alike = alike-trans 0 (workSize s) (p .alike) (q .alike); size = q .size ∙ p .size }
 
 pub works-sets : (s : Shape) (work ys : List ℕ) (at : ℕ) → at + length ys ≤ workSize s → Works s work (sets work at ys)
-works-sets s work ys at h = record { surplus = drop-sets (workSize s) work at ys h; size = length-sets work at ys }
+works-sets s work ys at h = record {
+  alike = alike-sets 0 (workSize s) work at ys (omega arith) (omega (arith, h));
+  size = length-sets work at ys;
+}
+
+-- a front of the work part alone changed
+pub works-front : (s : Shape) (work work′ : List ℕ) (n : ℕ) → n ≤ workSize s → drop n work′ ≡ drop n work → length work′ ≡ length work → Works s work work′
+works-front s work work′ n h behind size = record {
+  alike = alike-widen 0 n 0 (workSize s) work work′ (alike-behind n work work′ behind) (omega arith) (omega (arith, h));
+  size = size;
+}

@@ -8,6 +8,9 @@ pub mod Contracts
 -- trials and laws
 pub mod Trials
 pub mod WalkLaws
+pub mod BudgetLaws
+pub mod DifferentLaws
+pub mod SameWalkLaws
 pub mod SoundWalk
 pub mod AnswerLaws
 pub mod PackedLaws

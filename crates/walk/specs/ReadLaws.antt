@@ -1,28 +1,28 @@
 -- What a search reads of a store, and that nothing else matters: two stores that agree on it give the same search, answer or damage. So garbage in a
 -- denied node, in a node that is not opened, in a list that is not read or past the counts held changes nothing. Assumes nothing.
-use Prim.Native.Nat.{ℕ, zero, suc, _+_, _*_, _<_}
+use Prim.Native.Nat.{ℕ, zero, suc, _+_, _<_}
 use native.Mathlib.Omega.{arith}
 use mathlib.Core.Path.{_≡_, refl, sym, ap, ap₂, _∙_, subst}
 use mathlib.Core.Logic.{_⊎_, inl, inr}
-use mathlib.Core.Bool.{Bool, true, false, not, _&&_, cond}
+use mathlib.Core.Bool.{Bool, true, false, cond}
 use mathlib.Core.List.{List, [], map, List·Memᴰ, List·Memᴰ·not-nil}
-use lib.Dec.{ltb, eqb}
+use lib.Dec.{eqb}
 use lib.Ieee.{Float}
 use lib.ListN.{getD}
-use borrow.Author.Tests.{ltb-true, eqb-true, eqb-false}
+use borrow.Author.Tests.{eqb-true, eqb-false}
 use Rattle.lists.specs.Maps.{map-on}
-use Rattle.lists.specs.Lists.{part, keep}
-use Rattle.lists.specs.Counting.{keep-congr, Memᴰ-keep}
-use Rattle.lists.specs.Tests.{which, allPass, and-left, and-right, allPass-Memᴰ, allPass-congr}
+use Rattle.lists.specs.Lists.{part}
+use Rattle.lists.specs.Tests.{which, allPass}
 use Rattle.store.specs.declared.Shape.{Shape}
-use Rattle.store.specs.Store.{Store, vectorAt, orderAt, linksAt, entryOrderAt, filtersAt}
+use Rattle.store.specs.Store.{Store, vectorAt, linksAt}
 use Rattle.distance.specs.Distance.{distance}
 use Rattle.total_order.specs.TotalOrder.{keyOf}
 use Rattle.walk.specs.declared.Wanted.{Wanted}
 use Rattle.store.specs.declared.Counts.{Counts}
 use Rattle.walk.specs.declared.Searched.{Searched}
 use Rattle.walk.specs.Walk.{Shown, State, children, hits, damage, damaged, going, shown, walk}
-use Rattle.walk.specs.WalkLaws.{Alike, Opens, childrenOf, same-walk}
+use Rattle.walk.specs.WalkLaws.{childrenOf}
+use Rattle.walk.specs.SameWalkLaws.{Alike, Opens, same-walk}
 use Rattle.walk.specs.Answer.{hitOf}
 use Rattle.walk.specs.Wanted.{listRead, heldIn, denies, passes, given}
 use Rattle.walk.specs.WantedLaws.{SameNumber, passes-same, given-same, given-read}

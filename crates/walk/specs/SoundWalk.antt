@@ -17,7 +17,9 @@ use Rattle.lists.specs.Partition.{List·Permᴰ, Permᴰ·symm, hit, count, hit
 use Rattle.record_queue.specs.Sorted.{insert, sort}
 use Rattle.record_queue.specs.SortedLaws.{le-or-lt, sort-to-perm, perm-sort}
 use Rattle.walk.specs.Walk.{Shown, children, hits, damage, View, waitingNode, nodeNumber, Progress, State, going, pushAll, give, shown, step, walkFrom, walk, none, whole}
-use Rattle.walk.specs.WalkLaws.{openedOne, pushedOne, withHits, startProgress, pushAll-nil, pushAll-fresh, give-children, give-hits, step-none, step-open, walk-zero, walk-suc, walk-is, numbersOf, number-of, numbers-insert, none-waiting, nil-waiting, opened-cut}
+use Rattle.walk.specs.WalkLaws.{openedOne, pushedOne, withHits, startProgress, pushAll-nil, pushAll-fresh, give-children, give-hits, step-none, step-open, walk-zero, walk-suc, walk-is, none-waiting, nil-waiting}
+use Rattle.walk.specs.BudgetLaws.{opened-cut}
+use Rattle.walk.specs.DifferentLaws.{numbersOf, number-of, numbers-insert}
 
 -- 1 for a number from `from` up to `to`, 0 for others
 unfoldable pub between : ℕ → ℕ → ℕ → ℕ

@@ -1,23 +1,22 @@
 -- What a lent store shows, case by case: its children are below the node count, whatever numbers stand in it. Assumes nothing.
 use Prim.Native.Nat.{ℕ, zero, suc, _+_, _≤_, _<_}
 use native.Mathlib.Omega.{arith}
-use mathlib.Core.Path.{_≡_, refl, sym, ap, ap₂, _∙_, subst}
+use mathlib.Core.Path.{_≡_, refl, sym, _∙_, subst}
 use mathlib.Core.Logic.{_⊎_, inl, inr}
-use mathlib.Core.Bool.{Bool, true, false, _&&_, cond, false≢true}
-use mathlib.Core.List.{List, [], _∷_, map, List·Memᴰ, List·Memᴰ·head, List·Memᴰ·tail, List·Memᴰ·not-nil, List·Memᴰ·cases-cons}
+use mathlib.Core.Bool.{Bool, true, false, _&&_, cond}
+use mathlib.Core.List.{List, [], map, List·Memᴰ}
 use lib.Dec.{leb, ltb, eqb}
 use lib.Ieee.{Float}
-use lib.ListN.{getD}
 use borrow.Author.Tests.{leb-true, ltb-true, eqb-false}
-use Rattle.lists.specs.Lists.{part, keep}
+use Rattle.lists.specs.Lists.{part}
 use Rattle.store.specs.declared.Shape.{Shape}
-use Rattle.store.specs.Store.{Store, orderAt, linksAt, entryOrderAt}
+use Rattle.store.specs.Store.{Store, linksAt}
 use Rattle.lists.specs.Tests.{either, allPass}
-use Rattle.lists.specs.Tests.{which, and-left, and-right, allPass-Memᴰ, cond-cases}
+use Rattle.lists.specs.Tests.{and-left, and-right, allPass-Memᴰ, cond-cases}
 use Rattle.walk.specs.declared.Wanted.{Wanted}
 use Rattle.store.specs.declared.Counts.{Counts}
 use Rattle.walk.specs.Walk.{Shown, children, hits, damage, shown}
-use Rattle.walk.specs.WalkLaws.{ChildrenBelow}
+use Rattle.walk.specs.DifferentLaws.{ChildrenBelow}
 use Rattle.walk.specs.Wanted.{listRead, heldIn, denies, passes, given}
 use Rattle.walk.specs.StoreView.{blockHeld, fieldOf, partOf, nodeField, hitAt, childrenShown, entryRead, listShown, leafShown, nodeShown, filterAt, storeView}
 

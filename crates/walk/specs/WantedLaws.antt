@@ -1,7 +1,7 @@
 -- What each case of what is wanted owes: what a leaf's list gives depends on what is read of its numbers alone, and what it gives is held.
 -- Assumes nothing.
 use Prim.Native.Nat.{ℕ, _<_}
-use mathlib.Core.Path.{_≡_, refl, sym, ap, ap₂, _∙_, subst}
+use mathlib.Core.Path.{_≡_, refl, sym, ap, _∙_, subst}
 use mathlib.Core.Logic.{_⊎_, inl, inr}
 use mathlib.Core.Bool.{Bool, true, false, _&&_}
 use mathlib.Core.List.{List, [], map, List·Memᴰ}
@@ -9,7 +9,7 @@ use lib.Dec.{ltb, eqb}
 use borrow.Author.Tests.{ltb-true, eqb-true}
 use Rattle.lists.specs.Maps.{map-on, Memᴰ-map}
 use Rattle.lists.specs.Lists.{keep}
-use Rattle.lists.specs.Tests.{which, and-left, and-right, allPass, all-pass, allPass-Memᴰ, allPass-congr}
+use Rattle.lists.specs.Tests.{which, and-left, and-right, allPass, allPass-Memᴰ, allPass-congr}
 use Rattle.lists.specs.Counting.{keep-nil, keep-congr, Memᴰ-keep}
 use Rattle.store.specs.declared.Counts.{Counts}
 use Rattle.walk.specs.declared.Wanted.{Wanted}

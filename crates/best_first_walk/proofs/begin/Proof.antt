@@ -21,6 +21,15 @@ use Rattle.best_first_walk.proofs.begin.Tie as tie
 abbrev entry : tie.After-clear → tie.Start
 entry d = d .before .before .before .before .before .before .before
 
+-- the root's key is known
+abbrev after-clear : tie.After-distance-key → tie.After-clear
+after-clear k = k .before .before .before
+
+-- the root is pushed
+abbrev after-key : tie.After-push-node → tie.After-distance-key
+after-key p = p .before .before
+
+-- where the marks stand
 abbrev start : tie.After-clear → ℕ
 start d = d .before .before .before .marks-at .result
 
@@ -34,7 +43,7 @@ cleared d =
     let e = entry d in
     cleared-is (e .args .shape) (e .args .counts) (e .args .work .now) (d .clear .last .0) (start d) (end d) (e .pre .within .nodes) (e .pre .work-size) (d .before .before .before .marks-at .ensures) refl (d .clear .ensures)
 
--- and the root is marked
+-- the root is marked
 abbrev marked : tie.After-clear → List ℕ
 marked d = set (sets (entry d .args .work .now) (marksAt (entry d .args .shape)) (replicate (entry d .args .counts .nodes) 0)) (marksAt (entry d .args .shape)) 1
 
@@ -84,7 +93,7 @@ distance-key-requires c κs =
 
 push-node-requires : tie.Need-push-node-requires
 push-node-requires c κs =
-    let d = c .before .before .before .before in
+    let d = after-clear (c .before) in
     let e = entry d in
     record {
       nodes = record {
@@ -98,19 +107,20 @@ push-node-requires c κs =
 
 same-length : tie.Need-same-length
 same-length c =
-    let d = c .before .before .before .before .before .before .before in
-    c .before .before .push-node .kept .1 .0 ∙ ap length (marked-is d) ∙ marked-size d
+    let p = c .before .before in
+    let d = after-clear (after-key p) in
+    p .push-node .kept .1 .0 ∙ ap length (marked-is d) ∙ marked-size d
 
 returns : tie.Need-returns
 returns c =
-    let p = c .before .before .push-node in
-    let d = c .before .before .before .before .before .before .before in
+    let p = c .before .before in
+    let d = after-clear (after-key p) in
     let e = entry d in
     λ hit numbers hashes wanted.
     let view = storeView (e .args .shape) (e .args .counts) (storeOf (e .args .floats .now) numbers hashes) (e .args .query .now) wanted in
-    let key = view-key (e .args .shape) (e .args .counts) (e .args .floats .now) numbers hashes (e .args .query .now) wanted 0 (e .args .shape .vectors) _ (sym (add-zero (e .args .shape .vectors))) (c .before .before .before .before .distance-key .ensures) in
+    let key = view-key (e .args .shape) (e .args .counts) (e .args .floats .now) numbers hashes (e .args .query .now) wanted 0 (e .args .shape .vectors) _ (sym (add-zero (e .args .shape .vectors))) (after-key p .distance-key .ensures) in
     begins (e .args .shape) (e .args .counts) hit view (e .args .work .now) _ (e .pre .within .nodes) (e .pre .some) (e .pre .work-size)
-    (subst₂ (λ work key. PushedNodes (e .args .shape) work 0 ((key * 2 ^ 64 + 0) ∷ []) (p .last .1 .0)) (marked-is d) key (p .ensures))
+    (subst₂ (λ work key. PushedNodes (e .args .shape) work 0 ((key * 2 ^ 64 + 0) ∷ []) (p .push-node .last .1 .0)) (marked-is d) key (p .push-node .ensures))
 
 pub begin-spec : {M : Type 1} → statement M
 begin-spec =

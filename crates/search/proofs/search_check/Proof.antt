@@ -3,7 +3,6 @@ use mathlib.Core.Bool.{not}
 use mathlib.Core.Path.{_≡_, sym, ap, _∙_, subst}
 use mathlib.Core.List.{List, _∷_}
 use borrow.Author.Tests.{not-false, eq-eqb, ne-eqb}
-use denote.Ref.{now}
 use lib.ListN.{drop}
 use Rattle.store.specs.declared.Shape.{Shape}
 use Rattle.store.specs.Store.{Limits}

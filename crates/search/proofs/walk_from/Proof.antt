@@ -1,6 +1,5 @@
 -- The query is normalised at the front of an array and read from there; what the walk then gives is what the index gives.
 use Prim.Native.Nat.{_-_}
-use mathlib.Core.Path.{ap}
 use native.Mathlib.Omega.{arith}
 use lib.ListN.{length}
 use denote.Ref.{now}

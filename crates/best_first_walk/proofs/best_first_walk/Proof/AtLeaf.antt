@@ -1,0 +1,123 @@
+-- `best_first_walk` at a leaf: the list that it shows, the hits' part of the work list as it is lent and comes back, and what was added. Assumes nothing.
+use Rattle.best_first_walk.specs.Walks.{foundAt, foundPart}
+use Rattle.best_first_walk.specs.WalksLaws.{length-found}
+use Rattle.leaf_hits.specs.Contracts.{Gathers, entriesOf}
+use Rattle.walk.specs.Wanted.{EntryRead, passes, given, most}
+use Rattle.walk.specs.WantedLaws.{given-held}
+use Rattle.leaf_hits.specs.LeafLaws.{list-shown}
+use Rattle.leaf_hits.specs.declared.Added.{Added}
+use Rattle.walk.specs.declared.look.Look.the-variants as look
+use Rattle.walk.specs.LentLaws.{works-trans, works-sets}
+use Rattle.walk.specs.Contracts.{Works}
+use Rattle.walk.specs.StoreView.{storeView}
+use Rattle.lists.specs.Tests.{allPass, all-pass}
+use Rattle.walk.specs.Walk.{hits, damage, shown}
+use Rattle.store.specs.Store.{workSize}
+use Rattle.lists.specs.Lists.{part}
+use Rattle.lists.specs.Parts.{lent-part, lent-is}
+use borrow.Author.Tests.{lt-ltb}
+use lib.Dec.{ltb}
+use lib.ListN.{length, take, drop}
+use lib.Seq.{sets}
+use mathlib.Core.Bool.{Bool, true, cond}
+use mathlib.Core.List.{List, _++_, map}
+use mathlib.Core.Path.{_≡_, refl, sym, ap, subst, _∙_}
+use native.Mathlib.Omega.{arith}
+use Prim.Native.Nat.{ℕ, _+_, _-_, _≤_, max}
+use Rattle.best_first_walk.proofs.best_first_walk.Proof.Places.{Entry, entry, begun, Least, turn, least, Leaf, leaf, Hits, from, hit, view, lends, foundStart, foundEnd, found-start, found-end, node, work, opened, opened-works, shows}
+
+abbrev pub at-leaf : Leaf → Entry
+at-leaf l = entry (begun (turn (least (leaf l))))
+
+-- whether all numbers of a list pass, and the vectors that it gives
+abbrev pub read-entries : Entry → EntryRead
+read-entries e = entriesOf (e .args .shape) (e .args .numbers .now) (e .args .hashes .now)
+
+abbrev pub passed : Entry → List ℕ → Bool
+passed e l = allPass (passes (e .args .wanted) (e .args .counts) (read-entries e)) l
+
+abbrev pub vectors : Entry → List ℕ → List ℕ
+vectors e l = given (e .args .wanted) (read-entries e) l
+
+pub vectors-held : (e : Entry) (l : List ℕ) → passed e l ≡ true → allPass (λ x. ltb x (e .args .counts .vectors)) (vectors e l) ≡ true
+vectors-held e l t =
+    all-pass (λ x. ltb x (e .args .counts .vectors)) (vectors e l)
+    (λ v m. lt-ltb v (e .args .counts .vectors) (given-held (e .args .wanted) (e .args .counts) (read-entries e) l t v m))
+
+pub most-is : (e : Entry) → view e .most ≡ most (e .args .wanted) (e .args .counts)
+unfolding storeView
+most-is e = refl
+
+abbrev pub list : Leaf → List ℕ
+list l = part (l .shown .given .0 .0 .start) (l .shown .given .0 .0 .count) (at-leaf l .args .numbers .now)
+
+pub list-room : (l : Leaf) → l .shown .given .0 .0 .start + l .shown .given .0 .0 .count ≤ length (at-leaf l .args .numbers .now)
+list-room l = shows (leaf l) (look.Leaf (l .shown .given .0 .0)) (l .shown .given .1) .0
+
+pub list-is : (l : Leaf) → shown (view (at-leaf l)) (node (least (leaf l)))
+    ≡ cond (passed (at-leaf l) (list l)) (hits (map (hit (at-leaf l)) (vectors (at-leaf l) (list l)))) damage
+list-is l =
+    let e = at-leaf l in
+    shows (leaf l) (look.Leaf (l .shown .given .0 .0)) (l .shown .given .1) .1 (e .args .floats .now) (e .args .query .now)
+    ∙ list-shown (e .args .shape) (e .args .counts) (e .args .floats .now) (e .args .numbers .now) (e .args .hashes .now) (e .args .query .now) (e .args .wanted) (list l)
+
+-- the hits' part, as it is lent
+abbrev pub lentFound : Least → List ℕ
+lentFound p = let b = begun (turn p) in take (foundEnd b - foundStart b) (drop (foundStart b) (work p))
+
+pub lent-found : (p : Least) → lentFound p ≡ foundPart (entry (begun (turn p)) .args .shape) (work p)
+lent-found p =
+    let b = begun (turn p) in
+    let s = entry b .args .shape in
+    lent-is (work p) (foundStart b) (foundEnd b) (foundAt s) (max (s .vectors) (s .entries) + 1) (found-start b)
+    (omega (arith, found-end b, lends (entry b) .within .limits .vectors-low))
+
+pub work-room : (p : Least) → workSize (entry (begun (turn p)) .args .shape) ≤ length (work p)
+work-room p = opened p .1 .holds .size
+
+-- and as it came back
+abbrev pub back : Hits → List ℕ
+back h = h .add-hits .last .1 .1 .1 .1 .0
+
+abbrev pub at-hits : Hits → Least
+at-hits h = least (leaf (from h))
+
+abbrev pub after : Hits → List ℕ
+after h = let p = at-hits h in
+    let b = begun (turn p) in
+    take (foundStart b) (work p)
+    ++ (back h ++ drop (foundEnd b - foundStart b) (drop (foundStart b) (work p)))
+
+pub back-length : (h : Hits) → length (back h) ≡ max (at-leaf (from h) .args .shape .vectors) (at-leaf (from h) .args .shape .entries) + 1
+back-length h =
+    let p = at-hits h in
+    let s = at-leaf (from h) .args .shape in
+    h .add-hits .kept .1 .1 .1 .1 .0 ∙ ap length (lent-found p) ∙ length-found s (work p) (lends (at-leaf (from h)) .within .limits) (work-room p)
+
+pub after-is : (h : Hits) → after h ≡ sets (work (at-hits h)) (foundAt (at-leaf (from h) .args .shape)) (back h)
+after-is h =
+    let p = at-hits h in
+    let b = begun (turn p) in
+    lent-part (work p) (foundStart b) (foundEnd b) (back h)
+    (omega (arith, found-start b, found-end b, lends (entry b) .within .limits .vectors-low)) (omega (arith, found-end b, work-room p))
+    (omega (arith, back-length h, found-start b, found-end b, lends (entry b) .within .limits .vectors-low))
+    ∙ ap (λ (at : ℕ). sets (work p) at (back h)) (found-start b)
+
+pub after-works : (h : Hits) → Works (at-leaf (from h) .args .shape) (at-leaf (from h) .args .work .now) (after h)
+after-works h =
+    let p = at-hits h in
+    let e = at-leaf (from h) in
+    works-trans (e .args .shape) (e .args .work .now) (work p) (after h) (opened-works p)
+    (subst (Works (e .args .shape) (work p)) (sym (after-is h)) (works-sets (e .args .shape) (work p) (back h) (foundAt (e .args .shape)) (omega (arith, back-length h, lends e .within .limits .vectors-low))))
+
+-- what the leaf gave
+abbrev pub Gave : Hits → ℕ → List ℕ → Added → Type 0
+Gave h n heap r = let e = at-leaf (from h) in Gathers (passed e (list (from h))) (vectors e (list (from h))) n (turn (at-hits h) .walk .hits) heap r (back h)
+
+pub gave : (h : Hits) (r : Added) → h .add-hits .result ≡ r → Gave h (view (at-leaf (from h)) .most) (foundPart (at-leaf (from h) .args .shape) (work (at-hits h))) r
+gave h r is =
+    let e = at-leaf (from h) in
+    let p = at-hits h in
+    subst (λ (heap : List ℕ). Gave h (view e .most) heap r) (lent-found p)
+    (subst (λ (n : ℕ). Gave h n (lentFound p) r) (sym (most-is e))
+    (subst (Gave h (most (e .args .wanted) (e .args .counts)) (lentFound p)) is (h .add-hits .ensures)))

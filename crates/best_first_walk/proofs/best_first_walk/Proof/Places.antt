@@ -1,0 +1,216 @@
+-- `best_first_walk`: what its loops keep, the places of its code, and what is known at each. Assumes nothing.
+use Rattle.best_first_walk.proofs.Walking.{Waits, Opens, few-wait, opens, opens-below}
+use Rattle.best_first_walk.proofs.Marking.{Marks}
+use Rattle.best_first_walk.specs.Walks.{foundAt}
+use Rattle.store.specs.Lent.{storeOf}
+use Rattle.walk.specs.declared.look.Look.{Look}
+use Rattle.walk.specs.LentLaws.{works-trans}
+use Rattle.walk.specs.Contracts.{StoreLent, Works, Looks}
+use Rattle.walk.specs.StoreView.{hitAt, storeView}
+use Rattle.walk.specs.StoreViewLaws.{store-children-below}
+use Rattle.walk.specs.Walk.{View}
+use Rattle.walk.specs.DifferentLaws.{ChildrenBelow}
+use Rattle.store.specs.Store.{marksAt, workSize}
+use Rattle.lists.specs.Lists.{part}
+use lib.ListN.{length}
+use mathlib.Core.List.{List}
+use mathlib.Core.Path.{_≡_, subst}
+use Prim.Native.Nat.{ℕ, _+_, _-_, _≤_, _<_}
+use Rattle.best_first_walk.proofs.best_first_walk.Tie as tie
+
+abbrev pub Inv-loop : tie.InvT-loop
+Inv-loop shape counts ef-search floats numbers hashes work₀ query wanted nodes marks-at found-at found-end waiting opened found node start count j₀ work j =
+    (j ≤ count)
+    × (start + count ≤ length numbers)
+    × Marks shape counts (hitAt shape floats numbers query) (storeView shape counts (storeOf floats numbers hashes) query wanted) ef-search work₀ node (part start count numbers) j work waiting found opened
+
+abbrev pub μ-loop : tie.MeasureT-loop
+μ-loop shape counts ef-search floats numbers hashes work₀ query wanted nodes marks-at found-at found-end waiting opened found node start count j₀ work j = count - j
+
+abbrev pub Inv-walk : tie.InvT-walk
+Inv-walk shape counts ef-search floats numbers hashes work₀ query wanted nodes marks-at found-at found-end waiting₀ opened₀ found₀ work waiting opened found =
+    Waits shape counts (hitAt shape floats numbers query) (storeView shape counts (storeOf floats numbers hashes) query wanted) ef-search work₀ work waiting found opened
+
+abbrev pub μ-walk : tie.MeasureT-walk
+μ-walk shape counts ef-search floats numbers hashes work₀ query wanted nodes marks-at found-at found-end waiting₀ opened₀ found₀ work waiting opened found = ef-search - opened
+
+-- ---- the places, each with the way back to the one before
+
+abbrev pub Entry : Type 0
+Entry = tie.Start Inv-loop μ-loop Inv-walk μ-walk
+
+-- the parts of the work list are known
+abbrev pub Sizes : Type 0
+Sizes = tie.After-work-size Inv-loop μ-loop Inv-walk μ-walk
+
+-- the root is pushed
+abbrev pub Begun : Type 0
+Begun = tie.After-begin Inv-loop μ-loop Inv-walk μ-walk
+
+abbrev pub sizes : Begun → Sizes
+sizes b = b .before .before
+
+abbrev pub entry : Begun → Entry
+entry b = sizes b .before .before .before .before .before .before .before .before
+
+-- a turn of the walk's loop
+abbrev pub Turn : Type 0
+Turn = tie.At-walk Inv-loop μ-loop Inv-walk μ-walk
+
+abbrev pub begun : Turn → Begun
+begun t = t .before .before .before
+
+-- the least node is taken
+abbrev pub Least : Type 0
+Least = tie.After-pop Inv-loop μ-loop Inv-walk μ-walk
+
+abbrev pub turn : Least → Turn
+turn p = p .before .before .before .before
+
+-- it is opened
+abbrev pub Opened : Type 0
+Opened = tie.After-look-at Inv-loop μ-loop Inv-walk μ-walk
+
+abbrev pub least : Opened → Least
+least o = o .before .before .before
+
+-- it is a leaf
+abbrev pub Leaf : Type 0
+Leaf = tie.After-shown Inv-loop μ-loop Inv-walk μ-walk
+
+abbrev pub leaf : Leaf → Opened
+leaf l = l .before .before
+
+-- its hits are added
+abbrev pub Hits : Type 0
+Hits = tie.After-add-hits Inv-loop μ-loop Inv-walk μ-walk
+
+abbrev pub from : Hits → Leaf
+from h = h .before .before .before
+
+-- and their part of the work list is given back
+abbrev pub Back : Type 0
+Back = tie.After-slice-known4 Inv-loop μ-loop Inv-walk μ-walk
+
+abbrev pub added-hits : Back → Hits
+added-hits b = b .before .before
+
+-- it is an inner node
+abbrev pub Inner : Type 0
+Inner = tie.After-shown2 Inv-loop μ-loop Inv-walk μ-walk
+
+abbrev pub inner : Inner → Opened
+inner i = i .before .before
+
+-- a turn of the children's loop
+abbrev pub Child : Type 0
+Child = tie.At-loop Inv-loop μ-loop Inv-walk μ-walk
+
+abbrev pub parent : Child → Inner
+parent k = k .before .before
+
+-- its number is read
+abbrev pub Read : Type 0
+Read = tie.After-wide Inv-loop μ-loop Inv-walk μ-walk
+
+abbrev pub child : Read → Child
+child r = r .before .before .before
+
+-- it is asked whether it is fresh
+abbrev pub Asked : Type 0
+Asked = tie.After-fresh-child Inv-loop μ-loop Inv-walk μ-walk
+
+abbrev pub read : Asked → Read
+read a = a .before .before
+
+-- all children are marked
+abbrev pub AllMarked : Type 0
+AllMarked = tie.After-loop Inv-loop μ-loop Inv-walk μ-walk
+
+abbrev pub last : AllMarked → Child
+last d = d .before
+
+-- and they wait
+abbrev pub Pushed : Type 0
+Pushed = tie.After-push-children Inv-loop μ-loop Inv-walk μ-walk
+
+abbrev pub all-marked : Pushed → AllMarked
+all-marked p = p .before .before
+
+-- ---- what is known at each
+
+abbrev pub hit : Entry → ℕ → ℕ
+hit e = hitAt (e .args .shape) (e .args .floats .now) (e .args .numbers .now) (e .args .query .now)
+
+abbrev pub view : Entry → View
+view e = storeView (e .args .shape) (e .args .counts) (storeOf (e .args .floats .now) (e .args .numbers .now) (e .args .hashes .now)) (e .args .query .now) (e .args .wanted)
+
+pub below : (e : Entry) → ChildrenBelow (view e) (e .args .counts .nodes)
+below e = store-children-below (e .args .shape) (e .args .counts) (storeOf (e .args .floats .now) (e .args .numbers .now) (e .args .hashes .now)) (e .args .query .now) (e .args .wanted)
+
+pub lends : (e : Entry) → StoreLent (e .args .shape) (e .args .counts) (storeOf (e .args .floats .now) (e .args .numbers .now) (e .args .hashes .now)) (e .args .work .now)
+lends e = e .pre
+
+-- the work list with the root in it
+abbrev pub first : Begun → List ℕ
+first b = b .begin .last .1 .1 .1 .0
+
+pub first-works : (b : Begun) → Works (entry b .args .shape) (entry b .args .work .now) (first b)
+first-works b = let e = entry b in b .begin .ensures (hit e) (e .args .numbers .now) (e .args .hashes .now) (e .args .wanted) .works
+
+-- the parts of the work list: where the marks stand, and the hits' part
+pub marks : (b : Begun) → sizes b .before .before .marks-at .result ≡ marksAt (entry b .args .shape)
+marks b = sizes b .before .before .marks-at .ensures
+
+abbrev pub foundStart : Begun → ℕ
+foundStart b = sizes b .before .found-at .result
+
+abbrev pub foundEnd : Begun → ℕ
+foundEnd b = sizes b .work-size .result
+
+pub found-start : (b : Begun) → foundStart b ≡ foundAt (entry b .args .shape)
+found-start b = sizes b .before .found-at .ensures
+
+pub found-end : (b : Begun) → foundEnd b ≡ workSize (entry b .args .shape)
+found-end b = sizes b .work-size .ensures
+
+pub few : (t : Turn) → t .walk .waiting ≤ entry (begun t) .args .shape .nodes
+few t =
+    let e = entry (begun t) in
+    let w = lends e in
+    few-wait (e .args .shape) (e .args .counts) (hit e) (view e) (e .args .ef-search) (first (begun t)) (w .within .limits) (w .within .nodes) (w .some) (below e) (t .walk .work) (t .walk .waiting) (t .walk .hits) (t .walk .opened) (t .walk .inv)
+
+pub ended-works : (t : Turn) → Works (entry (begun t) .args .shape) (entry (begun t) .args .work .now) (t .walk .work)
+ended-works t = works-trans (entry (begun t) .args .shape) (entry (begun t) .args .work .now) (first (begun t)) (t .walk .work) (first-works (begun t)) (t .walk .inv .1 .works)
+
+-- the least node, and the work list without it
+abbrev pub node : Least → ℕ
+node p = p .pop .result .rest
+
+abbrev pub work : Least → List ℕ
+work p = p .pop .last .0
+
+pub node-low : (p : Least) → node p < entry (begun (turn p)) .args .counts .nodes
+node-low p =
+    let t = turn p in
+    let e = entry (begun t) in
+    let w = lends e in
+    opens-below (e .args .shape) (e .args .counts) (hit e) (view e) (e .args .ef-search) (first (begun t)) (w .within .limits) (w .within .nodes) (w .some) (below e) (t .walk .work) (work p) (t .walk .waiting) (t .walk .hits) (t .walk .opened) (p .pop .result) (t .walk .inv) (p .pop .ensures)
+
+pub opened : (p : Least) → Opens (entry (begun (turn p)) .args .shape) (entry (begun (turn p)) .args .counts) (hit (entry (begun (turn p)))) (view (entry (begun (turn p)))) (entry (begun (turn p)) .args .ef-search)
+    (first (begun (turn p))) (node p) (work p) (turn p .walk .waiting - 1) (turn p .walk .hits) (turn p .walk .opened + 1)
+opened p =
+    let t = turn p in
+    let e = entry (begun t) in
+    let w = lends e in
+    opens (e .args .shape) (e .args .counts) (hit e) (view e) (e .args .ef-search) (first (begun t)) (w .within .limits) (w .within .nodes) (w .some) (below e) (t .walk .work) (work p) (t .walk .waiting) (t .walk .hits) (t .walk .opened) (p .pop .result) (t .walk .inv) (p .before .before .if2 .left) (p .pop .ensures)
+
+pub opened-works : (p : Least) → Works (entry (begun (turn p)) .args .shape) (entry (begun (turn p)) .args .work .now) (work p)
+opened-works p = let e = entry (begun (turn p)) in works-trans (e .args .shape) (e .args .work .now) (first (begun (turn p))) (work p) (first-works (begun (turn p))) (opened p .1 .works)
+
+-- what the node shows
+abbrev pub Shows : Opened → Look → Type 0
+Shows o r = let e = entry (begun (turn (least o))) in Looks (e .args .shape) (e .args .counts) (e .args .numbers .now) (e .args .hashes .now) (e .args .wanted) (node (least o)) r
+
+pub shows : (o : Opened) (r : Look) → o .look-at .result ≡ r → Shows o r
+shows o r is = subst (Shows o) is (o .look-at .ensures)
