@@ -55,11 +55,28 @@ ends w r is =
 size : (w : tie.After-best-first-walk) → workSize (entry w .args .shape) ≤ length (work w)
 size w = omega (arith, entry w .pre .lent .work-size, w .best-first-walk .ensures .works .size)
 
+-- ---- the places, each with the way back to the one before
+
+abbrev after-hits-at : tie.After-work-size → tie.After-hits-at
+after-hits-at c = c .before
+
+abbrev after-work-size : tie.After-best-first-walk → tie.After-work-size
+after-work-size c = c .before .before .before
+
+abbrev after-best-first-walk : tie.After-enum-told → tie.After-best-first-walk
+after-best-first-walk c = c .before .before .before .before
+
+abbrev after-walked : tie.After-first-hits-arg3 → tie.After-walked
+after-walked c = c .before .before .before .before
+
+abbrev after-first-hits : tie.After-slice-known7 → tie.After-first-hits
+after-first-hits c = c .before .before .before .before .before .before
+
 hits-start : (w : tie.After-best-first-walk) → w .before .before .before .before .hits-at .result ≡ hitsAt (entry w .args .shape)
-hits-start w = w .before .before .before .before .hits-at .ensures
+hits-start w = after-hits-at (after-work-size w) .hits-at .ensures
 
 hits-end : (w : tie.After-best-first-walk) → w .before .before .before .work-size .result ≡ workSize (entry w .args .shape)
-hits-end w = w .before .before .before .work-size .ensures
+hits-end w = after-work-size w .work-size .ensures
 
 abbrev lentHits : tie.After-best-first-walk → List ℕ
 lentHits w = take (w .before .before .before .work-size .result - w .before .before .before .before .hits-at .result) (drop (w .before .before .before .before .hits-at .result) (work w))
@@ -67,7 +84,7 @@ lentHits w = take (w .before .before .before .work-size .result - w .before .bef
 lent-hits : (w : tie.After-best-first-walk) → lentHits w ≡ hitsPart (entry w .args .shape) (work w)
 lent-hits w =
     let s = entry w .args .shape in
-    lent-is (work w) (w .before .before .before .before .hits-at .result) (w .before .before .before .work-size .result) (hitsAt s) (3 * max (s .vectors) (s .entries)) (hits-start w) (hits-end w)
+    lent-is (work w) (after-hits-at (after-work-size w) .hits-at .result) (after-work-size w .work-size .result) (hitsAt s) (3 * max (s .vectors) (s .entries)) (hits-start w) (hits-end w)
 
 -- where the numbers of the vectors found stand in it
 from-is : (w : tie.After-best-first-walk) → w .before .before .found-at .result - w .before .before .before .before .hits-at .result ≡ foundIn (entry w .args .shape)
@@ -143,7 +160,7 @@ part-first-hits-end c = omega (arith, hits-end (from (c .before)), size (from (c
 
 first-hits-requires : tie.Need-first-hits-requires
 first-hits-requires c κs =
-    let h = c .before .before .before .before in
+    let h = after-walked c in
     let w = from h in
     let a = entry w .args in
     let pre = entry w .pre in
@@ -158,7 +175,7 @@ same-length c = search needs
 
 returns : tie.Need-returns
 returns c =
-    let w = c .before .before .before .before in
+    let w = after-best-first-walk c in
     let a = entry w .args in
     record {
       ends = damaged-search (a .shape) (a .counts) (hit (entry w)) (walk (view (entry w)) (a .ef-search)) (a .k) (work w) (a .ids .now) (a .distances .now) (ends w walked.Damaged (c .enum-told .given .1));
@@ -176,7 +193,7 @@ same-length-4 c = search needs
 
 returns-2 : tie.Need-returns-2
 returns-2 c =
-    let t = c .before .before .before .before .before .before in
+    let t = after-first-hits c in
     let h = hits t in
     let w = from h in
     let a = entry w .args in

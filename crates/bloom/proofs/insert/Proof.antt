@@ -21,12 +21,20 @@ set-bit-requires-2 c κs = search needs
 same-length : tie.Need-same-length
 same-length c = search needs
 
+-- ---- the places, each with the way back to the one before
+
+abbrev start : tie.After-second-bit → tie.Start
+start c = c .before .before .before
+
+abbrev after-set-bit : tie.After-slice-known3 → tie.After-set-bit
+after-set-bit c = c .before .before .before .before .before .before
+
 returns : tie.Need-returns
 unfolding insertHash
 returns c =
-    let first = c .before .before .before .before .before .before in
+    let first = after-set-bit c in
     let bits = first .before .before in
-    let filter = bits .before .before .before .args .filter .now in
+    let filter = start bits .args .filter .now in
     c .before .before .set-bit2 .ensures
     ∙ ap₂ setBit (first .set-bit .ensures ∙ ap (setBit filter) (bits .before .first-bit .ensures)) (bits .second-bit .ensures)
 

@@ -47,9 +47,14 @@ slice-write-filter-4 c = simp length-set (omega arith)
 same-length : tie.Need-same-length
 same-length c = search needs
 
+-- ---- the places, each with the way back to the one before
+
+abbrev start : tie.After-slice-known4 → tie.Start
+start c = c .before .before .before .before
+
 returns : tie.Need-returns
 returns c =
-    let entry = c .before .before .before .before in
+    let entry = start c in
     let long : length (entry .args .t2) ≡ 4 = search needs in
     put-all (entry .args .filter .now) (entry .args .t2) (entry .pre) long
 

@@ -42,9 +42,20 @@ returns c =
     let work = now (s .args .work) in
     builds-built (s .args .index) store work (check-built (s .args .index) store work (fine (c .before)) (c .if1 .taken)) (c .if1 .taken)
 
+-- ---- the places, each with the way back to the one before
+
+abbrev start : tie.After-build-check → tie.Start
+start c = c .before .before .before .before .before .before
+
+abbrev after-build-check : tie.After-known-told → tie.After-build-check
+after-build-check c = c .before .before .before
+
+abbrev else1 : tie.After-make-index-arg4 → tie.Else1
+else1 c = c .before .before .before .before
+
 make-index-requires : tie.Need-make-index-requires
 make-index-requires c κs =
-    let left = c .before .before .before .before in
+    let left = else1 c in
     let s = entry (left .before) in
     ready (s .args .index) (storeOf s) (now (s .args .work)) (fine (left .before)) (left .if1 .left)
 
@@ -53,9 +64,9 @@ same-length-2 c = search needs
 
 returns-2 : tie.Need-returns-2
 returns-2 c =
-    let s = c .before .before .before .before .before .before .before .before .before in
+    let s = start (after-build-check c) in
     builds-refused (s .args .index) (storeOf s) (now (s .args .work)) _
-    (sym (c .before .before .before .build-check .ensures) ∙ c .before .check .given .1)
+    (sym (after-build-check c .build-check .ensures) ∙ c .before .check .given .1)
 
 same-length-3 : tie.Need-same-length-3
 same-length-3 c = search needs

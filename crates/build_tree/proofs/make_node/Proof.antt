@@ -24,14 +24,61 @@ add-six-at c = search needs
 centroids-at-requires : tie.Need-centroids-at-requires
 centroids-at-requires c κs = search needs
 
+-- ---- the places, each with the way back to the one before
+
+abbrev start : tie.After-order-at → tie.Start
+start c = c .before .before .before .before
+
+abbrev after-order-at : tie.After-nodes-at → tie.After-order-at
+after-order-at c = c .before
+
+abbrev after-nodes-at : tie.After-centroids-at → tie.After-nodes-at
+after-nodes-at c = c .before
+
+abbrev after-centroids-at : tie.After-take-header → tie.After-centroids-at
+after-centroids-at c = c .before .before .before
+
+abbrev after-take-header : tie.After-numbers2 → tie.After-take-header
+after-take-header c = c .before .before .before .before .before
+
+abbrev after-take-header′ : tie.After-mean-into-arg2 → tie.After-take-header
+after-take-header′ c = c .before .before .before .before .before .before
+
+abbrev after-take-header′′ : tie.After-mean-into → tie.After-take-header
+after-take-header′′ c = c .before .before .before .before .before .before .before
+
+abbrev after-mean-into : tie.After-is-leaf → tie.After-mean-into
+after-mean-into c = c .before .before .before
+
+abbrev after-is-leaf : tie.Then1 → tie.After-is-leaf
+after-is-leaf c = c .before
+
+abbrev after-is-leaf′ : tie.Else1 → tie.After-is-leaf
+after-is-leaf′ c = c .before
+
+abbrev then1 : tie.After-write-six → tie.Then1
+then1 c = c .before .before
+
+abbrev else1 : tie.After-split-node-arg3 → tie.Else1
+else1 c = c .before .before .before .before
+
+abbrev else1′ : tie.After-split-node → tie.Else1
+else1′ c = c .before .before .before .before .before
+
+abbrev after-write-six : tie.After-struct-known3 → tie.After-write-six
+after-write-six c = c .before .before .before
+
+abbrev after-split-node : tie.After-slice-known9 → tie.After-split-node
+after-split-node c = c .before .before .before .before .before .before
+
 mul-centroid-at : tie.Need-mul-centroid-at
 mul-centroid-at c =
-    let a = c .before .before .before .before .before .before .before in
+    let a = start (after-order-at (after-nodes-at (c .before))) in
     omega (arith, centroid-within (a .pre .0) (a .pre .1), a .good)
 
 add-centroid-at : tie.Need-add-centroid-at
 add-centroid-at c =
-    let a = c .before .before .before .before .before .before .before in
+    let a = start (after-order-at (after-nodes-at (c .before))) in
     omega (arith, centroid-within (a .pre .0) (a .pre .1), c .before .centroids-at .ensures, a .good)
 
 take-header-requires : tie.Need-take-header-requires
@@ -51,15 +98,15 @@ part-mean-into-start c = search needs
 
 part-mean-into-end : tie.Need-part-mean-into-end
 part-mean-into-end c =
-    let t = c .before .before .before .before .before in
-    let a = t .before .before .before .before .before .before .before .before .before in
-    omega (arith, group-fits (a .pre .0) (a .pre .1) (t .before .before .before .before .before .order-at .ensures) (t .take-header .ensures))
+    let t = after-take-header c in
+    let a = start (after-order-at (after-nodes-at (after-centroids-at t))) in
+    omega (arith, group-fits (a .pre .0) (a .pre .1) (after-order-at (after-nodes-at (after-centroids-at t)) .order-at .ensures) (t .take-header .ensures))
 
 mean-into-requires : tie.Need-mean-into-requires
 mean-into-requires c κs =
-    let t = c .before .before .before .before .before .before in
-    let a = t .before .before .before .before .before .before .before .before .before in
-    mean-room (a .pre .0) (a .pre .1) (t .before .before .before .before .before .order-at .ensures) (t .take-header .ensures) (t .before .before .before .centroids-at .ensures)
+    let t = after-take-header′ c in
+    let a = start (after-order-at (after-nodes-at (after-centroids-at t))) in
+    mean-room (a .pre .0) (a .pre .1) (after-order-at (after-nodes-at (after-centroids-at t)) .order-at .ensures) (t .take-header .ensures) (after-centroids-at t .centroids-at .ensures)
 
 is-leaf-requires : tie.Need-is-leaf-requires
 is-leaf-requires c κs = search needs
@@ -69,9 +116,9 @@ write-six-requires c κs = search needs
 
 add-result : tie.Need-add-result
 add-result c =
-    let t = c .before .before .before .before .before .before .before .before .before .before .before .before .before .before .before .before in
-    let a = t .before .before .before .before .before .before .before .before .before in
-    omega (arith, end-fits (a .pre .0) (a .pre .1) (t .before .before .before .before .before .order-at .ensures) (t .take-header .ensures), a .pre .0 .held, a .pre .0 .limits .vectors-high)
+    let t = after-take-header′′ (after-mean-into (after-is-leaf (then1 (after-write-six c)))) in
+    let a = start (after-order-at (after-nodes-at (after-centroids-at t))) in
+    omega (arith, end-fits (a .pre .0) (a .pre .1) (after-order-at (after-nodes-at (after-centroids-at t)) .order-at .ensures) (t .take-header .ensures), a .pre .0 .held, a .pre .0 .limits .vectors-high)
 
 same-length : tie.Need-same-length
 same-length c = search needs
@@ -81,21 +128,21 @@ same-length-2 c = search needs
 
 returns : tie.Need-returns
 returns c =
-    let t = c .before .before .before .before .before .before .before .before .before .before .before .before .before .before .before .before in
-    let a = t .before .before .before .before .before .before .before .before .before in
-    leaf-end (a .pre .0) (a .pre .1) (t .before .before .before .before .before .order-at .ensures) (t .take-header .ensures) (a .args .leaf-size) (t .before .before .before .centroids-at .ensures) (t .before .before .before .before .nodes-at .ensures) (c .before .before .before .before .before .before .before .before .before .mean-into .ensures) (sym (c .before .before .before .before .before .before .is-leaf .ensures) ∙ c .before .before .before .before .before .if1 .taken) (c .before .before .before .write-six .ensures)
+    let t = after-take-header′′ (after-mean-into (after-is-leaf (then1 (after-write-six c)))) in
+    let a = start (after-order-at (after-nodes-at (after-centroids-at t))) in
+    leaf-end (a .pre .0) (a .pre .1) (after-order-at (after-nodes-at (after-centroids-at t)) .order-at .ensures) (t .take-header .ensures) (a .args .leaf-size) (after-centroids-at t .centroids-at .ensures) (after-nodes-at (after-centroids-at t) .nodes-at .ensures) (after-mean-into (after-is-leaf (then1 (after-write-six c))) .mean-into .ensures) (sym (after-is-leaf (then1 (after-write-six c)) .is-leaf .ensures) ∙ then1 (after-write-six c) .if1 .taken) (after-write-six c .write-six .ensures)
 
 sub-split-node : tie.Need-sub-split-node
 sub-split-node c =
-    let t = c .before .before .before .before .before .before .before .before .before .before .before .before in
-    let a = t .before .before .before .before .before .before .before .before .before in
-    omega (arith, levels-some (a .pre .0) (a .pre .1) (t .before .before .before .before .before .order-at .ensures) (t .take-header .ensures) (a .args .leaf-size) (t .before .before .before .centroids-at .ensures) (t .before .before .before .before .nodes-at .ensures) (c .before .before .before .before .before .mean-into .ensures) (sym (c .before .before .is-leaf .ensures) ∙ c .before .if1 .left))
+    let t = after-take-header′′ (after-mean-into (after-is-leaf′ (c .before))) in
+    let a = start (after-order-at (after-nodes-at (after-centroids-at t))) in
+    omega (arith, levels-some (a .pre .0) (a .pre .1) (after-order-at (after-nodes-at (after-centroids-at t)) .order-at .ensures) (t .take-header .ensures) (a .args .leaf-size) (after-centroids-at t .centroids-at .ensures) (after-nodes-at (after-centroids-at t) .nodes-at .ensures) (after-mean-into (after-is-leaf′ (c .before)) .mean-into .ensures) (sym (c .before .before .is-leaf .ensures) ∙ c .before .if1 .left))
 
 split-node-requires : tie.Need-split-node-requires
 split-node-requires c κs =
-    let t = c .before .before .before .before .before .before .before .before .before .before .before .before .before .before .before in
-    let a = t .before .before .before .before .before .before .before .before .before in
-    (lent₁ (a .pre .0) (a .pre .1) (t .before .before .before .before .before .order-at .ensures) (t .take-header .ensures) (a .args .leaf-size) (t .before .before .before .centroids-at .ensures) (t .before .before .before .before .nodes-at .ensures) (c .before .before .before .before .before .before .before .before .mean-into .ensures) (sym (c .before .before .before .before .before .is-leaf .ensures) ∙ c .before .before .before .before .if1 .left) (c .before .before .before .before .before .before .before .before .mean-into .kept .0), splits (a .pre .0) (a .pre .1) (t .before .before .before .before .before .order-at .ensures) (t .take-header .ensures) (a .args .leaf-size) (t .before .before .before .centroids-at .ensures) (t .before .before .before .before .nodes-at .ensures) (c .before .before .before .before .before .before .before .before .mean-into .ensures) (sym (c .before .before .before .before .before .is-leaf .ensures) ∙ c .before .before .before .before .if1 .left))
+    let t = after-take-header′′ (after-mean-into (after-is-leaf′ (else1 c))) in
+    let a = start (after-order-at (after-nodes-at (after-centroids-at t))) in
+    (lent₁ (a .pre .0) (a .pre .1) (after-order-at (after-nodes-at (after-centroids-at t)) .order-at .ensures) (t .take-header .ensures) (a .args .leaf-size) (after-centroids-at t .centroids-at .ensures) (after-nodes-at (after-centroids-at t) .nodes-at .ensures) (after-mean-into (after-is-leaf′ (else1 c)) .mean-into .ensures) (sym (after-is-leaf′ (else1 c) .is-leaf .ensures) ∙ else1 c .if1 .left) (after-mean-into (after-is-leaf′ (else1 c)) .mean-into .kept .0), splits (a .pre .0) (a .pre .1) (after-order-at (after-nodes-at (after-centroids-at t)) .order-at .ensures) (t .take-header .ensures) (a .args .leaf-size) (after-centroids-at t .centroids-at .ensures) (after-nodes-at (after-centroids-at t) .nodes-at .ensures) (after-mean-into (after-is-leaf′ (else1 c)) .mean-into .ensures) (sym (after-is-leaf′ (else1 c) .is-leaf .ensures) ∙ else1 c .if1 .left))
 
 same-length-3 : tie.Need-same-length-3
 same-length-3 c = search needs
@@ -108,9 +155,9 @@ same-length-5 c = search needs
 
 returns-2 : tie.Need-returns-2
 returns-2 c =
-    let t = c .before .before .before .before .before .before .before .before .before .before .before .before .before .before .before .before .before .before .before .before .before .before in
-    let a = t .before .before .before .before .before .before .before .before .before in
-    inner-end (a .pre .0) (a .pre .1) (t .before .before .before .before .before .order-at .ensures) (t .take-header .ensures) (a .args .leaf-size) (t .before .before .before .centroids-at .ensures) (t .before .before .before .before .nodes-at .ensures) (c .before .before .before .before .before .before .before .before .before .before .before .before .before .before .before .mean-into .ensures) (sym (c .before .before .before .before .before .before .before .before .before .before .before .before .is-leaf .ensures) ∙ c .before .before .before .before .before .before .before .before .before .before .before .if1 .left) (c .before .before .before .before .before .before .split-node .ensures)
+    let t = after-take-header′′ (after-mean-into (after-is-leaf′ (else1′ (after-split-node c)))) in
+    let a = start (after-order-at (after-nodes-at (after-centroids-at t))) in
+    inner-end (a .pre .0) (a .pre .1) (after-order-at (after-nodes-at (after-centroids-at t)) .order-at .ensures) (t .take-header .ensures) (a .args .leaf-size) (after-centroids-at t .centroids-at .ensures) (after-nodes-at (after-centroids-at t) .nodes-at .ensures) (after-mean-into (after-is-leaf′ (else1′ (after-split-node c))) .mean-into .ensures) (sym (after-is-leaf′ (else1′ (after-split-node c)) .is-leaf .ensures) ∙ else1′ (after-split-node c) .if1 .left) (after-split-node c .split-node .ensures)
 
 pub make-node-spec : {M : Type 1} → statement M
 make-node-spec =

@@ -23,13 +23,27 @@ Inv-loop numbers₀ at nodes links work₀ top₀ end₀ i₀ numbers work top e
 abbrev μ-loop : tie.MeasureT-loop
 μ-loop numbers₀ at nodes links work₀ top₀ end₀ i₀ numbers work top end i = i
 
+-- ---- the places, each with the way back to the one before
+
+abbrev start : tie.At-loop Inv-loop μ-loop → tie.Start Inv-loop μ-loop
+start c = c .before .before .before
+
+abbrev at-loop′ : tie.After-wide Inv-loop μ-loop → tie.At-loop Inv-loop μ-loop
+at-loop′ c = c .before .before .before
+
+abbrev after-wide : tie.After-copy-to-arg2 Inv-loop μ-loop → tie.After-wide Inv-loop μ-loop
+after-wide c = c .before .before .before
+
+abbrev after-wide′ : tie.After-slice-known4 Inv-loop μ-loop → tie.After-wide Inv-loop μ-loop
+after-wide′ c = c .before .before .before .before .before .before
+
 turn : (c : tie.After-wide Inv-loop μ-loop)
     → Turn (cells (c .before .before .before .before .before .before .args .at) (c .before .before .before .before .before .before .args .nodes) (c .before .before .before .before .before .before .args .numbers .now)) (c .before .before .before .before .before .before .args .numbers .now) (c .before .before .before .before .before .before .args .work .now)
     (c .before .before .before .before .before .before .args .nodes) (c .before .before .before .before .before .before .args .links) (c .before .before .before .loop .numbers) (c .before .before .before .loop .work) (c .before .before .before .loop .top) (c .before .before .before .loop .end) (c .before .before .before .loop .i - 1) (c .wide .result)
 turn c =
-    let s = c .before .before .before .before .before .before in
+    let s = start (at-loop′ c) in
     let args = s .args in
-    let at-loop = c .before .before .before .loop in
+    let at-loop = at-loop′ c .loop in
     let l = args .numbers .now in
     let cs = cells (args .at) (args .nodes) l in
     let i = at-loop .i - 1 in
@@ -105,38 +119,38 @@ part-copy-to-end c = let t = turn (c .before .before) in omega arith
 
 copy-to-requires : tie.Need-copy-to-requires Inv-loop μ-loop
 copy-to-requires c κs =
-    let t = turn (c .before .before .before) in
-    let s = c .before .before .before .before .before .before .before .before .before in
-    let at-loop = c .before .before .before .before .before .before .loop in
-    let w = c .before .before .before .wide .result in
+    let t = turn (after-wide c) in
+    let s = start (at-loop′ (after-wide c)) in
+    let at-loop = at-loop′ (after-wide c) .loop in
+    let w = after-wide c .wide .result in
     let long = ap (λ (r : List ℕ). length r) (lent-run (at-loop .top) w (at-loop .work)) ∙ length-part (at-loop .top) w (at-loop .work) (omega arith) in
     let a = s .pre .1 .0 in
     let n = at-loop .inv .1 in
     omega arith
 
 sub-top : tie.Need-sub-top Inv-loop μ-loop
-sub-top c = let t = turn (c .before .before .before .before .before .before) in omega arith
+sub-top c = let t = turn (after-wide′ c) in omega arith
 
 cast-work : tie.Need-cast-work Inv-loop μ-loop
-cast-work c = let t = turn (c .before .before .before .before .before .before) in omega arith
+cast-work c = let t = turn (after-wide′ c) in omega arith
 
 mul-work : tie.Need-mul-work Inv-loop μ-loop
-mul-work c = let t = turn (c .before .before .before .before .before .before) in omega arith
+mul-work c = let t = turn (after-wide′ c) in omega arith
 
 slice-write-work : tie.Need-slice-write-work Inv-loop μ-loop
-slice-write-work c = let t = turn (c .before .before .before .before .before .before) in omega arith
+slice-write-work c = let t = turn (after-wide′ c) in omega arith
 
 loop-less : tie.Need-loop-less Inv-loop μ-loop
 loop-less c = omega arith
 
 loop-again : tie.Need-loop-again Inv-loop μ-loop
 loop-again c =
-    let t = turn (c .before .before .before .before .before .before) in
-    let s = c .before .before .before .before .before .before .before .before .before .before .before .before in
+    let t = turn (after-wide′ c) in
+    let s = start (at-loop′ (after-wide′ c)) in
     let args = s .args in
-    let at-loop = c .before .before .before .before .before .before .before .before .before .loop in
+    let at-loop = at-loop′ (after-wide′ c) .loop in
     let copy = c .before .before .copy-to in
-    let w = c .before .before .before .before .before .before .wide .result in
+    let w = after-wide′ c .wide .result in
     let l = args .numbers .now in
     let cs = cells (args .at) (args .nodes) l in
     let n = length-cells (args .at) (args .nodes) l in
@@ -160,7 +174,7 @@ same-length-2 c = c .before .loop .inv .2 .work-long
 
 returns : tie.Need-returns Inv-loop μ-loop
 returns c =
-    let s = c .before .before .before .before in
+    let s = start (c .before) in
     let args = s .args in
     let at-loop = c .before .loop in
     let linking = at-loop .inv .2 in

@@ -13,9 +13,26 @@ use borrow.Author.Needs.{needs}
 use Rattle.child_links.proofs.link_nodes.Statement.{statement}
 use Rattle.child_links.proofs.link_nodes.Tie as tie
 
+-- ---- the places, each with the way back to the one before
+
+abbrev start : tie.After-set-starts-arg → tie.Start
+start c = c .before .before .before
+
+abbrev start′ : tie.After-set-starts → tie.Start
+start′ c = c .before .before .before .before
+
+abbrev after-set-starts : tie.After-link-children-arg2 → tie.After-set-starts
+after-set-starts c = c .before .before .before .before
+
+abbrev after-set-starts′ : tie.After-link-children → tie.After-set-starts
+after-set-starts′ c = c .before .before .before .before .before
+
+abbrev after-link-children : tie.After-slice-known5 → tie.After-link-children
+after-link-children c = c .before .before .before .before
+
 set-starts-requires : tie.Need-set-starts-requires
 set-starts-requires c κs =
-    let s = c .before .before .before in
+    let s = start c in
     let args = s .args in
     let fit = s .pre .0 in
     let long = s .pre .1 .0 in
@@ -30,9 +47,9 @@ add-link-children c = search needs
 
 link-children-requires : tie.Need-link-children-requires
 link-children-requires c κs =
-    let s = c .before .before .before .before .before .before .before .before in
+    let s = start′ (after-set-starts c) in
     let args = s .args in
-    let starts = c .before .before .before .before .set-starts in
+    let starts = after-set-starts c .set-starts in
     let n = starts .kept .0 in
     let fit = s .pre .0 in
     let long = s .pre .1 .0 in
@@ -47,10 +64,10 @@ same-length-2 c = search needs
 
 returns : tie.Need-returns
 returns c =
-    let s = c .before .before .before .before .before .before .before .before .before .before .before .before .before in
+    let s = start′ (after-set-starts′ (after-link-children c)) in
     let args = s .args in
-    let starts = c .before .before .before .before .before .before .before .before .before .set-starts in
-    let link = c .before .before .before .before .link-children in
+    let starts = after-set-starts′ (after-link-children c) .set-starts in
+    let link = after-link-children c .link-children in
     let kept = cells-kept (args .table) (args .nodes) (blockStart (args .table) (args .numbers .now)) (args .numbers .now) (starts .last .0) (starts .ensures) in
     (link .ensures .0 ∙ ap₂ (λ (r cs : List ℕ). sets r (args .links) (linkUp 0 cs .links)) (starts .ensures) kept, link .ensures .1)
 

@@ -38,10 +38,18 @@ same-length-4 c = search needs
 same-length-5 : tie.Need-same-length-5
 same-length-5 c = search needs
 
+-- ---- the places, each with the way back to the one before
+
+abbrev after-index : tie.After-add → tie.After-index
+after-index c = c .before .before .before .before .before
+
+abbrev after-add : tie.After-slice-known8 → tie.After-add
+after-add c = c .before .before .before .before .before .before .before .before .before .before
+
 returns-2 : tie.Need-returns-2
 returns-2 c =
-    let added = c .before .before .before .before .before .before .before .before .before .before in
-    let held = added .before .before .before .before .before in
+    let added = after-add c in
+    let held = after-index added in
     add-held _ _ _ _ _ _ _ _ (sym (held .before .before .state-in .ensures) ∙ held .index .given .1) (added .add .ensures) (c .before .before .keep .ensures)
 
 pub curator-add-spec : {M : Type 1} → statement M

@@ -41,10 +41,18 @@ same-length-5 c = search needs
 same-length-6 : tie.Need-same-length-6
 same-length-6 c = search needs
 
+-- ---- the places, each with the way back to the one before
+
+abbrev after-index : tie.After-build → tie.After-index
+after-index c = c .before .before .before .before .before .before
+
+abbrev after-build : tie.After-slice-known10 → tie.After-build
+after-build c = c .before .before .before .before .before .before .before .before .before .before .before .before
+
 returns-2 : tie.Need-returns-2
 returns-2 c =
-    let made = c .before .before .before .before .before .before .before .before .before .before .before .before in
-    let held = made .before .before .before .before .before .before in
+    let made = after-build c in
+    let held = after-index made in
     build-held _ _ _ _ _ _ _ _ _ (sym (held .before .before .state-in .ensures) ∙ held .index .given .1) (made .build .ensures) (c .before .before .keep .ensures)
 
 pub curator-build-spec : {M : Type 1} → statement M

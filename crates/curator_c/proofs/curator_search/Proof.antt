@@ -36,16 +36,33 @@ hits-asked-requires c κs = omega (arith, entry c .good)
 search-requires : tie.Need-search-requires
 search-requires c κs = search needs
 
+-- ---- the places, each with the way back to the one before
+
+abbrev at-start : tie.After-enum-told → tie.Start
+at-start c = c .before .before .before .before .before .before .before .before .before .before .before .before
+
+abbrev after-index : tie.After-hits-asked → tie.After-index
+after-index c = c .before .before
+
+abbrev after-hits-asked : tie.After-search → tie.After-hits-asked
+after-hits-asked c = c .before .before .before .before
+
+abbrev after-search : tie.After-tell-arg → tie.After-search
+after-search c = c .before .before .before .before .before .before .before
+
+abbrev after-search′ : tie.After-slice-known8 → tie.After-search
+after-search′ c = c .before .before .before .before .before .before .before .before .before .before
+
 tell-requires : tie.Need-tell-requires
 tell-requires c κs =
-    let searched = c .before .before .before .before .before .before .before in
+    let searched = after-search c in
     let answer = now (start searched .args .answer) in
     values-fit _ _ _ answer (callOf (start searched)) _ (searched .search .result) refl
-    (asked _ _ _ answer (callOf (start searched)) _ _ (searched .before .before .before .before .hits-asked .ensures) (searched .search .ensures))
+    (asked _ _ _ answer (callOf (start searched)) _ _ (after-hits-asked searched .hits-asked .ensures) (searched .search .ensures))
 
 returns : tie.Need-returns
 returns c =
-    search-nothing _ _ _ (callOf (c .before .before .before .before .before .before .before .before .before .before .before .before)) _ (sym (c .before .before .state-in .ensures) ∙ c .enum-told .given .1)
+    search-nothing _ _ _ (callOf (at-start c)) _ (sym (c .before .before .state-in .ensures) ∙ c .enum-told .given .1)
 
 same-length : tie.Need-same-length
 same-length c = search needs
@@ -61,12 +78,12 @@ same-length-4 c = search needs
 
 returns-2 : tie.Need-returns-2
 returns-2 c =
-    let searched = c .before .before .before .before .before .before .before .before .before .before in
-    let held = searched .before .before .before .before .before .before in
+    let searched = after-search′ c in
+    let held = after-index (after-hits-asked searched) in
     let told = c .before .before .tell .ensures in
     let answer = now (start searched .args .answer) in
     search-held _ _ _ _ (callOf (start searched)) answer (searched .search .result) _ _ _ _ _ (sym (held .before .before .state-in .ensures) ∙ held .index .given .1)
-    (asked _ _ _ answer (callOf (start searched)) _ _ (searched .before .before .before .before .hits-asked .ensures) (searched .search .ensures))
+    (asked _ _ _ answer (callOf (start searched)) _ _ (after-hits-asked searched .hits-asked .ensures) (searched .search .ensures))
     (told .0)
     (told .1)
 

@@ -25,9 +25,14 @@ returns-2 c = returns-refused _ _ _ _ (c .before .before .answer .given .1) (c .
 same-length : tie.Need-same-length
 same-length c = search needs
 
+-- ---- the places, each with the way back to the one before
+
+abbrev else1 : tie.After-slice-known2 → tie.Else1
+else1 c = c .before .before .before .before
+
 returns-3 : tie.Need-returns-3
 returns-3 c =
-    let left = c .before .before .before .before in
+    let left = else1 c in
     returns-kept _ _ _ _ (left .before .before .answer2 .given .1) (left .if1 .left) (c .before .before .write-state .ensures)
 
 pub keep-spec : {M : Type 1} → statement M

@@ -11,11 +11,19 @@ use borrow.Author.Needs.{needs}
 use Rattle.curator_c.proofs.tell.Statement.{statement}
 use Rattle.curator_c.proofs.tell.Tie as tie
 
+-- ---- the places, each with the way back to the one before
+
+abbrev start : tie.After-known-told2 → tie.Start
+start c = c .before .before .before .before
+
+abbrev start′ : tie.After-flag → tie.Start
+start′ c = c .before .before .before .before .before
+
 -- the three places of the answer, where there is one
-room : (c : tie.After-known-told2) → 3 ≤ length (c .before .before .before .before .args .answer .now)
+room : (c : tie.After-known-told2) → 3 ≤ length (start c .args .answer .now)
 room c =
-    subst (λ (f : Found). length (foundValues f) ≤ length (c .before .before .before .before .args .answer .now)) (c .before .found2 .given .1)
-    (c .before .before .before .before .pre)
+    subst (λ (f : Found). length (foundValues f) ≤ length (start c .args .answer .now)) (c .before .found2 .given .1)
+    (start c .pre)
 
 enum-known-found : tie.Need-enum-known-found
 enum-known-found c = search needs
@@ -31,7 +39,7 @@ slice-write-answer c = omega (arith, room c)
 
 slice-write-answer-2 : tie.Need-slice-write-answer-2
 slice-write-answer-2 c =
-    lt-length-sets (c .before .before .before .before .args .answer .now) 0 (c .before .found2 .given .0 .0 ∷ []) (omega (arith, room c))
+    lt-length-sets (start c .args .answer .now) 0 (c .before .found2 .given .0 .0 ∷ []) (omega (arith, room c))
 
 flag-requires : tie.Need-flag-requires
 flag-requires c κs = search needs
@@ -39,7 +47,7 @@ flag-requires c κs = search needs
 slice-write-answer-3 : tie.Need-slice-write-answer-3
 slice-write-answer-3 c =
     let values = c .before .before .found2 .given .0 in
-    lt-length-sets (c .before .before .before .before .before .args .answer .now) 0 (values .0 ∷ values .1 .0 ∷ []) (omega (arith, room (c .before)))
+    lt-length-sets (start′ c .args .answer .now) 0 (values .0 ∷ values .1 .0 ∷ []) (omega (arith, room (c .before)))
 
 returns : tie.Need-returns
 returns c = search needs
@@ -50,7 +58,7 @@ same-length c = search needs
 returns-2 : tie.Need-returns-2
 returns-2 c =
     let told = c .before .before .found2 .given .1 in
-    let list = c .before .before .before .before .before .args .answer .now in
+    let list = start′ c .args .answer .now in
     let values = c .before .before .found2 .given .0 in (
       ap foundNumber (sym told),
       ap (λ (x : ℕ). sets list 0 (values .0 ∷ values .1 .0 ∷ x ∷ [])) (c .flag .ensures) ∙ ap (λ (f : Found). sets list 0 (foundValues f)) (sym told),

@@ -47,11 +47,28 @@ from-one-requires-3 c κs = search needs
 from-one-requires-4 : tie.Need-from-one-requires-4
 from-one-requires-4 c κs = search needs
 
+-- ---- the places, each with the way back to the one before
+
+abbrev after-all-equal : tie.Then1 → tie.After-all-equal
+after-all-equal c = c .before
+
+abbrev then1 : tie.After-dot-four → tie.Then1
+then1 c = c .before
+
+abbrev after-dot-four : tie.After-from-one → tie.After-dot-four
+after-dot-four c = c .before
+
+abbrev after-cosine-distance-normalized : tie.After-cosine-distance-normalized4 → tie.After-cosine-distance-normalized
+after-cosine-distance-normalized c = c .before .before .before
+
+abbrev after-from-one : tie.After-from-one4 → tie.After-from-one
+after-from-one c = c .before .before .before
+
 returns : tie.Need-returns
 returns c =
-    let same = equal _ _ _ _ _ (subst T (sym (sym (c .before .before .before .before .before .before .all-equal .ensures) ∙ c .before .before .before .before .before .if1 .taken)) tt) in
-    let sums = c .before .before .before .before .dot-four .ensures in (
-      field _ _ _ _ (same .0) (sums .0) (c .before .before .before .from-one .ensures),
+    let same = equal _ _ _ _ _ (subst T (sym (sym (after-all-equal (then1 (after-dot-four (after-from-one c))) .all-equal .ensures) ∙ then1 (after-dot-four (after-from-one c)) .if1 .taken)) tt) in
+    let sums = after-dot-four (after-from-one c) .dot-four .ensures in (
+      field _ _ _ _ (same .0) (sums .0) (after-from-one c .from-one .ensures),
       (
         field _ _ _ _ (same .1 .0) (sums .1 .0) (c .before .before .from-one2 .ensures),
         (
@@ -75,7 +92,7 @@ cosine-distance-normalized-requires-4 c κs = search needs
 
 returns-2 : tie.Need-returns-2
 returns-2 c = (
-  c .before .before .before .cosine-distance-normalized .ensures,
+  after-cosine-distance-normalized c .cosine-distance-normalized .ensures,
   (
     c .before .before .cosine-distance-normalized2 .ensures,
     (c .before .cosine-distance-normalized3 .ensures, c .cosine-distance-normalized4 .ensures),

@@ -26,11 +26,40 @@ file c = entry c .args .file .now
 abbrev start : tie.After-known-told → ℕ
 start c = c .before .start .given .0 .0
 
+-- ---- the places, each with the way back to the one before
+
+abbrev at-start : tie.After-shared-slice-known → tie.Start
+at-start c = c .before
+
+abbrev after-shared-slice-known : tie.After-skip → tie.After-shared-slice-known
+after-shared-slice-known c = c .before
+
+abbrev after-skip : tie.After-known-told → tie.After-skip
+after-skip c = c .before .before .before
+
+abbrev after-known-told : tie.After-u16-at → tie.After-known-told
+after-known-told c = c .before
+
+abbrev after-u16-at : tie.Else1 → tie.After-u16-at
+after-u16-at c = c .before
+
+abbrev else1 : tie.After-read-filtered → tie.Else1
+else1 c = c .before .before .before
+
+abbrev else1′ : tie.Then4 → tie.Else1
+else1′ c = c .before .before .before
+
+abbrev else1′′′ : tie.Else4 → tie.Else1
+else1′′′ c = c .before .before .before
+
+abbrev else1′′ : tie.After-read-search → tie.Else1
+else1′′ c = c .before .before .before .before
+
 two : (c : tie.After-known-told) → Skip (file c) (entry c .args .at) 2 (start c)
-two c = went (file c) (entry c .args .at) 2 (start c) (c .before .before .before .skip .ensures) (c .before .start .given .1)
+two c = went (file c) (entry c .args .at) 2 (start c) (after-skip c .skip .ensures) (c .before .start .given .1)
 
 bytes : (c : tie.After-known-told) → Bytes (file c)
-bytes c = bytes-of (file c) (λ i. omega (arith, c .before .before .before .before .shared-slice-known .given i))
+bytes c = bytes-of (file c) (λ i. omega (arith, after-shared-slice-known (after-skip c) .shared-slice-known .given i))
 
 -- what is read after the mark is read of the record
 by-mark : (c : tie.After-u16-at) (r : Reading)
@@ -54,10 +83,10 @@ enum-told c = search needs
 
 returns : tie.Need-returns
 returns c =
-    let s = c .before .before .before .before in
+    let s = at-start (after-shared-slice-known (c .before .before)) in
     let a = s .args in
     let cut = stopped-anywhere (a .file .now) (a .at) 1 (c .before .before .skip .ensures) (c .enum-told .given .1) in
-    reads-as (a .known) (a .file .now) (a .at) (suc (a .at)) Bad (bytes-of (a .file .now) (λ i. omega (arith, c .before .before .before .shared-slice-known .given i)))
+    reads-as (a .known) (a .file .now) (a .at) (suc (a .at)) Bad (bytes-of (a .file .now) (λ i. omega (arith, after-shared-slice-known (c .before .before) .shared-slice-known .given i)))
     (omega arith) (bad (a .known) (a .file .now) (suc (a .at)) (mark-cut (a .known) (a .file .now) (a .at) cut))
 
 u16-at-requires : tie.Need-u16-at-requires
@@ -77,12 +106,12 @@ returns-2 c =
     (sym (c .before .if1 .taken)) (c .read-settings .ensures (a .known)))
 
 read-vector-requires : tie.Need-read-vector-requires
-read-vector-requires c κs = skip-end (two (c .before .before .before))
+read-vector-requires c κs = skip-end (two (after-known-told (after-u16-at (c .before))))
 
 returns-3 : tie.Need-returns-3
 unfolding decodeAfter
 returns-3 c =
-    let read = c .before .before .before in
+    let read = after-u16-at (c .before .before) in
     let t = read .before in
     let a = entry t .args in
     by-mark read (c .read-vector .result)
@@ -90,12 +119,12 @@ returns-3 c =
     (sym (c .before .if2 .taken)) (c .read-vector .ensures))
 
 read-filtered-requires : tie.Need-read-filtered-requires
-read-filtered-requires c κs = skip-end (two (c .before .before .before .before))
+read-filtered-requires c κs = skip-end (two (after-known-told (after-u16-at (c .before .before))))
 
 returns-4 : tie.Need-returns-4
 unfolding decodeAfter
 returns-4 c =
-    let read = c .before .before .before .before in
+    let read = after-u16-at (else1 c) in
     let t = read .before in
     let a = entry t .args in
     by-mark read (c .read-filtered .result)
@@ -103,12 +132,12 @@ returns-4 c =
     (sym (c .before .if3 .taken)) (c .read-filtered .ensures))
 
 read-search-requires : tie.Need-read-search-requires
-read-search-requires c κs = skip-end (two (c .before .before .before .before .before))
+read-search-requires c κs = skip-end (two (after-known-told (after-u16-at (else1′ c))))
 
 returns-5 : tie.Need-returns-5
 unfolding decodeAfter
 returns-5 c =
-    let read = c .before .before .before .before .before in
+    let read = after-u16-at (else1′′ c) in
     let t = read .before in
     let a = entry t .args in
     by-mark read (c .read-search .result)
@@ -117,12 +146,12 @@ returns-5 c =
 
 returns-6 : tie.Need-returns-6
 returns-6 c =
-    let read = c .before .before .before .before in
+    let read = after-u16-at (else1′′′ c) in
     let t = read .before in
     let a = entry t .args in
     reads-as (a .known) (file t) (a .at) (start t) Bad (bytes t) (omega (arith, two t .place))
     (bad (a .known) (file t) (start t)
-    (no-mark (a .known) (file t) (a .at) (two t) (read .u16-at .ensures) (c .before .before .before .if1 .left) (c .before .before .if2 .left)
+    (no-mark (a .known) (file t) (a .at) (two t) (read .u16-at .ensures) (else1′′′ c .if1 .left) (c .before .before .if2 .left)
     (c .before .if3 .left) (c .if4 .left)))
 
 pub read-record-spec : {M : Type 1} → statement M

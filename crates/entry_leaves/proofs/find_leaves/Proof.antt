@@ -33,18 +33,29 @@ shared-slice-read-wide c = omega arith
 wide-requires : tie.Need-wide-requires Inv-loop μ-loop
 wide-requires c κs = search needs
 
+-- ---- the places, each with the way back to the one before
+
+abbrev entry : tie.At-loop Inv-loop μ-loop → tie.Start Inv-loop μ-loop
+entry c = c .before .before .before
+
+abbrev at-loop′ : tie.After-wide Inv-loop μ-loop → tie.At-loop Inv-loop μ-loop
+at-loop′ c = c .before .before .before
+
+abbrev at-loop′′ : tie.After-slice-known2 Inv-loop μ-loop → tie.At-loop Inv-loop μ-loop
+at-loop′′ c = c .before .before .before .before
+
 mul-work : tie.Need-mul-work Inv-loop μ-loop
 mul-work c =
-    let start = c .before .before .before .before .before .before in
-    let at-loop = c .before .before .before .loop in
+    let start = entry (at-loop′ c) in
+    let at-loop = at-loop′ c .loop in
     let e = c .wide .ensures .0 in
     let b = start .pre .1 .1 (at-loop .k) (omega arith) in
     omega arith
 
 slice-read-work : tie.Need-slice-read-work Inv-loop μ-loop
 slice-read-work c =
-    let start = c .before .before .before .before .before .before .before in
-    let at-loop = c .before .before .before .before .loop in
+    let start = entry (at-loop′′ c) in
+    let at-loop = at-loop′′ c .loop in
     let e = c .before .wide .ensures .0 in
     let b = start .pre .1 .1 (at-loop .k) (omega arith) in
     omega arith
@@ -66,8 +77,8 @@ loop-less c = omega arith
 
 loop-again : tie.Need-loop-again Inv-loop μ-loop
 loop-again c =
-    let start = c .before .before .before .before .before .before .before in
-    let at-loop = c .before .before .before .before .loop in
+    let start = entry (at-loop′′ c) in
+    let at-loop = at-loop′′ c .loop in
     let args = start .args in
     let k = at-loop .k in
     let e = c .before .wide .ensures .0 in
@@ -87,7 +98,7 @@ same-length c = search needs
 returns : tie.Need-returns Inv-loop μ-loop
 returns c =
     let at-loop = c .before .loop in
-    let args = c .before .before .before .before .args in
+    let args = entry (c .before) .args in
     let e : at-loop .k ≡ args .entries = omega arith in
     at-loop .inv .2
     ∙ ap (λ (k : ℕ). written (λ k. args .at + k) (λ k. getD (args .work .now) (getD (args .numbers .now) (args .owners + k) 0) 0) k (args .work .now)) e

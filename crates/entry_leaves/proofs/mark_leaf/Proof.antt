@@ -29,18 +29,26 @@ shared-slice-read-wide c = omega arith
 wide-requires : tie.Need-wide-requires Inv-loop μ-loop
 wide-requires c κs = search needs
 
+-- ---- the places, each with the way back to the one before
+
+abbrev start : tie.At-loop Inv-loop μ-loop → tie.Start Inv-loop μ-loop
+start c = c .before .before .before
+
+abbrev at-loop′ : tie.After-wide Inv-loop μ-loop → tie.At-loop Inv-loop μ-loop
+at-loop′ c = c .before .before .before
+
 mul-work : tie.Need-mul-work Inv-loop μ-loop
 mul-work c =
-    let at-loop = c .before .before .before .loop in
+    let at-loop = at-loop′ c .loop in
     let e = c .wide .ensures .0 in
-    let b = c .before .before .before .before .before .before .pre (at-loop .k) (omega arith) in
+    let b = start (at-loop′ c) .pre (at-loop .k) (omega arith) in
     omega arith
 
 slice-write-work : tie.Need-slice-write-work Inv-loop μ-loop
 slice-write-work c =
-    let at-loop = c .before .before .before .loop in
+    let at-loop = at-loop′ c .loop in
     let e = c .wide .ensures .0 in
-    let b = c .before .before .before .before .before .before .pre (at-loop .k) (omega arith) in
+    let b = start (at-loop′ c) .pre (at-loop .k) (omega arith) in
     omega arith
 
 add-k : tie.Need-add-k Inv-loop μ-loop
@@ -51,8 +59,8 @@ loop-less c = omega arith
 
 loop-again : tie.Need-loop-again Inv-loop μ-loop
 loop-again c =
-    let at-loop = c .before .before .before .loop in
-    let args = c .before .before .before .before .before .before .args in
+    let at-loop = at-loop′ c .loop in
+    let args = start (at-loop′ c) .args in
     let p : ℕ → ℕ = λ k. getD (args .ids .now) k 0 in (
       omega arith,
       length-set (at-loop .work) (c .wide .result) (args .node) ∙ at-loop .inv .1,
@@ -66,7 +74,7 @@ same-length c = search needs
 returns : tie.Need-returns Inv-loop μ-loop
 returns c =
     let at-loop = c .before .loop in
-    let args = c .before .before .before .before .args in
+    let args = start (c .before) .args in
     let e : at-loop .k ≡ length (args .ids .now) = omega arith in
     at-loop .inv .2 ∙ ap (λ (k : ℕ). written (λ k. getD (args .ids .now) k 0) (λ k. args .node) k (args .work .now)) e
 

@@ -30,12 +30,23 @@ record Block (order : ℕ) (counts : ℕ → ℕ) (nodes i from w size : ℕ) : 
   in-sum : sumTo counts i + counts i ≤ sumTo counts nodes
   in-order : from + w ≤ size
 
+-- ---- the places, each with the way back to the one before
+
+abbrev start : tie.At-loop Inv-loop μ-loop → tie.Start Inv-loop μ-loop
+start c = c .before .before .before
+
+abbrev at-loop′ : tie.After-wide Inv-loop μ-loop → tie.At-loop Inv-loop μ-loop
+at-loop′ c = c .before .before .before
+
+abbrev after-wide : tie.After-slice-known2 Inv-loop μ-loop → tie.After-wide Inv-loop μ-loop
+after-wide c = c .before .before .before .before .before
+
 block : (c : tie.After-wide Inv-loop μ-loop)
     → Block (c .before .before .before .before .before .before .args .order) (cell (c .before .before .before .before .before .before .args .at) (c .before .before .before .before .before .before .args .numbers .now)) (c .before .before .before .before .before .before .args .nodes) (c .before .before .before .loop .i) (c .before .before .before .loop .from) (c .wide .result) (length (c .before .before .before .before .before .before .args .numbers .now))
 block c =
-    let s = c .before .before .before .before .before .before in
+    let s = start (at-loop′ c) in
     let args = s .args in
-    let at-loop = c .before .before .before .loop in
+    let at-loop = at-loop′ c .loop in
     let h : at-loop .i < args .nodes = c .before .before .loop-test .taken in
     let n = sumTo-next (cell (args .at) (args .numbers .now)) (at-loop .i) (args .nodes) h in
     let e = c .wide .ensures .0 in
@@ -88,9 +99,9 @@ cast-mark-leaf c = omega arith
 mark-leaf-requires : tie.Need-mark-leaf-requires Inv-loop μ-loop
 mark-leaf-requires c κs =
     let b = block (c .before .before) in
-    let s = c .before .before .before .before .before .before .before .before in
+    let s = start (at-loop′ (c .before .before)) in
     let l = s .args .numbers .now in
-    let at-loop = c .before .before .before .before .before .loop in
+    let at-loop = at-loop′ (c .before .before) .loop in
     let from = at-loop .from in
     let w = c .before .before .wide .result in
     let sum = sumTo (cell (s .args .at) l) (at-loop .i) in
@@ -110,12 +121,12 @@ loop-less c = omega arith
 
 loop-again : tie.Need-loop-again Inv-loop μ-loop
 loop-again c =
-    let b = block (c .before .before .before .before .before) in
-    let s = c .before .before .before .before .before .before .before .before .before .before .before in
+    let b = block (after-wide c) in
+    let s = start (at-loop′ (after-wide c)) in
     let l = s .args .numbers .now in
-    let at-loop = c .before .before .before .before .before .before .before .before .loop in
+    let at-loop = at-loop′ (after-wide c) .loop in
     let from = at-loop .from in
-    let w = c .before .before .before .before .before .wide .result in
+    let w = after-wide c .wide .result in
     let sum = sumTo (cell (s .args .at) l) (at-loop .i) in
     let mark = c .before .before .mark-leaf in
     let is = lent-run from w l in
@@ -135,7 +146,7 @@ same-length c = search needs
 
 returns : tie.Need-returns Inv-loop μ-loop
 returns c =
-    let args = c .before .before .before .before .args in
+    let args = start (c .before) .args in
     let at-loop = c .before .loop in
     let e : at-loop .i ≡ args .nodes = omega arith in
     at-loop .inv .3

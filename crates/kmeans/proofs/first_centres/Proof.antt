@@ -24,60 +24,71 @@ loop-holds c =
     let room = c .before .before .pre .0 in
     writing-none _ _ _ _ _ (length-firstCentres _ _ _) (room .within)
 
+-- ---- the places, each with the way back to the one before
+
+abbrev start : tie.At-loop Inv-loop μ-loop → tie.Start Inv-loop μ-loop
+start c = c .before .before .before
+
+abbrev at-loop : tie.In-loop Inv-loop μ-loop → tie.At-loop Inv-loop μ-loop
+at-loop c = c .before
+
+abbrev in-loop : tie.After-slice-known2 Inv-loop μ-loop → tie.In-loop Inv-loop μ-loop
+in-loop c = c .before .before .before .before .before
+
 mul-id : tie.Need-mul-id Inv-loop μ-loop
 mul-id c =
-    let a = c .before .before .before .before in
+    let a = start (at-loop c) in
     let i = c .before .loop .i in
     let there = step-below (length (a .args .ids .now)) (a .args .k) i (a .pre .1 .0) (a .pre .1 .1) (c .loop-test .taken) in
     omega (arith, there, a .good)
 
 mul-id-2 : tie.Need-mul-id-2 Inv-loop μ-loop
 mul-id-2 c =
-    let a = c .before .before .before .before in
+    let a = start (at-loop c) in
     let i = c .before .loop .i in
     let there = step-below (length (a .args .ids .now)) (a .args .k) i (a .pre .1 .0) (a .pre .1 .1) (c .loop-test .taken) in
     omega (arith, there, a .good)
 
 shared-slice-read-id : tie.Need-shared-slice-read-id Inv-loop μ-loop
 shared-slice-read-id c =
-    let a = c .before .before .before .before .before in
+    let a = start (at-loop (c .before)) in
     let i = c .before .before .loop .i in
     let there = step-below (length (a .args .ids .now)) (a .args .k) i (a .pre .1 .0) (a .pre .1 .1) (c .before .loop-test .taken) in
     omega (arith, there)
 
 cast-id : tie.Need-cast-id Inv-loop μ-loop
-cast-id c = omega (arith, c .shared-slice-known2 .given (c .before .before .loop .i * (length (c .before .before .before .before .before .args .ids .now) / c .before .before .before .before .before .args .k)))
+cast-id c = omega (arith, c .shared-slice-known2 .given (c .before .before .loop .i * (length (start (at-loop (c .before)) .args .ids .now) / start (at-loop (c .before)) .args .k)))
 
 mul-copy : tie.Need-mul-copy Inv-loop μ-loop
 mul-copy c =
-    let a = c .before .before .before .before .before .before in
-    let i = c .before .before .before .loop .i in
+    let a = start (at-loop (c .before .before)) in
+    let i = at-loop (c .before .before) .loop .i in
     let there = step-below (length (a .args .ids .now)) (a .args .k) i (a .pre .1 .0) (a .pre .1 .1) (c .before .before .loop-test .taken) in
     let vector = vector-before (a .args .dimension) (a .args .count) (a .args .centres-at) _ (a .pre .0 .behind) (a .pre .0 .below _ there) in
     omega (arith, vector, a .pre .0 .within, a .good)
 
 mul-copy-2 : tie.Need-mul-copy-2 Inv-loop μ-loop
 mul-copy-2 c =
-    let a = c .before .before .before .before .before .before in
-    let i = c .before .before .before .loop .i in
+    let a = start (at-loop (c .before .before)) in
+    let i = at-loop (c .before .before) .loop .i in
     let centre = row-end (a .args .dimension) i (a .args .k) (c .before .before .loop-test .taken) in
     omega (arith, centre, a .pre .0 .within, a .good)
 
 add-copy : tie.Need-add-copy Inv-loop μ-loop
 add-copy c =
-    let a = c .before .before .before .before .before .before in
-    let i = c .before .before .before .loop .i in
+    let a = start (at-loop (c .before .before)) in
+    let i = at-loop (c .before .before) .loop .i in
     let centre = row-end (a .args .dimension) i (a .args .k) (c .before .before .loop-test .taken) in
     omega (arith, centre, a .pre .0 .within, a .good)
 
 copy-requires : tie.Need-copy-requires Inv-loop μ-loop
 copy-requires c κs =
-    let a = c .before .before .before .before .before .before in
-    let i = c .before .before .before .loop .i in
+    let a = start (at-loop (c .before .before)) in
+    let i = at-loop (c .before .before) .loop .i in
     let there = step-below (length (a .args .ids .now)) (a .args .k) i (a .pre .1 .0) (a .pre .1 .1) (c .before .before .loop-test .taken) in
     let vector = vector-before (a .args .dimension) (a .args .count) (a .args .centres-at) _ (a .pre .0 .behind) (a .pre .0 .below _ there) in
     let centre = row-end (a .args .dimension) i (a .args .k) (c .before .before .loop-test .taken) in
-    (omega (arith, vector), omega (arith, centre, a .pre .0 .within, c .before .before .before .loop .inv .same))
+    (omega (arith, vector), omega (arith, centre, a .pre .0 .within, at-loop (c .before .before) .loop .inv .same))
 
 add-i : tie.Need-add-i Inv-loop μ-loop
 add-i c = omega arith
@@ -87,17 +98,17 @@ loop-less c = omega arith
 
 loop-again : tie.Need-loop-again Inv-loop μ-loop
 loop-again c =
-    let a = c .before .before .before .before .before .before .before .before .before in
-    let i = c .before .before .before .before .before .before .loop .i in
-    let there = step-below (length (a .args .ids .now)) (a .args .k) i (a .pre .1 .0) (a .pre .1 .1) (c .before .before .before .before .before .loop-test .taken) in
-    first-turn _ _ _ _ _ _ (a .pre .0) _ _ _ (c .before .before .before .before .before .before .loop .inv) (c .before .before .before .before .before .loop-test .taken) there (c .before .before .copy .ensures)
+    let a = start (at-loop (in-loop c)) in
+    let i = at-loop (in-loop c) .loop .i in
+    let there = step-below (length (a .args .ids .now)) (a .args .k) i (a .pre .1 .0) (a .pre .1 .1) (in-loop c .loop-test .taken) in
+    first-turn _ _ _ _ _ _ (a .pre .0) _ _ _ (at-loop (in-loop c) .loop .inv) (in-loop c .loop-test .taken) there (c .before .before .copy .ensures)
 
 same-length : tie.Need-same-length Inv-loop μ-loop
 same-length c = c .before .loop .inv .same
 
 returns : tie.Need-returns Inv-loop μ-loop
 returns c =
-    let room = c .before .before .before .before .pre .0 in
+    let room = start (c .before) .pre .0 in
     writing-end _ _ _ _ _ (length-firstCentres _ _ _) (room .within) _ _ (c .before .loop .inv) (c .loop-test .left)
 
 pub first-centres-spec : {M : Type 1} → statement M

@@ -20,9 +20,26 @@ Inv-loop floats₀ ids work₀ dimension count centres-at k j₀ floats work j =
 abbrev μ-loop : tie.MeasureT-loop
 μ-loop floats₀ ids work₀ dimension count centres-at k j₀ floats work j = k - j
 
+-- ---- the places, each with the way back to the one before
+
+abbrev start : tie.After-slice-known2 Inv-loop μ-loop → tie.Start Inv-loop μ-loop
+start c = c .before .before .before
+
+abbrev start′ : tie.At-loop Inv-loop μ-loop → tie.Start Inv-loop μ-loop
+start′ c = c .before .before .before .before
+
+abbrev at-loop : tie.In-loop Inv-loop μ-loop → tie.At-loop Inv-loop μ-loop
+at-loop c = c .before
+
+abbrev in-loop : tie.After-recentre-cluster Inv-loop μ-loop → tie.In-loop Inv-loop μ-loop
+in-loop c = c .before .before .before
+
+abbrev after-recentre-cluster : tie.After-slice-known4 Inv-loop μ-loop → tie.After-recentre-cluster Inv-loop μ-loop
+after-recentre-cluster c = c .before .before .before .before
+
 loop-holds : tie.Need-loop-holds Inv-loop μ-loop
 loop-holds c =
-    let a = c .before .before .before in (
+    let a = start c in (
       writing-none _ _ _ _ _ (length-new _ _ _ _ _ _ _ (a .pre .0) (a .pre .1 .1 .1)) (a .pre .0 .within),
       alike-refl _ _ _,
       refl,
@@ -30,14 +47,14 @@ loop-holds c =
 
 mul-recentre-cluster : tie.Need-mul-recentre-cluster Inv-loop μ-loop
 mul-recentre-cluster c =
-    let a = c .before .before .before .before .before .before .before in
-    let centre = row-end (a .args .dimension) (c .before .before .before .loop .j) (a .args .k) (c .before .before .loop-test .taken) in
+    let a = start′ (at-loop (c .before .before)) in
+    let centre = row-end (a .args .dimension) (at-loop (c .before .before) .loop .j) (a .args .k) (c .before .before .loop-test .taken) in
     omega (arith, centre, a .pre .0 .within, a .good)
 
 add-recentre-cluster : tie.Need-add-recentre-cluster Inv-loop μ-loop
 add-recentre-cluster c =
-    let a = c .before .before .before .before .before .before .before in
-    let centre = row-end (a .args .dimension) (c .before .before .before .loop .j) (a .args .k) (c .before .before .loop-test .taken) in
+    let a = start′ (at-loop (c .before .before)) in
+    let centre = row-end (a .args .dimension) (at-loop (c .before .before) .loop .j) (a .args .k) (c .before .before .loop-test .taken) in
     omega (arith, centre, a .pre .0 .within, a .good)
 
 cast-recentre-cluster : tie.Need-cast-recentre-cluster Inv-loop μ-loop
@@ -45,8 +62,8 @@ cast-recentre-cluster c = omega arith
 
 recentre-cluster-requires : tie.Need-recentre-cluster-requires Inv-loop μ-loop
 recentre-cluster-requires c κs =
-    let a = c .before .before .before .before .before .before .before in
-    let inv = c .before .before .before .loop .inv in
+    let a = start′ (at-loop (c .before .before)) in
+    let inv = at-loop (c .before .before) .loop .inv in
     (centre-room _ _ _ _ _ _ _ (a .pre .0) (a .pre .1 .1 .1) _ _ (inv .0 .same) (c .before .before .loop-test .taken), omega (arith, inv .2, a .pre .1 .1 .0))
 
 add-j : tie.Need-add-j Inv-loop μ-loop
@@ -57,10 +74,10 @@ loop-less c = omega arith
 
 loop-again : tie.Need-loop-again Inv-loop μ-loop
 loop-again c =
-    let a = c .before .before .before .before .before .before .before .before .before .before .before .before in
-    let inv = c .before .before .before .before .before .before .before .before .loop .inv in
-    let done = c .before .before .before .before .recentre-cluster in (
-      recentre-turn _ _ _ _ _ _ _ (a .pre .0) (a .pre .1 .1 .1) _ _ _ _ (inv .0) (inv .1) (c .before .before .before .before .before .before .before .loop-test .taken) (done .ensures .0),
+    let a = start′ (at-loop (in-loop (after-recentre-cluster c))) in
+    let inv = at-loop (in-loop (after-recentre-cluster c)) .loop .inv in
+    let done = after-recentre-cluster c .recentre-cluster in (
+      recentre-turn _ _ _ _ _ _ _ (a .pre .0) (a .pre .1 .1 .1) _ _ _ _ (inv .0) (inv .1) (in-loop (after-recentre-cluster c) .loop-test .taken) (done .ensures .0),
       alike-trans _ _ (inv .1) (done .ensures .1),
       done .kept .1 .1 .0 ∙ inv .2,
     )
@@ -73,7 +90,7 @@ same-length-2 c = c .before .loop .inv .2
 
 returns : tie.Need-returns Inv-loop μ-loop
 returns c =
-    let a = c .before .before .before .before .before in (
+    let a = start′ (c .before) in (
       writing-end _ _ _ _ _ (length-new _ _ _ _ _ _ _ (a .pre .0) (a .pre .1 .1 .1)) (a .pre .0 .within) _ _ (c .before .loop .inv .0) (c .loop-test .left),
       c .before .loop .inv .1,
     )

@@ -5,14 +5,34 @@ use Rattle.kmeans.proofs.Centring.{chosen-fit, chosen-end, handed-room,
 use Rattle.kmeans.proofs.recentre_cluster.Statement.{statement}
 use Rattle.kmeans.proofs.recentre_cluster.Tie as tie
 
+-- ---- the places, each with the way back to the one before
+
+abbrev start : tie.After-gather-arg → tie.Start
+start c = c .before .before .before .before
+
+abbrev start′ : tie.After-gather → tie.Start
+start′ c = c .before .before .before .before .before
+
+abbrev after-gather : tie.Then1 → tie.After-gather
+after-gather c = c .before .before .before
+
+abbrev after-gather′ : tie.Else1 → tie.After-gather
+after-gather′ c = c .before .before .before
+
+abbrev then1 : tie.After-mean-into-arg2 → tie.Then1
+then1 c = c .before .before .before
+
+abbrev then1′ : tie.After-slice-known4 → tie.Then1
+then1′ c = c .before .before .before .before .before .before
+
 gather-requires : tie.Need-gather-requires
 gather-requires c κs =
-    let a = c .before .before .before .before in
+    let a = start c in
     (omega arith, chosen-fit _ _ _ _ _ _ _ (a .pre .0) (a .pre .1))
 
 add-end : tie.Need-add-end
 add-end c =
-    let a = c .before .before .before .before .before .before .before in
+    let a = start′ (c .before .before) in
     let p = a .args in
     let end = chosen-end (p .floats .now) (p .ids .now) (p .work .now) (p .dimension) (p .count) (p .at) (p .j) (a .pre .0) (a .pre .1) _ (c .before .before .gather .ensures .0) in
     omega (arith, end, a .good)
@@ -28,15 +48,15 @@ part-mean-into-start c = search needs
 
 part-mean-into-end : tie.Need-part-mean-into-end
 part-mean-into-end c =
-    let a = c .before .before .before .before .before .before .before .before .before .before in
+    let a = start′ (after-gather (c .before .before)) in
     let p = a .args in
-    let end = chosen-end (p .floats .now) (p .ids .now) (p .work .now) (p .dimension) (p .count) (p .at) (p .j) (a .pre .0) (a .pre .1) _ (c .before .before .before .before .before .gather .ensures .0) in
-    omega (arith, end, c .before .before .before .before .before .gather .kept .1 .0)
+    let end = chosen-end (p .floats .now) (p .ids .now) (p .work .now) (p .dimension) (p .count) (p .at) (p .j) (a .pre .0) (a .pre .1) _ (after-gather (c .before .before) .gather .ensures .0) in
+    omega (arith, end, after-gather (c .before .before) .gather .kept .1 .0)
 
 mean-into-requires : tie.Need-mean-into-requires
 mean-into-requires c κs =
-    let a = c .before .before .before .before .before .before .before .before .before .before .before in
-    handed-room _ _ _ _ _ _ _ (a .pre .0) (a .pre .1) _ _ (c .before .before .before .before .before .before .gather .ensures .1) (c .before .before .before .before .before .before .gather .ensures .0)
+    let a = start′ (after-gather (then1 c)) in
+    handed-room _ _ _ _ _ _ _ (a .pre .0) (a .pre .1) _ _ (after-gather (then1 c) .gather .ensures .1) (after-gather (then1 c) .gather .ensures .0)
 
 same-length : tie.Need-same-length
 same-length c = search needs
@@ -46,9 +66,9 @@ same-length-2 c = search needs
 
 returns : tie.Need-returns
 returns c =
-    let a = c .before .before .before .before .before .before .before .before .before .before .before .before .before .before in (
-      chosen-mean _ _ _ _ _ _ _ (a .pre .0) (a .pre .1) _ _ _ (c .before .before .before .before .before .before .before .before .before .gather .ensures .1) (c .before .before .before .before .before .before .before .before .before .gather .ensures .0) (c .before .before .before .before .before .before .if1 .taken) (c .before .before .mean-into .ensures),
-      chosen-alike _ _ _ _ _ _ _ (a .pre .0) (a .pre .1) _ (c .before .before .before .before .before .before .before .before .before .gather .ensures .1),
+    let a = start′ (after-gather (then1′ c)) in (
+      chosen-mean _ _ _ _ _ _ _ (a .pre .0) (a .pre .1) _ _ _ (after-gather (then1′ c) .gather .ensures .1) (after-gather (then1′ c) .gather .ensures .0) (then1′ c .if1 .taken) (c .before .before .mean-into .ensures),
+      chosen-alike _ _ _ _ _ _ _ (a .pre .0) (a .pre .1) _ (after-gather (then1′ c) .gather .ensures .1),
     )
 
 same-length-3 : tie.Need-same-length-3
@@ -56,9 +76,9 @@ same-length-3 c = search needs
 
 returns-2 : tie.Need-returns-2
 returns-2 c =
-    let a = c .before .before .before .before .before .before .before .before in (
-      chosen-none _ _ _ _ _ _ _ (a .pre .0) (a .pre .1) _ (c .before .before .before .gather .ensures .0) (c .if1 .left),
-      chosen-alike _ _ _ _ _ _ _ (a .pre .0) (a .pre .1) _ (c .before .before .before .gather .ensures .1),
+    let a = start′ (after-gather′ c) in (
+      chosen-none _ _ _ _ _ _ _ (a .pre .0) (a .pre .1) _ (after-gather′ c .gather .ensures .0) (c .if1 .left),
+      chosen-alike _ _ _ _ _ _ _ (a .pre .0) (a .pre .1) _ (after-gather′ c .gather .ensures .1),
     )
 
 pub recentre-cluster-spec : {M : Type 1} → statement M

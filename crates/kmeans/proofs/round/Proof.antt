@@ -5,16 +5,33 @@ use Rattle.kmeans.proofs.Centring.{assigned-stand, assigned-alike, roun
 use Rattle.kmeans.proofs.round.Statement.{statement}
 use Rattle.kmeans.proofs.round.Tie as tie
 
+-- ---- the places, each with the way back to the one before
+
+abbrev start : tie.After-assign-arg2 → tie.Start
+start c = c .before .before .before .before .before
+
+abbrev start′ : tie.After-assign → tie.Start
+start′ c = c .before .before .before .before .before .before
+
+abbrev after-assign : tie.After-recentre-arg2 → tie.After-assign
+after-assign c = c .before .before .before .before
+
+abbrev after-assign′ : tie.After-recentre → tie.After-assign
+after-assign′ c = c .before .before .before .before .before
+
+abbrev after-recentre : tie.After-slice-known5 → tie.After-recentre
+after-recentre c = c .before .before .before .before
+
 assign-requires : tie.Need-assign-requires
 assign-requires c κs =
-    let pre = c .before .before .before .before .before .pre in
+    let pre = start c .pre in
     (pre .0, (pre .1 .0, (pre .1 .1 .0, omega arith)))
 
 recentre-requires : tie.Need-recentre-requires
 recentre-requires c κs =
-    let p = c .before .before .before .before .before .before .before .before .before .before .args in
-    let pre = c .before .before .before .before .before .before .before .before .before .before .pre in
-    let done = c .before .before .before .before .assign in (
+    let p = start′ (after-assign c) .args in
+    let pre = start′ (after-assign c) .pre in
+    let done = after-assign c .assign in (
       pre .0,
       (
         pre .1 .1 .0,
@@ -30,10 +47,10 @@ same-length-2 c = search needs
 
 returns : tie.Need-returns
 returns c =
-    let p = c .before .before .before .before .before .before .before .before .before .before .before .before .before .before .before .args in
-    let pre = c .before .before .before .before .before .before .before .before .before .before .before .before .before .before .before .pre in
-    let first = c .before .before .before .before .before .before .before .before .before .assign in
-    let done = c .before .before .before .before .recentre in (
+    let p = start′ (after-assign′ (after-recentre c)) .args in
+    let pre = start′ (after-assign′ (after-recentre c)) .pre in
+    let first = after-assign′ (after-recentre c) .assign in
+    let done = after-recentre c .recentre in (
       done .ensures .0,
       round-alike (p .ids .now) (p .work .now) (first .last .1 .1 .0) (done .last .1 .1 .0)
           (assigned-alike (p .floats .now) (p .ids .now) (p .work .now) (first .last .1 .1 .0) (p .dimension) (p .count) (p .centres-at) (p .k) (first .ensures) (pre .1 .1 .1))

@@ -9,27 +9,50 @@ use Rattle.kmeans.proofs.simple_kmeans.Tie as tie
 first-centres-requires : tie.Need-first-centres-requires
 first-centres-requires c κs = search needs
 
+-- ---- the places, each with the way back to the one before
+
+abbrev start : tie.After-first-centres → tie.Start
+start c = c .before .before .before .before .before
+
+abbrev after-first-centres : tie.After-round-arg2 → tie.After-first-centres
+after-first-centres c = c .before .before .before .before
+
+abbrev after-first-centres′ : tie.After-round → tie.After-first-centres
+after-first-centres′ c = c .before .before .before .before .before
+
+abbrev after-round : tie.After-round-arg4 → tie.After-round
+after-round c = c .before .before .before .before .before .before
+
+abbrev after-round′ : tie.After-round2 → tie.After-round
+after-round′ c = c .before .before .before .before .before .before .before
+
+abbrev after-round2 : tie.After-assign-arg2 → tie.After-round2
+after-round2 c = c .before .before .before .before .before .before
+
+abbrev after-round2′ : tie.After-slice-known8 → tie.After-round2
+after-round2′ c = c .before .before .before .before .before .before .before .before .before
+
 round-requires : tie.Need-round-requires
 round-requires c κs =
-    let a = c .before .before .before .before .before .before .before .before .before in (
-      room-kept _ _ _ _ _ _ _ (a .pre .0) (c .before .before .before .before .first-centres .kept .0),
+    let a = start (after-first-centres c) in (
+      room-kept _ _ _ _ _ _ _ (a .pre .0) (after-first-centres c .first-centres .kept .0),
       (a .pre .1 .0, (omega (arith, a .pre .0 .few, a .pre .1 .1 .0), a .pre .1 .1 .1)),
     )
 
 round-requires-2 : tie.Need-round-requires-2
 round-requires-2 c κs =
-    let a = c .before .before .before .before .before .before .before .before .before .before .before .before .before .before .before .before in
-    let one = c .before .before .before .before .before .before .round .kept in (
-      room-kept _ _ _ _ _ _ _ (a .pre .0) (one .0 ∙ c .before .before .before .before .before .before .before .before .before .before .before .first-centres .kept .0),
+    let a = start (after-first-centres′ (after-round c)) in
+    let one = after-round c .round .kept in (
+      room-kept _ _ _ _ _ _ _ (a .pre .0) (one .0 ∙ after-first-centres′ (after-round c) .first-centres .kept .0),
       (a .pre .1 .0, (omega (arith, a .pre .0 .few, a .pre .1 .1 .0), omega (arith, one .1 .1 .0, a .pre .1 .1 .1))),
     )
 
 assign-requires : tie.Need-assign-requires
 assign-requires c κs =
-    let a = c .before .before .before .before .before .before .before .before .before .before .before .before .before .before .before .before .before .before .before .before .before .before .before in
-    let one = c .before .before .before .before .before .before .before .before .before .before .before .before .before .round .kept in
-    let two = c .before .before .before .before .before .before .round2 .kept in (
-      room-kept _ _ _ _ _ _ _ (a .pre .0) (two .0 ∙ one .0 ∙ c .before .before .before .before .before .before .before .before .before .before .before .before .before .before .before .before .before .before .first-centres .kept .0),
+    let a = start (after-first-centres′ (after-round′ (after-round2 c))) in
+    let one = after-round′ (after-round2 c) .round .kept in
+    let two = after-round2 c .round2 .kept in (
+      room-kept _ _ _ _ _ _ _ (a .pre .0) (two .0 ∙ one .0 ∙ after-first-centres′ (after-round′ (after-round2 c)) .first-centres .kept .0),
       (a .pre .1 .0, (omega (arith, a .pre .0 .few, a .pre .1 .1 .0), omega (arith, one .1 .1 .0, two .1 .1 .0, a .pre .1 .1 .1))),
     )
 
@@ -41,11 +64,11 @@ same-length-2 c = search needs
 
 returns : tie.Need-returns
 returns c =
-    let a = c .before .before .before .before .before .before .before .before .before .before .before .before .before .before .before .before .before .before .before .before .before .before .before .before .before .before in
+    let a = start (after-first-centres′ (after-round′ (after-round2′ c))) in
     let p = a .args in
-    let first = c .before .before .before .before .before .before .before .before .before .before .before .before .before .before .before .before .before .before .before .before .before .first-centres in
-    let one = c .before .before .before .before .before .before .before .before .before .before .before .before .before .before .before .before .round in
-    let two = c .before .before .before .before .before .before .before .before .before .round2 in
+    let first = after-first-centres′ (after-round′ (after-round2′ c)) .first-centres in
+    let one = after-round′ (after-round2′ c) .round in
+    let two = after-round2′ c .round2 in
     let third = c .before .before .assign in
     kmeans-end (p .dimension) (p .count) (p .centres-at) (p .k) (p .ids .now) (p .floats .now) (first .last .0) (one .last .0) (two .last .0) (p .work .now)
     (one .last .1 .1 .0) (two .last .1 .1 .0) (third .last .1 .1 .0) (a .pre .0 .behind) (a .pre .1 .1 .0)

@@ -46,21 +46,29 @@ add-i c = omega arith
 loop-less : tie.Need-loop-less Inv-loop μ-loop
 loop-less c = omega arith
 
+-- ---- the places, each with the way back to the one before
+
+abbrev entry : tie.At-loop Inv-loop μ-loop → tie.Start Inv-loop μ-loop
+entry c = c .before .before
+
+abbrev at-loop : tie.After-wrapping-mul Inv-loop μ-loop → tie.At-loop Inv-loop μ-loop
+at-loop c = c .before .before .before .before
+
 loop-again : tie.Need-loop-again Inv-loop μ-loop
 unfolding fnvStep
 loop-again c =
-    let bytes = c .before .before .before .before .before .before .args .bytes .now in
-    let hash = c .before .before .before .before .loop .hash in
-    let i = c .before .before .before .before .loop .i in
+    let bytes = entry (at-loop c) .args .bytes .now in
+    let hash = at-loop c .loop .hash in
+    let i = at-loop c .loop .i in
     let stepped : c .wrapping-mul .result ≡ fnvStep hash (getD bytes i 0) = c .wrapping-mul .ensures ∙ ap (λ (b : ℕ). bitXor hash b * prime % 2 ^ 64) (c .before .wide .ensures) in (
       omega arith,
       ap (λ (h : ℕ). fnvFrom h (drop (i + 1) bytes)) stepped ∙ advance bytes hash i (omega arith)
-          ∙ c .before .before .before .before .loop .inv .1,
+          ∙ at-loop c .loop .inv .1,
     )
 
 returns : tie.Need-returns Inv-loop μ-loop
 returns c =
-    let bytes = c .before .before .before .args .bytes .now in
+    let bytes = entry (c .before) .args .bytes .now in
     sym (finish bytes (c .before .loop .hash) (c .before .loop .i) (omega arith)) ∙ c .before .loop .inv .1
 
 pub hash-from-spec : {M : Type 1} → statement M

@@ -32,21 +32,47 @@ places-of-requires c κs = search needs
 add-end : tie.Need-add-end
 add-end c = search needs
 
+-- ---- the places, each with the way back to the one before
+
+abbrev start : tie.After-places-of → tie.Start
+start c = c .before .before .before .before
+
+abbrev after-places-of : tie.After-link-nodes → tie.After-places-of
+after-places-of c = c .before .before .before
+
+abbrev after-link-nodes : tie.After-struct-known → tie.After-link-nodes
+after-link-nodes c = c .before .before .before .before .before .before .before
+
+abbrev after-link-nodes′ : tie.After-entry-leaves → tie.After-link-nodes
+after-link-nodes′ c = c .before .before .before .before .before .before .before .before
+
+abbrev after-entry-leaves : tie.After-sort-entries-arg2 → tie.After-entry-leaves
+after-entry-leaves c = c .before .before .before .before .before
+
+abbrev after-entry-leaves′ : tie.After-sort-entries → tie.After-entry-leaves
+after-entry-leaves′ c = c .before .before .before .before .before .before
+
+abbrev after-sort-entries : tie.After-make-filters-arg2 → tie.After-sort-entries
+after-sort-entries c = c .before .before .before .before
+
+abbrev after-sort-entries′ : tie.After-slice-known8 → tie.After-sort-entries
+after-sort-entries′ c = c .before .before .before .before .before .before .before
+
 link-nodes-requires : tie.Need-link-nodes-requires
 link-nodes-requires c κs =
     let g = given (c .before .before) in
-    let made = c .before .before .before .before .before .before .pre .1 in
+    let made = start (c .before .before) .pre .1 in
     let fit = places-fit g in
     (fit .table-links, (fit .links-end, (fit .rows-work, (fit .rows-small, counts-at g made))))
 
 add-entry-leaves : tie.Need-add-entry-leaves
-add-entry-leaves c = let f = places-fit (given (c .before .before .before .before .before .before .before .before .before .before)) in omega (arith, f .table-small)
+add-entry-leaves c = let f = places-fit (given (after-places-of (after-link-nodes c))) in omega (arith, f .table-small)
 
 entry-leaves-requires : tie.Need-entry-leaves-requires
 entry-leaves-requires c κs =
-    let g = given (c .before .before .before .before .before .before .before .before .before .before) in
-    let made = c .before .before .before .before .before .before .before .before .before .before .before .before .before .before .pre .1 in
-    let link = c .before .before .before .before .before .before .before .link-nodes in
+    let g = given (after-places-of (after-link-nodes c)) in
+    let made = start (after-places-of (after-link-nodes c)) .pre .1 in
+    let link = after-link-nodes c .link-nodes in
     leaves-ask g made (link .last .0) (link .last .1 .1 .1 .1 .0) (link .ensures .0) (link .kept .1 .1 .1 .1 .0)
 
 mul-sort-entries : tie.Need-mul-sort-entries
@@ -63,10 +89,10 @@ part-sort-entries-end c = search needs
 
 sort-entries-requires : tie.Need-sort-entries-requires
 sort-entries-requires c κs =
-    let g = given (c .before .before .before .before .before .before .before .before .before .before .before .before .before .before .before .before) in
-    let made = c .before .before .before .before .before .before .before .before .before .before .before .before .before .before .before .before .before .before .before .before .pre .1 in
-    let link = c .before .before .before .before .before .before .before .before .before .before .before .before .before .link-nodes in
-    let marked = c .before .before .before .before .before .entry-leaves in
+    let g = given (after-places-of (after-link-nodes′ (after-entry-leaves c))) in
+    let made = start (after-places-of (after-link-nodes′ (after-entry-leaves c))) .pre .1 in
+    let link = after-link-nodes′ (after-entry-leaves c) .link-nodes in
+    let marked = after-entry-leaves c .entry-leaves in
     let part₂ = lent-run (g .shape .vectors) (g .entries) (marked .last .0) in
     let leaves = take (g .shape .vectors + g .entries - g .shape .vectors) (drop (g .shape .vectors) (marked .last .0)) in
     let fit = places-fit g in
@@ -75,13 +101,13 @@ sort-entries-requires c κs =
 
 make-filters-requires : tie.Need-make-filters-requires
 make-filters-requires c κs =
-    let g = given (c .before .before .before .before .before .before .before .before .before .before .before .before .before .before .before .before .before .before .before .before .before) in
-    let made = c .before .before .before .before .before .before .before .before .before .before .before .before .before .before .before .before .before .before .before .before .before .before .before .before .before .pre .1 in
-    let link = c .before .before .before .before .before .before .before .before .before .before .before .before .before .before .before .before .before .before .link-nodes in
-    let marked = c .before .before .before .before .before .before .before .before .before .before .entry-leaves in
+    let g = given (after-places-of (after-link-nodes′ (after-entry-leaves′ (after-sort-entries c)))) in
+    let made = start (after-places-of (after-link-nodes′ (after-entry-leaves′ (after-sort-entries c)))) .pre .1 in
+    let link = after-link-nodes′ (after-entry-leaves′ (after-sort-entries c)) .link-nodes in
+    let marked = after-entry-leaves′ (after-sort-entries c) .entry-leaves in
     let part₂ = lent-run (g .shape .vectors) (g .entries) (marked .last .0) in
     let leaves = take (g .shape .vectors + g .entries - g .shape .vectors) (drop (g .shape .vectors) (marked .last .0)) in
-    let sort = c .before .before .before .before .sort-entries in
+    let sort = after-sort-entries c .sort-entries in
     let fit = places-fit g in
     (fit .filters-end, (omega (arith, fit .table-links, fit .links-end, link .kept .0, sort .kept .0), rows-ask g made (link .last .0) (link .last .1 .1 .1 .1 .0) (link .ensures .0) (link .kept .1 .1 .1 .1 .0) (marked .last .0) leaves (marked .ensures) part₂ (sort .last .0) (sort .ensures)))
 
@@ -96,13 +122,13 @@ same-length-3 c = search needs
 
 returns : tie.Need-returns
 returns c =
-    let g = given (c .before .before .before .before .before .before .before .before .before .before .before .before .before .before .before .before .before .before .before .before .before .before .before .before) in
-    let made = c .before .before .before .before .before .before .before .before .before .before .before .before .before .before .before .before .before .before .before .before .before .before .before .before .before .before .before .before .pre .1 in
-    let link = c .before .before .before .before .before .before .before .before .before .before .before .before .before .before .before .before .before .before .before .before .before .link-nodes in
-    let marked = c .before .before .before .before .before .before .before .before .before .before .before .before .before .entry-leaves in
+    let g = given (after-places-of (after-link-nodes′ (after-entry-leaves′ (after-sort-entries′ c)))) in
+    let made = start (after-places-of (after-link-nodes′ (after-entry-leaves′ (after-sort-entries′ c)))) .pre .1 in
+    let link = after-link-nodes′ (after-entry-leaves′ (after-sort-entries′ c)) .link-nodes in
+    let marked = after-entry-leaves′ (after-sort-entries′ c) .entry-leaves in
     let part₂ = lent-run (g .shape .vectors) (g .entries) (marked .last .0) in
     let leaves = take (g .shape .vectors + g .entries - g .shape .vectors) (drop (g .shape .vectors) (marked .last .0)) in
-    let sort = c .before .before .before .before .before .before .before .sort-entries in
+    let sort = after-sort-entries′ c .sort-entries in
     let filters = c .before .before .make-filters in
     record {
       numbers-are = λ m. numbers-laid g m (link .last .0) (link .last .1 .1 .1 .1 .0) (link .ensures .0) (link .kept .1 .1 .1 .1 .0) (marked .last .0) leaves (marked .ensures) part₂ (sort .last .0) (sort .ensures);

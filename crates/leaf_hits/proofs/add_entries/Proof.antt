@@ -89,9 +89,32 @@ many f =
     let test = neither (ltb (e .args .count - t .loop .read) 4) (ltb (e .args .counts .entries) (t .loop .total + 4)) (f .if1 .left) in
     (omega (arith, ltb-false (e .args .count - t .loop .read) 4 (test .0), t .loop .inv .0), omega (arith, ltb-false (e .args .counts .entries) (t .loop .total + 4) (test .1)))
 
+-- ---- the places, each with the way back to the one before
+
+abbrev at-start : tie.After-slice-known Inv-loop μ-loop → tie.Start Inv-loop μ-loop
+at-start c = c .before .before .before
+
+abbrev at-loop′ : tie.Else1 Inv-loop μ-loop → tie.At-loop Inv-loop μ-loop
+at-loop′ c = c .before .before
+
+abbrev at-loop : tie.After-add-rest-arg Inv-loop μ-loop → tie.At-loop Inv-loop μ-loop
+at-loop c = c .before .before .before
+
+abbrev else1 : tie.After-add-four Inv-loop μ-loop → tie.Else1 Inv-loop μ-loop
+else1 c = c .before .before
+
+abbrev at-loop′′ : tie.After-slice-known2 Inv-loop μ-loop → tie.At-loop Inv-loop μ-loop
+at-loop′′ c = c .before .before .before .before .before .before
+
+abbrev after-add-four′ : tie.After-enum-told Inv-loop μ-loop → tie.After-add-four Inv-loop μ-loop
+after-add-four′ c = c .before .before .before .before
+
+abbrev after-add-four : tie.After-known-told Inv-loop μ-loop → tie.After-add-four Inv-loop μ-loop
+after-add-four c = c .before .before .before .before .before
+
 loop-holds : tie.Need-loop-holds Inv-loop μ-loop
 loop-holds c =
-    let e = c .before .before .before in
+    let e = at-start c in
     (omega arith, gathered-none (test e) (wants e) (owner e) (e .args .counts .entries) (e .args .before) (e .args .found .now) (e .pre .hits .few), refl)
 
 add-at : tie.Need-add-at Inv-loop μ-loop
@@ -105,7 +128,7 @@ add-if1 c = search needs
 
 add-rest-requires : tie.Need-add-rest-requires Inv-loop μ-loop
 add-rest-requires c κs =
-    let t = c .before .before .before in
+    let t = at-loop c in
     let e = entry t in
     let pre = e .pre .hits in
     record {
@@ -116,7 +139,7 @@ add-rest-requires c κs =
 
 add-four-requires : tie.Need-add-four-requires Inv-loop μ-loop
 add-four-requires c κs =
-    let t = c .before .before .before in
+    let t = at-loop′ (c .before) in
     let e = entry t in
     let pre = e .pre .hits in
     let more = many (c .before) in
@@ -137,36 +160,36 @@ enum-known-more : tie.Need-enum-known-more Inv-loop μ-loop
 enum-known-more c = search needs
 
 add-read : tie.Need-add-read Inv-loop μ-loop
-add-read c = let t = c .before .before .before .before .before .before .before .before .before in omega (arith, many (c .before .before .before .before .before .before .before) .0, entry t .good)
+add-read c = let t = at-loop′ (else1 (after-add-four c)) in omega (arith, many (else1 (after-add-four c)) .0, entry t .good)
 
 loop-less : tie.Need-loop-less Inv-loop μ-loop
-loop-less c = omega (arith, many (c .before .before .before .before .before .before .before) .0)
+loop-less c = omega (arith, many (else1 (after-add-four c)) .0)
 
 loop-again : tie.Need-loop-again Inv-loop μ-loop
 loop-again c =
-    let a = c .before .before .before .before .before in
+    let a = after-add-four c in
     let more = c .before .more .given in
-    (many (a .before .before) .0, four a (added.Hits (more .0 .0)) (more .1), a .add-four .kept .1 .1 .1 .0 ∙ a .before .before .before .before .loop .inv .2)
+    (many (a .before .before) .0, four a (added.Hits (more .0 .0)) (more .1), a .add-four .kept .1 .1 .1 .0 ∙ at-loop′ (else1 a) .loop .inv .2)
 
 same-length : tie.Need-same-length Inv-loop μ-loop
-same-length c = c .before .before .add-rest .kept .1 .1 .1 .0 ∙ c .before .before .before .before .before .before .loop .inv .2
+same-length c = c .before .before .add-rest .kept .1 .1 .1 .0 ∙ at-loop′′ c .loop .inv .2
 
 returns : tie.Need-returns Inv-loop μ-loop
 returns c =
     let rest = c .before .before .add-rest in
-    let t = c .before .before .before .before .before .before in
+    let t = at-loop′′ c in
     let e = entry t in
     let found : List ℕ = rest .last .1 .1 .1 .0 in
     let all : t .loop .read + (e .args .count - t .loop .read) ≡ e .args .count = omega (arith, t .loop .inv .0) in
     subst (λ (n : ℕ). Due e n (rest .result) found) all (further t (e .args .count - t .loop .read) (rest .result) found (rest .ensures))
 
 same-length-2 : tie.Need-same-length-2 Inv-loop μ-loop
-same-length-2 c = c .before .before .before .before .add-four .kept .1 .1 .1 .0 ∙ c .before .before .before .before .before .before .before .before .loop .inv .2
+same-length-2 c = after-add-four′ c .add-four .kept .1 .1 .1 .0 ∙ at-loop′ (else1 (after-add-four′ c)) .loop .inv .2
 
 returns-2 : tie.Need-returns-2 Inv-loop μ-loop
 returns-2 c =
-    let a = c .before .before .before .before in
-    let t = a .before .before .before .before in
+    let a = after-add-four′ c in
+    let t = at-loop′ (else1 a) in
     let e = entry t in
     let read : ℕ = t .loop .read + 4 in
     let left : ℕ = e .args .count - read in

@@ -73,12 +73,44 @@ held e x = ltb (owner e x) (e .args .counts .vectors)
 abbrev test : tie.Start → ℕ → Bool
 test e x = low e x && held e x
 
+-- ---- the places, each with the way back to the one before
+
+abbrev after-wide : tie.After-wide2 → tie.After-wide
+after-wide c = c .before .before
+
+abbrev after-wide2 : tie.After-wide3 → tie.After-wide2
+after-wide2 c = c .before .before
+
+abbrev after-wide3 : tie.After-all-below → tie.After-wide3
+after-wide3 c = c .before .before .before
+
+abbrev else1 : tie.After-shared-slice-known9 → tie.Else1
+else1 c = c .before .before .before
+
+abbrev else1′ : tie.After-shared-slice-known10 → tie.Else1
+else1′ c = c .before .before .before .before
+
+abbrev after-wide5 : tie.After-wide6 → tie.After-wide5
+after-wide5 c = c .before
+
+abbrev after-wide6 : tie.After-all-below2 → tie.After-wide6
+after-wide6 c = c .before .before .before
+
+abbrev after-write-owner : tie.After-write-owner-arg2 → tie.After-write-owner
+after-write-owner c = c .before .before .before
+
+abbrev after-write-owner2 : tie.After-write-owner-arg3 → tie.After-write-owner2
+after-write-owner2 c = c .before .before .before
+
+abbrev after-write-owner3 : tie.After-write-owner-arg4 → tie.After-write-owner3
+after-write-owner3 c = c .before .before .before
+
 -- the four numbers are the list
 list : (n : Numbers) → first n ∷ second n ∷ third n ∷ fourth n ∷ [] ≡ part (entry n .args .at) 4 (entry n .args .numbers .now)
 list n =
     let e = entry n in
     four-read (e .args .numbers .now) (e .args .at) (first n) (second n) (third n) (fourth n) (e .pre .entries .hits .block)
-    (n .before .before .before .before .before .before .before .wide .ensures .0) (n .before .before .before .before .before .wide2 .ensures .0) (n .before .before .before .wide3 .ensures .0) (n .before .wide4 .ensures .0)
+    (after-wide (after-wide2 (after-wide3 n)) .wide .ensures .0) (after-wide2 (after-wide3 n) .wide2 .ensures .0) (after-wide3 n .wide3 .ensures .0) (n .before .wide4 .ensures .0)
 
 -- the entries that passed are held, and so are their owners
 entries : (h : Passed) → let most = entry (read h) .args .counts .entries in (first (read h) < most) × (second (read h) < most) × (third (read h) < most) × (fourth (read h) < most)
@@ -248,7 +280,7 @@ mul-c-owner : tie.Need-mul-c-owner
 mul-c-owner c = search needs
 
 shared-slice-read-c-owner : tie.Need-shared-slice-read-c-owner
-shared-slice-read-c-owner c = let h = c .before .before .before in inside h (third (read h)) (entries h .2)
+shared-slice-read-c-owner c = let h = else1 c in inside h (third (read h)) (entries h .2)
 
 add-d-owner : tie.Need-add-d-owner
 add-d-owner c = search needs
@@ -257,7 +289,7 @@ mul-d-owner : tie.Need-mul-d-owner
 mul-d-owner c = search needs
 
 shared-slice-read-d-owner : tie.Need-shared-slice-read-d-owner
-shared-slice-read-d-owner c = let h = c .before .before .before .before in inside h (fourth (read h)) (entries h .3)
+shared-slice-read-d-owner c = let h = else1′ c in inside h (fourth (read h)) (entries h .3)
 
 wide-requires-5 : tie.Need-wide-requires-5
 wide-requires-5 c κs = search needs
@@ -282,7 +314,7 @@ returns-2 c =
     inl (second-fails (low e) (held e) (part (e .args .at) 4 (e .args .numbers .now)) (first n) (second n) (third n) (fourth n) (list n)
     (o .all-below2 .result)
     (four-owners (e .args .counts .vectors) (owner e) (first n) (second n) (third n) (fourth n) _ _ _ _ (o .all-below2 .result) (o .all-below2 .ensures)
-    (o .before .before .before .before .wide5 .ensures .0) (o .before .before .before .wide6 .ensures .0) (o .before .before .wide7 .ensures .0) (o .before .wide8 .ensures .0))
+    (after-wide5 (after-wide6 o) .wide5 .ensures .0) (after-wide6 o .wide6 .ensures .0) (o .before .before .wide7 .ensures .0) (o .before .wide8 .ensures .0))
     (c .if2 .taken))
 
 write-owner-requires : tie.Need-write-owner-requires
@@ -294,20 +326,20 @@ write-owner-requires c κs =
 
 write-owner-requires-2 : tie.Need-write-owner-requires-2
 write-owner-requires-2 c κs =
-    let w = c .before .before .before in
+    let w = after-write-owner c in
     let h = passed (owners w) in
     (hashed (owners w) (second (read h)) (entries h .1), next (start w) 1 (w .write-owner .result) (w .write-owner .last .1 .0) (omega arith) (room-one w))
 
 write-owner-requires-3 : tie.Need-write-owner-requires-3
 write-owner-requires-3 c κs =
-    let w = c .before .before .before in
+    let w = after-write-owner2 c in
     let o = owners (one w) in
     let h = passed o in
     (hashed o (third (read h)) (entries h .2), next (start (one w)) 2 (w .write-owner2 .result) (w .write-owner2 .last .1 .0) (omega arith) (room-two w))
 
 write-owner-requires-4 : tie.Need-write-owner-requires-4
 write-owner-requires-4 c κs =
-    let w = c .before .before .before in
+    let w = after-write-owner3 c in
     let o = owners (one (two w)) in
     let h = passed o in
     (hashed o (fourth (read h)) (entries h .3), next (start (one (two w))) 3 (w .write-owner3 .result) (w .write-owner3 .last .1 .0) (omega arith) (room-three w))

@@ -13,9 +13,26 @@ use Rattle.leaf_hits.proofs.add_hits.Tie as tie
 enum-told : tie.Need-enum-told
 enum-told c = search needs
 
+-- ---- the places, each with the way back to the one before
+
+abbrev entry : tie.After-enum-told → tie.Start
+entry c = c .before .before .before .before .before
+
+abbrev entry′ : tie.After-wanted → tie.Start
+entry′ c = c .before .before .before .before .before
+
+abbrev after-wanted : tie.After-owners-at → tie.After-wanted
+after-wanted c = c .before .before
+
+abbrev after-enum-told : tie.After-slice-known2 → tie.After-enum-told
+after-enum-told c = c .before .before .before .before
+
+abbrev after-owners-at : tie.After-slice-known3 → tie.After-owners-at
+after-owners-at c = c .before .before .before .before
+
 add-vectors-requires : tie.Need-add-vectors-requires
 add-vectors-requires c κs =
-    let e = c .before .before .before .before .before .before in
+    let e = entry (c .before) in
     let a = e .args in
     subst (λ (w : Wanted). AddHits (a .numbers .now) (a .found .now) (a .before) (most w (a .counts)) (a .block .start) (a .block .count)) (c .before .enum-told .given .1) (e .pre .hits)
 
@@ -27,13 +44,13 @@ owners-at-requires c κs = search needs
 
 add-entries-requires : tie.Need-add-entries-requires
 add-entries-requires c κs =
-    let e = c .before .before .before .before .before .before .before .before in
+    let e = entry′ (after-wanted (c .before)) in
     let a = e .args in
     record {
       owners-held = omega (arith, c .before .owners-at .ensures, e .pre .within .entries, e .pre .numbers-size);
       hashes-held = omega (arith, e .pre .within .entries, e .pre .hashes-size);
       hits =
-          subst (λ (w : Wanted). AddHits (a .numbers .now) (a .found .now) (a .before) (most w (a .counts)) (a .block .start) (a .block .count)) (c .before .before .before .wanted .given .1) (e .pre .hits);
+          subst (λ (w : Wanted). AddHits (a .numbers .now) (a .found .now) (a .before) (most w (a .counts)) (a .block .start) (a .block .count)) (after-wanted (c .before) .wanted .given .1) (e .pre .hits);
     }
 
 same-length : tie.Need-same-length
@@ -41,11 +58,11 @@ same-length c = search needs
 
 returns : tie.Need-returns
 returns c =
-    let a = c .before .before .before .before .before .before .before .before .before .args in
+    let a = entry (after-enum-told c) .args in
     let l = part (a .block .start) (a .block .count) (a .numbers .now) in
     let added = c .before .before .add-vectors in
     subst (λ (w : Wanted). AddedHits (a .shape) (a .counts) (a .numbers .now) (a .hashes .now) w l (a .before) (a .found .now) (added .result) (added .last .1 .1 .0))
-    (sym (c .before .before .before .before .enum-told .given .1))
+    (sym (after-enum-told c .enum-told .given .1))
     (as-everything (a .shape) (a .counts) (a .numbers .now) (a .hashes .now) l (a .before) (a .found .now) (added .result) (added .last .1 .1 .0) (added .ensures))
 
 same-length-2 : tie.Need-same-length-2
@@ -53,14 +70,14 @@ same-length-2 c = search needs
 
 returns-2 : tie.Need-returns-2
 returns-2 c =
-    let given = c .before .before .before .before .before .before .wanted .given in
-    let a = c .before .before .before .before .before .before .before .before .before .before .before .args in
+    let given = after-wanted (after-owners-at c) .wanted .given in
+    let a = entry′ (after-wanted (after-owners-at c)) .args in
     let l = part (a .block .start) (a .block .count) (a .numbers .now) in
     let added = c .before .before .add-entries in
     subst (λ (w : Wanted). AddedHits (a .shape) (a .counts) (a .numbers .now) (a .hashes .now) w l (a .before) (a .found .now) (added .result) (added .last .1 .1 .1 .0))
     (sym (given .1))
     (as-label (a .shape) (a .counts) (a .numbers .now) (a .hashes .now) (given .0 .0) _ l (a .before) (a .found .now) (added .result) (added .last .1 .1 .1 .0)
-    (c .before .before .before .before .owners-at .ensures) (added .ensures))
+    (after-owners-at c .owners-at .ensures) (added .ensures))
 
 pub add-hits-spec : {M : Type 1} → statement M
 add-hits-spec =

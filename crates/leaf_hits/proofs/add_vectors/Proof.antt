@@ -77,9 +77,17 @@ wide-requires c κs = search needs
 mul-found : tie.Need-mul-found Inv-loop μ-loop
 mul-found c = search needs
 
+-- ---- the places, each with the way back to the one before
+
+abbrev after-wide : tie.Else3 Inv-loop μ-loop → tie.After-wide Inv-loop μ-loop
+after-wide c = c .before .before .before .before
+
+abbrev after-wide′ : tie.Then3 Inv-loop μ-loop → tie.After-wide Inv-loop μ-loop
+after-wide′ c = c .before .before .before .before
+
 slice-write-found : tie.Need-slice-write-found Inv-loop μ-loop
 slice-write-found c =
-    let t = turn (c .before .before .before .before) in
+    let t = turn (after-wide c) in
     omega (arith, t .loop .inv .2 .so-far .few, t .loop .inv .2 .size, entry t .pre .room)
 
 add-total : tie.Need-add-total Inv-loop μ-loop
@@ -93,7 +101,7 @@ loop-less c = search needs
 
 loop-again : tie.Need-loop-again Inv-loop μ-loop
 loop-again c =
-    let r = c .before .before .before .before in
+    let r = after-wide c in
     let t = turn r in
     let e = entry t in (
       omega (arith, more r),
@@ -126,11 +134,11 @@ returns-2 c =
     (t .loop .inv .2) (left r) (number r) (le-ltb (r .wide .result) (e .args .counts .vectors) (c .if2 .taken))
 
 same-length-3 : tie.Need-same-length-3 Inv-loop μ-loop
-same-length-3 c = turn (c .before .before .before .before) .loop .inv .2 .size
+same-length-3 c = turn (after-wide′ c) .loop .inv .2 .size
 
 returns-3 : tie.Need-returns-3 Inv-loop μ-loop
 returns-3 c =
-    let r = c .before .before .before .before in
+    let r = after-wide′ c in
     let t = turn r in
     let e = entry t in
     gather-over (test e) (λ x. true) (λ x. x) (e .args .counts .vectors) (list e) (e .args .before) (e .args .found .now) (t .loop .j) (t .loop .total) (r .wide .result) (t .loop .found)

@@ -27,8 +27,13 @@ add-result c = search needs
 same-length : tie.Need-same-length
 same-length c = search needs
 
+-- ---- the places, each with the way back to the one before
+
+abbrev start : tie.After-same → tie.Start
+start c = c .before .before .before .before
+
 returns : tie.Need-returns
-returns c = (ap (λ (n : ℕ). c .before .before .before .before .args .total + n) (c .same .ensures .0), (omega (arith, c .same .ensures .1), refl))
+returns c = (ap (λ (n : ℕ). start c .args .total + n) (c .same .ensures .0), (omega (arith, c .same .ensures .1), refl))
 
 pub write-owner-spec : {M : Type 1} → statement M
 write-owner-spec =

@@ -39,13 +39,18 @@ add-closer-3 c = search needs
 closer-requires-4 : tie.Need-closer-requires-4
 closer-requires-4 c κs = search needs
 
+-- ---- the places, each with the way back to the one before
+
+abbrev start : tie.After-closer → tie.Start
+start c = c .before .before .before .before
+
 returns : tie.Need-returns
 returns c =
     let three = c .before in
     let two = three .before in
     let one = two .before in
     let far = one .before .distances-at in
-    let p = one .before .before .before .before .args in
+    let p = start one .args in
     let l = p .floats .now in
     let n = p .dimension in
     four-steps (p .vector .now) (part (p .at) n l) (part (p .at + n) n l) (part (p .at + n + n) n l) (part (p .at + n + n + n) n l) (p .number) (p .best .number) (one .closer .result .number) (two .closer2 .result .number)

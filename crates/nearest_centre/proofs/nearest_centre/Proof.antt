@@ -65,8 +65,13 @@ loop-again c =
           (c .closer-of-four .result .least) (l .inv .1) (omega arith) (c .closer-of-four .ensures),
     )
 
+-- ---- the places, each with the way back to the one before
+
+abbrev entry : tie.After-loop Inv-loop μ-loop → tie.Start Inv-loop μ-loop
+entry c = c .before .before .before .before
+
 nearest-from-requires : tie.Need-nearest-from-requires Inv-loop μ-loop
-nearest-from-requires c κs = (c .before .before .before .before .pre, omega arith)
+nearest-from-requires c κs = (entry c .pre, omega arith)
 
 returns : tie.Need-returns Inv-loop μ-loop
 returns c = c .nearest-from .ensures ∙ sym (c .before .before .loop .inv .1)

@@ -65,9 +65,14 @@ loop-again c =
           (c .closer .ensures .1),
     )
 
+-- ---- the places, each with the way back to the one before
+
+abbrev entry : tie.After-loop Inv-loop μ-loop → tie.Start Inv-loop μ-loop
+entry c = c .before .before .before .before
+
 returns : tie.Need-returns Inv-loop μ-loop
 returns c =
-    let p = c .before .before .before .before .args in
+    let p = entry c .args in
     nearest-end (p .floats .now) _ (p .centres-at) (p .k) (p .dimension) _ _ _ _ (c .before .loop .inv .1) (c .loop-test .left)
 
 pub nearest-from-spec : {M : Type 1} → statement M

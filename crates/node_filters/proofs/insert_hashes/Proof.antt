@@ -21,12 +21,23 @@ Inv-loop hashes₀ at entries end k₀ hashes k =
 abbrev μ-loop : tie.MeasureT-loop
 μ-loop hashes₀ at entries end k₀ hashes k = length entries - k
 
+-- ---- the places, each with the way back to the one before
+
+abbrev start : tie.At-loop Inv-loop μ-loop → tie.Start Inv-loop μ-loop
+start c = c .before .before .before
+
+abbrev at-loop′ : tie.After-wide Inv-loop μ-loop → tie.At-loop Inv-loop μ-loop
+at-loop′ c = c .before .before .before
+
+abbrev after-wide : tie.After-slice-known3 Inv-loop μ-loop → tie.After-wide Inv-loop μ-loop
+after-wide c = c .before .before .before .before .before
+
 -- the entry's hash stands before the filter
 before : (c : tie.After-wide Inv-loop μ-loop)
     → (c .before .before .before .loop .k < length (c .before .before .before .before .before .before .args .entries .now)) × (c .wide .result < c .before .before .before .before .before .before .args .at) × (c .before .before .before .before .before .before .args .at + 4 ≤ length (c .before .before .before .loop .hashes))
 before c =
-    let s = c .before .before .before .before .before .before in
-    let at-loop = c .before .before .before .loop in
+    let s = start (at-loop′ c) in
+    let at-loop = at-loop′ c .loop in
     let h : at-loop .k < length (s .args .entries .now) = omega arith in
     let b = s .pre .1 (at-loop .k) h in
     let e = c .wide .ensures .0 in
@@ -70,8 +81,8 @@ part-insert-end c = let r = before (c .before) in omega (arith, r .1, r .2)
 insert-requires : tie.Need-insert-requires Inv-loop μ-loop
 insert-requires c κs =
     let r = before (c .before .before) in
-    let at = c .before .before .before .before .before .before .before .before .args .at in
-    let l = c .before .before .before .before .before .loop .hashes in
+    let at = start (at-loop′ (c .before .before)) .args .at in
+    let l = at-loop′ (c .before .before) .loop .hashes in
     ap (λ (r : List ℕ). length r) (lent-run at 4 l) ∙ length-four l at (r .2)
 
 add-k : tie.Need-add-k Inv-loop μ-loop
@@ -82,16 +93,16 @@ loop-less c = omega arith
 
 loop-again : tie.Need-loop-again Inv-loop μ-loop
 loop-again c =
-    let r = before (c .before .before .before .before .before) in
-    let s = c .before .before .before .before .before .before .before .before .before .before .before in
+    let r = before (after-wide c) in
+    let s = start (at-loop′ (after-wide c)) in
     let l₀ = s .args .hashes .now in
     let at = s .args .at in
     let entries = s .args .entries .now in
-    let at-loop = c .before .before .before .before .before .before .before .before .loop in
+    let at-loop = at-loop′ (after-wide c) .loop in
     let k = at-loop .k in
-    let x = c .before .before .before .before .before .wide .result in
+    let x = after-wide c .wide .result in
     let insert = c .before .before .insert in
-    let next = inserted-next l₀ (at-loop .hashes) (insert .last .0) at entries k x (getD (at-loop .hashes) x 0) (s .pre .0) (r .0) (at-loop .inv .2) (c .before .before .before .before .before .wide .ensures .0) (r .1) refl (insert .ensures) in
+    let next = inserted-next l₀ (at-loop .hashes) (insert .last .0) at entries k x (getD (at-loop .hashes) x 0) (s .pre .0) (r .0) (at-loop .inv .2) (after-wide c .wide .ensures .0) (r .1) refl (insert .ensures) in
     (omega arith, ap (λ (r : List ℕ). length r) next ∙ length-sets l₀ at (inserted l₀ at entries (k + 1)), next)
 
 same-length : tie.Need-same-length Inv-loop μ-loop
@@ -99,7 +110,7 @@ same-length c = search needs
 
 returns : tie.Need-returns Inv-loop μ-loop
 returns c =
-    let args = c .before .before .before .before .args in
+    let args = start (c .before) .args in
     let at-loop = c .before .loop in
     at-loop .inv .2
     ∙ ap (λ (r : List ℕ). sets (args .hashes .now) (args .at) (insertAll (part (args .at) 4 (args .hashes .now)) (map (λ x. getD (args .hashes .now) x 0) r)))

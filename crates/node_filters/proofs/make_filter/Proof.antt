@@ -145,9 +145,23 @@ part-insert-hashes-start c = search needs
 part-insert-hashes-end : tie.Need-part-insert-hashes-end
 part-insert-hashes-end c = search needs
 
+-- ---- the places, each with the way back to the one before
+
+abbrev after-clear : tie.After-insert-hashes-arg2 → tie.After-clear
+after-clear c = c .before .before .before .before
+
+abbrev after-clear′ : tie.After-insert-hashes → tie.After-clear
+after-clear′ c = c .before .before .before .before .before
+
+abbrev after-insert-hashes : tie.After-unite-children-arg2 → tie.After-insert-hashes
+after-insert-hashes c = c .before .before .before .before
+
+abbrev after-insert-hashes′ : tie.After-unite-children → tie.After-insert-hashes
+after-insert-hashes′ c = c .before .before .before .before .before
+
 insert-hashes-requires : tie.Need-insert-hashes-requires
 insert-hashes-requires c κs =
-    let w = c .before .before .before .before in
+    let w = after-clear c in
     (omega (arith, within (blocks w), cleared w), entry (blocks w))
 
 mul-unite-children : tie.Need-mul-unite-children
@@ -164,8 +178,8 @@ part-unite-children-end c = search needs
 
 unite-children-requires : tie.Need-unite-children-requires
 unite-children-requires c κs =
-    let i = c .before .before .before .before in
-    let w = i .before .before .before .before .before in
+    let i = after-insert-hashes c in
+    let w = after-clear′ i in
     let b = blocks w in
     let same = i .insert-hashes .kept .0 in
     (omega (arith, within b, cleared w, same), (above b, λ k h. omega (arith, below b k h, cleared w, same)))
@@ -176,8 +190,8 @@ same-length c = search needs
 returns : tie.Need-returns
 returns c =
     let unite = c .before .before in
-    let insert = unite .before .before .before .before .before in
-    let clear = insert .before .before .before .before .before in
+    let insert = after-insert-hashes′ unite in
+    let clear = after-clear′ insert in
     let b = blocks clear in
     let a = start b .args in
     filter-made (a .places) (a .numbers .now) (a .hashes .now) (insert .insert-hashes .last .0) (unite .unite-children .last .0) (clear .clear .last .0)

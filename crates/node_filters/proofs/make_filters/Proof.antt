@@ -23,9 +23,20 @@ loop-holds c = (omega arith, refl, refl)
 sub-i : tie.Need-sub-i Inv-loop μ-loop
 sub-i c = omega arith
 
+-- ---- the places, each with the way back to the one before
+
+abbrev start : tie.At-loop Inv-loop μ-loop → tie.Start Inv-loop μ-loop
+start c = c .before .before .before
+
+abbrev at-loop′ : tie.In-loop Inv-loop μ-loop → tie.At-loop Inv-loop μ-loop
+at-loop′ c = c .before
+
+abbrev in-loop : tie.After-slice-known2 Inv-loop μ-loop → tie.In-loop Inv-loop μ-loop
+in-loop c = c .before .before .before .before
+
 make-filter-requires : tie.Need-make-filter-requires Inv-loop μ-loop
 make-filter-requires c κs =
-    let s = c .before .before .before .before .before in
+    let s = start (at-loop′ (c .before)) in
     let at-loop = c .before .before .loop in
     let t = c .before .loop-test .taken in
     let n = at-loop .inv .1 in
@@ -39,11 +50,11 @@ loop-less c = omega arith
 
 loop-again : tie.Need-loop-again Inv-loop μ-loop
 loop-again c =
-    let s = c .before .before .before .before .before .before .before .before in
+    let s = start (at-loop′ (in-loop c)) in
     let args = s .args in
-    let at-loop = c .before .before .before .before .before .loop in
+    let at-loop = at-loop′ (in-loop c) .loop in
     let make = c .before .before .make-filter in
-    let t = c .before .before .before .before .loop-test .taken in
+    let t = in-loop c .loop-test .taken in
     let j : suc (at-loop .i - 1) ≡ at-loop .i = omega arith in (
       omega arith,
       make .kept .0 ∙ at-loop .inv .1,
@@ -56,7 +67,7 @@ same-length c = search needs
 
 returns : tie.Need-returns Inv-loop μ-loop
 returns c =
-    let args = c .before .before .before .before .args in
+    let args = start (c .before) .args in
     let at-loop = c .before .loop in
     let z : 0 ≡ at-loop .i = omega arith in
     sym (made-none (args .places) (args .numbers .now) (at-loop .hashes))

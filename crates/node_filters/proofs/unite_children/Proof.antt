@@ -22,13 +22,27 @@ Inv-loop hashes₀ filters at children end k₀ hashes k =
 abbrev μ-loop : tie.MeasureT-loop
 μ-loop hashes₀ filters at children end k₀ hashes k = length children - k
 
+-- ---- the places, each with the way back to the one before
+
+abbrev start : tie.At-loop Inv-loop μ-loop → tie.Start Inv-loop μ-loop
+start c = c .before .before .before
+
+abbrev at-loop′ : tie.After-wide Inv-loop μ-loop → tie.At-loop Inv-loop μ-loop
+at-loop′ c = c .before .before .before .before
+
+abbrev after-wide : tie.After-words Inv-loop μ-loop → tie.After-wide Inv-loop μ-loop
+after-wide c = c .before
+
+abbrev after-words : tie.After-slice-known2 Inv-loop μ-loop → tie.After-words Inv-loop μ-loop
+after-words c = c .before .before .before .before
+
 -- the child's filter stands after the filter
 behind : (c : tie.After-wide Inv-loop μ-loop)
     → (c .before .before .before .before .loop .k < length (c .before .before .before .before .before .before .before .args .children .now)) × (c .before .before .before .before .before .before .before .args .at + 4 ≤ c .before .before .before .before .before .before .before .args .filters + 4 * c .wide .result)
     × (c .before .before .before .before .before .before .before .args .filters + 4 * c .wide .result + 4 ≤ length (c .before .before .before .before .loop .hashes))
 behind c =
-    let s = c .before .before .before .before .before .before .before in
-    let at-loop = c .before .before .before .before .loop in
+    let s = start (at-loop′ c) in
+    let at-loop = at-loop′ c .loop in
     let h : at-loop .k < length (s .args .children .now) = omega arith in
     let a = s .pre .1 .0 (at-loop .k) h in
     let b = s .pre .1 .1 (at-loop .k) h in
@@ -81,8 +95,8 @@ part-unite-end c = let r = behind (c .before) in omega (arith, r .1, r .2)
 unite-requires : tie.Need-unite-requires Inv-loop μ-loop
 unite-requires c κs =
     let r = behind (c .before .before) in
-    let at = c .before .before .before .before .before .before .before .before .before .args .at in
-    let l = c .before .before .before .before .before .before .loop .hashes in
+    let at = start (at-loop′ (after-wide (c .before))) .args .at in
+    let l = at-loop′ (after-wide (c .before)) .loop .hashes in
     ap (λ (r : List ℕ). length r) (lent-run at 4 l) ∙ length-four l at (omega (arith, r .1, r .2))
 
 add-k : tie.Need-add-k Inv-loop μ-loop
@@ -93,19 +107,19 @@ loop-less c = omega arith
 
 loop-again : tie.Need-loop-again Inv-loop μ-loop
 loop-again c =
-    let r = behind (c .before .before .before .before .before) in
-    let s = c .before .before .before .before .before .before .before .before .before .before .before .before in
+    let r = behind (after-wide (after-words c)) in
+    let s = start (at-loop′ (after-wide (after-words c))) in
     let l₀ = s .args .hashes .now in
     let at = s .args .at in
     let filters = s .args .filters in
     let children = s .args .children .now in
-    let at-loop = c .before .before .before .before .before .before .before .before .before .loop in
+    let at-loop = at-loop′ (after-wide (after-words c)) .loop in
     let k = at-loop .k in
     let unite = c .before .before .unite in
-    let words = c .before .before .before .before .words in
+    let words = after-words c .words in
     let four = united-four l₀ filters at children k (r .0) (at-loop .inv .3) (s .pre .1 .1 k (r .0)) in
-    let next = united-next l₀ (at-loop .hashes) (unite .last .0) (words .result) filters at children k (c .before .before .before .before .before .wide .result) (s .pre .0) (r .0) (at-loop .inv .3) four (at-loop .inv .2)
-    (c .before .before .before .before .before .wide .ensures .0) (r .1) (words .ensures) (unite .ensures) in
+    let next = united-next l₀ (at-loop .hashes) (unite .last .0) (words .result) filters at children k (after-wide (after-words c) .wide .result) (s .pre .0) (r .0) (at-loop .inv .3) four (at-loop .inv .2)
+    (after-wide (after-words c) .wide .ensures .0) (r .1) (words .ensures) (unite .ensures) in
     (omega arith, ap (λ (r : List ℕ). length r) next ∙ length-sets l₀ at (united l₀ filters at children (k + 1)), next, four)
 
 same-length : tie.Need-same-length Inv-loop μ-loop
@@ -113,7 +127,7 @@ same-length c = search needs
 
 returns : tie.Need-returns Inv-loop μ-loop
 returns c =
-    let args = c .before .before .before .before .args in
+    let args = start (c .before) .args in
     let at-loop = c .before .loop in
     at-loop .inv .2
     ∙ ap (λ (r : List ℕ). sets (args .hashes .now) (args .at) (unionAll (part (args .at) 4 (args .hashes .now)) (map (λ c. part (args .filters + 4 * c) 4 (args .hashes .now)) r)))

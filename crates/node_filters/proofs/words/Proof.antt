@@ -38,9 +38,14 @@ mul-t15 c = search needs
 shared-slice-read-t17 : tie.Need-shared-slice-read-t17
 shared-slice-read-t17 c = search needs
 
+-- ---- the places, each with the way back to the one before
+
+abbrev entry : tie.After-shared-slice-known4 → tie.Start
+entry c = c .before .before .before .before
+
 returns : tie.Need-returns
 returns c =
-    let start = c .before .before .before .before in
+    let start = entry c in
     four-words (start .args .hashes .now) (start .args .at) (start .pre)
 
 pub words-spec : {M : Type 1} → statement M

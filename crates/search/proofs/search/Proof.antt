@@ -18,9 +18,14 @@ same-length-2 c = search needs
 same-length-3 : tie.Need-same-length-3
 same-length-3 c = search needs
 
+-- ---- the places, each with the way back to the one before
+
+abbrev after-search-wanted : tie.After-slice-known6 → tie.After-search-wanted
+after-search-wanted c = c .before .before .before .before .before .before
+
 returns : tie.Need-returns
 unfolding wantedOf
-returns c = c .before .before .before .before .before .before .search-wanted .ensures everything refl
+returns c = after-search-wanted c .search-wanted .ensures everything refl
 
 pub search-spec : {M : Type 1} → statement M
 search-spec =

@@ -23,12 +23,23 @@ same-length-2 c = search needs
 same-length-3 : tie.Need-same-length-3
 same-length-3 c = search needs
 
+-- ---- the places, each with the way back to the one before
+
+abbrev start : tie.After-hash-label → tie.Start
+start c = c .before .before .before .before .before .before .before .before .before
+
+abbrev after-hash-label : tie.After-search-wanted → tie.After-hash-label
+after-hash-label c = c .before .before .before .before
+
+abbrev after-search-wanted : tie.After-slice-known6 → tie.After-search-wanted
+after-search-wanted c = c .before .before .before .before .before .before
+
 returns : tie.Need-returns
 unfolding wantedOf
 returns c =
-    let hashed = c .before .before .before .before .before .before .before .before .before .before in
-    c .before .before .before .before .before .before .search-wanted .ensures
-    (labelled (now (c .before .before .before .before .before .before .before .before .before .before .before .before .before .before .before .before .before .before .before .args .label)))
+    let hashed = after-hash-label (after-search-wanted c) in
+    after-search-wanted c .search-wanted .ensures
+    (labelled (now (start (after-hash-label (after-search-wanted c)) .args .label)))
     (ap Label (sym (hashed .hash-label .ensures)))
 
 pub search-filtered-spec : {M : Type 1} → statement M

@@ -35,13 +35,27 @@ enum-known-check c = search needs
 enum-told : tie.Need-enum-told
 enum-told c = search needs
 
+-- ---- the places, each with the way back to the one before
+
+abbrev after-search-check : tie.After-known-told → tie.After-search-check
+after-search-check c = c .before .before .before
+
+abbrev after-enum-told : tie.After-walk-from-arg3 → tie.After-enum-told
+after-enum-told c = c .before .before .before
+
+abbrev after-enum-told′ : tie.After-walk-from → tie.After-enum-told
+after-enum-told′ c = c .before .before .before .before
+
+abbrev after-walk-from : tie.After-slice-known6 → tie.After-walk-from
+after-walk-from c = c .before .before .before .before .before .before
+
 walk-from-requires : tie.Need-walk-from-requires
-walk-from-requires c κs = ready _ _ _ (callOf (entry (c .before .before .before)) everything) (fine (c .before .before .before) everything)
+walk-from-requires c κs = ready _ _ _ (callOf (entry (after-enum-told c)) everything) (fine (after-enum-told c) everything)
 
 returns : tie.Need-returns
 unfolding SearchesBy searchCheck
 returns c =
-    λ asked e. searches-by _ _ _ _ _ _ (sym (c .before .before .before .search-check .ensures) ∙ c .before .check .given .1)
+    λ asked e. searches-by _ _ _ _ _ _ (sym (after-search-check c .search-check .ensures) ∙ c .before .check .given .1)
     (record { answer = is-search-refused _ _ refl; work = refl; ids = refl; distances = refl })
 
 same-length : tie.Need-same-length
@@ -56,8 +70,8 @@ same-length-3 c = search needs
 returns-2 : tie.Need-returns-2
 unfolding SearchesBy
 returns-2 c =
-    let walked = c .before .before .before .before .before .before in
-    λ asked e. searches-by _ _ _ _ _ _ (fine (walked .before .before .before .before) asked) (walked .walk-from .ensures asked e)
+    let walked = after-walk-from c in
+    λ asked e. searches-by _ _ _ _ _ _ (fine (after-enum-told′ walked) asked) (walked .walk-from .ensures asked e)
 
 pub search-wanted-spec : {M : Type 1} → statement M
 search-wanted-spec =

@@ -32,14 +32,25 @@ returns-2 c = root-of-zero (c .before .before .args .x) (held (c .before .before
 quiet-nan-requires-2 : tie.Need-quiet-nan-requires-2
 quiet-nan-requires-2 c κs = search needs
 
+-- ---- the places, each with the way back to the one before
+
+abbrev entry : tie.After-quiet-nan2 → tie.Start
+entry c = c .before .before .before .before
+
+abbrev entry′ : tie.Then4 → tie.Start
+entry′ c = c .before .before .before .before
+
+abbrev entry′′ : tie.After-root-pattern → tie.Start
+entry′′ c = c .before .before .before .before .before
+
 returns-3 : tie.Need-returns-3
 returns-3 c =
-    let start = c .before .before .before .before in
+    let start = entry c in
     subst (Root (start .args .x)) (sym (c .quiet-nan2 .ensures)) (root-below-zero (start .args .x) (held start) (omega arith) (omega arith))
 
 returns-4 : tie.Need-returns-4
 returns-4 c =
-    let start = c .before .before .before .before in
+    let start = entry′ c in
     root-of-infinity (start .args .x) (held start) (omega arith)
 
 root-pattern-requires : tie.Need-root-pattern-requires
@@ -52,7 +63,7 @@ float-from-bits-result c =
 
 returns-5 : tie.Need-returns-5
 returns-5 c =
-    let start = c .before .before .before .before .before in
+    let start = entry′′ c in
     root-of-bits (start .args .x) (c .root-pattern .result) (held start) (omega arith) (omega arith) (c .root-pattern .ensures)
 
 pub sqrt-spec : {M : Type 1} → statement M

@@ -10,9 +10,20 @@ use Rattle.text.proofs.write_closing.Tie as tie
 write-closing-word-requires : tie.Need-write-closing-word-requires
 write-closing-word-requires c κs = search needs
 
+-- ---- the places, each with the way back to the one before
+
+abbrev start : tie.After-write-closing-word → tie.Start
+start c = c .before .before .before
+
+abbrev after-write-closing-word : tie.After-write-number-arg → tie.After-write-closing-word
+after-write-closing-word c = c .before .before .before
+
+abbrev after-write-closing-word′ : tie.After-slice-known3 → tie.After-write-closing-word
+after-write-closing-word′ c = c .before .before .before .before .before .before
+
 write-number-requires : tie.Need-write-number-requires
 write-number-requires c κs =
-    let s = c .before .before .before .before .before .before in
+    let s = start (after-write-closing-word c) in
     omega (arith, length-closingWord (s .args .whole), decimal-le-20 (s .args .opened) (omega arith))
 
 same-length : tie.Need-same-length
@@ -20,7 +31,7 @@ same-length c = search needs
 
 returns : tie.Need-returns
 unfolding closingLine
-returns c = written-then (c .before .before .before .before .before .before .write-closing-word .ensures) (c .before .before .write-number .ensures)
+returns c = written-then (after-write-closing-word′ c .write-closing-word .ensures) (c .before .before .write-number .ensures)
 
 pub write-closing-spec : {M : Type 1} → statement M
 write-closing-spec =

@@ -23,10 +23,18 @@ write-bytes-requires c κs = search needs
 same-length : tie.Need-same-length
 same-length c = search needs
 
+-- ---- the places, each with the way back to the one before
+
+abbrev then1 : tie.After-slice-known2 → tie.Then1
+then1 c = c .before .before .before .before .before
+
+abbrev else1 : tie.After-slice-known3 → tie.Else1
+else1 c = c .before .before .before .before .before
+
 returns : tie.Need-returns
 unfolding closingWord codes
 returns c =
-    let t = c .before .before .before .before .before in
+    let t = then1 c in
     let s = start-1 t in
     let w = c .before .before .write-bytes in
     subst (λ (b : Bool). Written (now (s .args .out)) (s .args .at) (closingWord b) (w .last .0) (w .result)) (sym (t .if1 .taken)) (w .ensures)
@@ -43,7 +51,7 @@ same-length-2 c = search needs
 returns-2 : tie.Need-returns-2
 unfolding closingWord codes
 returns-2 c =
-    let t = c .before .before .before .before .before in
+    let t = else1 c in
     let s = start-2 t in
     let w = c .before .before .write-bytes2 in
     subst (λ (b : Bool). Written (now (s .args .out)) (s .args .at) (closingWord b) (w .last .0) (w .result)) (sym (t .if1 .left)) (w .ensures)

@@ -21,11 +21,19 @@ write-decimal-requires c κs = omega (arith, decimal-le-10 (c .before .before .a
 slice-write-out : tie.Need-slice-write-out
 slice-write-out c = omega (arith, decimal-le-10 (start (c .before .before) .args .id) (omega arith))
 
+-- ---- the places, each with the way back to the one before
+
+abbrev after-write-decimal : tie.After-slice-known2 → tie.After-write-decimal
+after-write-decimal c = c .before .before
+
+abbrev after-slice-known2 : tie.After-slice-known3 → tie.After-slice-known2
+after-slice-known2 c = c .before .before .before .before
+
 add-write-hex : tie.Need-add-write-hex
-add-write-hex c = omega (arith, decimal-le-10 (start (c .before .before .before) .args .id) (omega arith))
+add-write-hex c = omega (arith, decimal-le-10 (start (after-write-decimal (c .before)) .args .id) (omega arith))
 
 write-hex-requires : tie.Need-write-hex-requires
-write-hex-requires c κs = simp length-set (omega (arith, decimal-le-10 (start (c .before .before .before) .args .id) (omega arith)))
+write-hex-requires c κs = simp length-set (omega (arith, decimal-le-10 (start (after-write-decimal (c .before)) .args .id) (omega arith)))
 
 slice-write-out-2 : tie.Need-slice-write-out-2
 slice-write-out-2 c =
@@ -42,7 +50,7 @@ add-result c =
 returns : tie.Need-returns
 unfolding hitLine codes
 returns c =
-    let id = written-byte 32 (slice-write-out (c .before .before .before .before)) (id-written c .write-decimal .ensures) in
+    let id = written-byte 32 (slice-write-out (after-slice-known2 c)) (id-written c .write-decimal .ensures) in
     written-byte 10 (slice-write-out-2 c) (written-then id (c .before .before .write-hex .ensures))
 
 same-length : tie.Need-same-length

@@ -23,9 +23,26 @@ turn c = c .before .before .before .before .before .before .before .before
 abbrev start : tie.At-loop Inv-loop μ-loop → tie.Start Inv-loop μ-loop
 start c = c .before .before .before .before
 
+-- ---- the places, each with the way back to the one before
+
+abbrev at-start : tie.After-shared-slice-known2 Inv-loop μ-loop → tie.Start Inv-loop μ-loop
+at-start c = c .before .before .before
+
+abbrev at-start′ : tie.At-loop Inv-loop μ-loop → tie.Start Inv-loop μ-loop
+at-start′ c = c .before .before .before .before
+
+abbrev at-loop : tie.After-shared-slice-known3 Inv-loop μ-loop → tie.At-loop Inv-loop μ-loop
+at-loop c = c .before .before .before
+
+abbrev after-shared-slice-known3 : tie.After-to-bits Inv-loop μ-loop → tie.After-shared-slice-known3 Inv-loop μ-loop
+after-shared-slice-known3 c = c .before .before
+
+abbrev after-to-bits : tie.After-slice-known2 Inv-loop μ-loop → tie.After-to-bits Inv-loop μ-loop
+after-to-bits c = c .before .before .before
+
 loop-holds : tie.Need-loop-holds Inv-loop μ-loop
 loop-holds c =
-    let a = c .before .before .before .args in
+    let a = at-start c .args in
     (omega arith, omega arith, written-none (a .ids .now) (a .distances .now) (a .out .now) (a .at) (omega arith))
 
 mul-write-hit : tie.Need-mul-write-hit Inv-loop μ-loop
@@ -45,7 +62,7 @@ to-bits-requires c κs = tt
 
 write-hit-requires : tie.Need-write-hit-requires Inv-loop μ-loop
 write-hit-requires c κs =
-    let l = c .before .before .before .before .before .loop in
+    let l = at-loop (after-shared-slice-known3 c) .loop in
     omega (arith, length-written (l .inv .2))
 
 add-i : tie.Need-add-i Inv-loop μ-loop
@@ -59,15 +76,15 @@ loop-again c =
     let l = turn c .loop in
     let a = start (turn c) .args in
     let id = getD (a .ids .now) (l .i) 0 in
-    let bits = c .before .before .before .to-bits .result in
+    let bits = after-to-bits c .to-bits .result in
     let w = c .before .before .write-hit .ensures in
-    let h = hit-le-20 id bits (omega (arith, c .before .before .before .before .before .shared-slice-known3 .given (l .i))) in
-    (omega arith, omega (arith, w .end), written-hit (a .ids .now) (a .distances .now) (l .i) bits (c .before .before .before .to-bits .ensures) (l .inv .2) w)
+    let h = hit-le-20 id bits (omega (arith, after-shared-slice-known3 (after-to-bits c) .shared-slice-known3 .given (l .i))) in
+    (omega arith, omega (arith, w .end), written-hit (a .ids .now) (a .distances .now) (l .i) bits (after-to-bits c .to-bits .ensures) (l .inv .2) w)
 
 returns : tie.Need-returns Inv-loop μ-loop
 returns c =
     let l = c .before .loop in
-    let a = c .before .before .before .before .before .args in
+    let a = at-start′ (c .before) .args in
     let e : l .i ≡ a .count = omega arith in
     subst (λ (k : ℕ). Written (now (a .out)) (a .at) (hitLines (now (a .ids)) (now (a .distances)) k) (l .out) (l .place)) e (l .inv .2)
 

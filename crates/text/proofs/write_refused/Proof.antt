@@ -13,15 +13,26 @@ slice-aggregate-write-bytes c = search needs
 write-bytes-requires : tie.Need-write-bytes-requires
 write-bytes-requires c κs = search needs
 
+-- ---- the places, each with the way back to the one before
+
+abbrev start : tie.After-write-bytes → tie.Start
+start c = c .before .before .before .before
+
+abbrev after-write-bytes : tie.After-write-number-arg → tie.After-write-bytes
+after-write-bytes c = c .before .before .before
+
+abbrev after-write-bytes′ : tie.After-slice-known3 → tie.After-write-bytes
+after-write-bytes′ c = c .before .before .before .before .before .before
+
 write-number-requires : tie.Need-write-number-requires
-write-number-requires c κs = omega (arith, decimal-le-10 (c .before .before .before .before .before .before .before .args .number) (omega arith))
+write-number-requires c κs = omega (arith, decimal-le-10 (start (after-write-bytes c) .args .number) (omega arith))
 
 same-length : tie.Need-same-length
 same-length c = search needs
 
 returns : tie.Need-returns
 unfolding refusedLine refusedWord codes
-returns c = written-then (c .before .before .before .before .before .before .write-bytes .ensures) (c .before .before .write-number .ensures)
+returns c = written-then (after-write-bytes′ c .write-bytes .ensures) (c .before .before .write-number .ensures)
 
 pub write-refused-spec : {M : Type 1} → statement M
 write-refused-spec =

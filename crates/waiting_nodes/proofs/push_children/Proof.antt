@@ -53,25 +53,42 @@ grown t m work q =
 queue-fits : (t : Turn) → t .loop .j < entry t .args .count → entry t .args .waiting + t .loop .j < 2 ^ 64
 queue-fits t h = omega (arith, h, entry t .pre .nodes .room, entry t .pre .nodes .limits .nodes-high)
 
+-- ---- the places, each with the way back to the one before
+
+abbrev at-start : tie.After-shared-slice-known3 Inv-loop μ-loop → tie.Start Inv-loop μ-loop
+at-start c = c .before .before .before .before
+
+abbrev at-loop : tie.In-loop Inv-loop μ-loop → tie.At-loop Inv-loop μ-loop
+at-loop c = c .before
+
+abbrev in-loop : tie.Then1 Inv-loop μ-loop → tie.In-loop Inv-loop μ-loop
+in-loop c = c .before
+
+abbrev in-loop′ : tie.After-slice-known3 Inv-loop μ-loop → tie.In-loop Inv-loop μ-loop
+in-loop′ c = c .before .before .before .before .before
+
+abbrev then1 : tie.After-slice-known2 Inv-loop μ-loop → tie.Then1 Inv-loop μ-loop
+then1 c = c .before .before .before .before
+
 loop-holds : tie.Need-loop-holds Inv-loop μ-loop
 loop-holds c =
-    let e = c .before .before .before .before in
+    let e = at-start c in
     (omega arith, pushed-none (e .args .shape) (e .args .work .now) (e .args .waiting) (e .pre .nodes .queue))
 
 sub-if1 : tie.Need-sub-if1 Inv-loop μ-loop
 sub-if1 c = search needs
 
 add-push-four : tie.Need-add-push-four Inv-loop μ-loop
-add-push-four c = omega (arith, queue-fits (c .before .before .before) (c .before .before .loop-test .taken))
+add-push-four c = omega (arith, queue-fits (at-loop (in-loop (c .before))) (c .before .before .loop-test .taken))
 
 add-push-four-2 : tie.Need-add-push-four-2 Inv-loop μ-loop
 add-push-four-2 c =
-    let e = entry (c .before .before .before) in
+    let e = entry (at-loop (in-loop (c .before))) in
     omega (arith, c .before .before .loop-test .taken, e .pre .children .inside, e .good)
 
 push-four-requires : tie.Need-push-four-requires Inv-loop μ-loop
 push-four-requires c κs =
-    let t = c .before .before .before in
+    let t = at-loop (in-loop (c .before)) in
     let n = next t 4 (omega (arith, c .before .if1 .taken)) in
     record { floats-size = entry t .pre .floats-size; nodes = n .0; children = n .1 }
 
@@ -83,19 +100,19 @@ loop-less c = search needs
 
 loop-again : tie.Need-loop-again Inv-loop μ-loop
 loop-again c =
-    (omega (arith, c .before .before .before .before .if1 .taken), grown (c .before .before .before .before .before .before) 4 _ (c .before .before .push-four .ensures))
+    (omega (arith, then1 c .if1 .taken), grown (at-loop (in-loop (then1 c))) 4 _ (c .before .before .push-four .ensures))
 
 add-push-one : tie.Need-add-push-one Inv-loop μ-loop
-add-push-one c = omega (arith, queue-fits (c .before .before .before) (c .before .before .loop-test .taken))
+add-push-one c = omega (arith, queue-fits (at-loop (c .before .before)) (c .before .before .loop-test .taken))
 
 add-push-one-2 : tie.Need-add-push-one-2 Inv-loop μ-loop
 add-push-one-2 c =
-    let e = entry (c .before .before .before) in
+    let e = entry (at-loop (c .before .before)) in
     omega (arith, c .before .before .loop-test .taken, e .pre .children .inside, e .good)
 
 push-one-requires : tie.Need-push-one-requires Inv-loop μ-loop
 push-one-requires c κs =
-    let t = c .before .before .before in
+    let t = at-loop (c .before .before) in
     let n = next t 1 (omega (arith, c .before .before .loop-test .taken)) in
     record { floats-size = entry t .pre .floats-size; nodes = n .0; children = n .1 }
 
@@ -107,7 +124,7 @@ loop-less-2 c = search needs
 
 loop-again-2 : tie.Need-loop-again-2 Inv-loop μ-loop
 loop-again-2 c =
-    (omega (arith, c .before .before .before .before .before .loop-test .taken), grown (c .before .before .before .before .before .before) 1 _ (c .before .before .push-one .ensures))
+    (omega (arith, in-loop′ c .loop-test .taken), grown (at-loop (in-loop′ c)) 1 _ (c .before .before .push-one .ensures))
 
 same-length : tie.Need-same-length Inv-loop μ-loop
 same-length c = c .before .loop .inv .1 .size

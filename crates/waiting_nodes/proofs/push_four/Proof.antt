@@ -34,15 +34,44 @@ c′ r = r .before .before .wide3 .result
 abbrev d : Read → ℕ
 d r = r .wide4 .result
 
+-- ---- the places, each with the way back to the one before
+
+abbrev after-wide : tie.After-wide2 → tie.After-wide
+after-wide c = c .before .before
+
+abbrev after-wide2 : tie.After-wide4 → tie.After-wide2
+after-wide2 c = c .before .before .before .before
+
+abbrev after-wide4 : tie.After-key → tie.After-wide4
+after-wide4 c = c .before .before .before
+
+abbrev after-push-node : tie.After-key2 → tie.After-push-node
+after-push-node c = c .before .before .before .before
+
+abbrev after-push-node2 : tie.After-push-node-arg3 → tie.After-push-node2
+after-push-node2 c = c .before .before .before
+
+abbrev after-push-node2′ : tie.After-key3 → tie.After-push-node2
+after-push-node2′ c = c .before .before .before .before
+
+abbrev after-push-node3 : tie.After-push-node-arg4 → tie.After-push-node3
+after-push-node3 c = c .before .before .before
+
+abbrev after-push-node3′ : tie.After-key4 → tie.After-push-node3
+after-push-node3′ c = c .before .before .before .before
+
+abbrev after-key4 : tie.After-slice-known5 → tie.After-key4
+after-key4 c = c .before .before .before
+
 low-a : (r : Read) → a r < entry r .args .shape .nodes
 low-a r =
     let e = entry r in
-    child-held (e .args .shape) (e .args .numbers .now) (e .args .at) 4 0 (e .args .at) (a r) (e .pre .children) (omega arith) (omega arith) (r .before .before .before .before .before .before .wide .ensures .0)
+    child-held (e .args .shape) (e .args .numbers .now) (e .args .at) 4 0 (e .args .at) (a r) (e .pre .children) (omega arith) (omega arith) (after-wide (after-wide2 r) .wide .ensures .0)
 
 low-b : (r : Read) → b r < entry r .args .shape .nodes
 low-b r =
     let e = entry r in
-    child-held (e .args .shape) (e .args .numbers .now) (e .args .at) 4 1 (e .args .at + 1) (b r) (e .pre .children) (omega arith) refl (r .before .before .before .before .wide2 .ensures .0)
+    child-held (e .args .shape) (e .args .numbers .now) (e .args .at) 4 1 (e .args .at + 1) (b r) (e .pre .children) (omega arith) refl (after-wide2 r .wide2 .ensures .0)
 
 low-c : (r : Read) → c′ r < entry r .args .shape .nodes
 low-c r =
@@ -185,7 +214,7 @@ key-requires c κs = search needs
 
 push-node-requires : tie.Need-push-node-requires
 push-node-requires c κs =
-    let r = c .before .before .before in
+    let r = after-wide4 c in
     let w = entry r .pre .nodes in
     record { nodes = record { size = w .size; limits = w .limits; room = omega (arith, w .room); queue = w .queue }; below = low-a r }
 
@@ -196,29 +225,29 @@ key-requires-2 : tie.Need-key-requires-2
 key-requires-2 c κs = search needs
 
 push-node-requires-2 : tie.Need-push-node-requires-2
-push-node-requires-2 c κs = let p = c .before .before .before .before in record { nodes = after1 p; below = low-b (read1 p) }
+push-node-requires-2 c κs = let p = after-push-node c in record { nodes = after1 p; below = low-b (read1 p) }
 
 add-push-node-2 : tie.Need-add-push-node-2
 add-push-node-2 c =
-    let w = entry (read1 (first (c .before .before .before))) .pre .nodes in
+    let w = entry (read1 (first (after-push-node2 c))) .pre .nodes in
     omega (arith, w .room, w .limits .nodes-high)
 
 key-requires-3 : tie.Need-key-requires-3
 key-requires-3 c κs = search needs
 
 push-node-requires-3 : tie.Need-push-node-requires-3
-push-node-requires-3 c κs = let p = c .before .before .before .before in record { nodes = after2 p; below = low-c (read1 (first p)) }
+push-node-requires-3 c κs = let p = after-push-node2′ c in record { nodes = after2 p; below = low-c (read1 (first p)) }
 
 add-push-node-3 : tie.Need-add-push-node-3
 add-push-node-3 c =
-    let w = entry (read1 (first (second (c .before .before .before)))) .pre .nodes in
+    let w = entry (read1 (first (second (after-push-node3 c)))) .pre .nodes in
     omega (arith, w .room, w .limits .nodes-high)
 
 key-requires-4 : tie.Need-key-requires-4
 key-requires-4 c κs = search needs
 
 push-node-requires-4 : tie.Need-push-node-requires-4
-push-node-requires-4 c κs = let p = c .before .before .before .before in record { nodes = after3 p; below = low-d (read1 (first (second p))) }
+push-node-requires-4 c κs = let p = after-push-node3′ c in record { nodes = after3 p; below = low-d (read1 (first (second p))) }
 
 same-length : tie.Need-same-length
 same-length c = search needs
@@ -226,7 +255,7 @@ same-length c = search needs
 returns : tie.Need-returns
 returns c =
     let last = c .before .before .push-node4 in
-    let three = c .before .before .before .before .before .before .before in
+    let three = after-push-node3′ (after-key4 c) in
     let two = second three in
     let one = first two in
     let r = read1 one in
@@ -243,7 +272,7 @@ returns c =
     (node _ (a r) _ _ (one .before .key .ensures ∙ ap keyOf (at .0)) refl (r .before .before .before .before .before .before .wide .ensures .0))
     (node _ (b r) _ _ (two .before .key2 .ensures ∙ ap keyOf (at .1 .0)) refl (r .before .before .before .before .wide2 .ensures .0))
     (node _ (c′ r) _ _ (three .before .key3 .ensures ∙ ap keyOf (at .1 .1 .0)) refl (r .before .before .wide3 .ensures .0))
-    (node _ (d r) _ _ (c .before .before .before .key4 .ensures ∙ ap keyOf (at .1 .1 .1)) refl (r .wide4 .ensures .0)))
+    (node _ (d r) _ _ (after-key4 c .key4 .ensures ∙ ap keyOf (at .1 .1 .1)) refl (r .wide4 .ensures .0)))
     all
 
 pub push-four-spec : {M : Type 1} → statement M

@@ -11,9 +11,14 @@ push-requires c κs = search needs
 same-length : tie.Need-same-length
 same-length c = search needs
 
+-- ---- the places, each with the way back to the one before
+
+abbrev start : tie.After-slice-known2 → tie.Start
+start c = c .before .before .before .before .before
+
 returns : tie.Need-returns
 returns c =
-    let e = c .before .before .before .before .before in
+    let e = start c in
     pushed-one (e .args .shape) (e .args .work .now) _ (e .args .waiting) (e .args .child) _ (e .pre .nodes .room) refl (c .before .before .push .ensures)
 
 pub push-node-spec : {M : Type 1} → statement M

@@ -39,9 +39,17 @@ distance-key-requires c κs =
     vector-within (e .args .shape) (e .args .floats .now) (e .args .shape .vectors + r .wide .result) (e .args .shape .vectors + e .args .shape .nodes) (e .pre .nodes .limits) (e .pre .floats-size)
     (omega (arith, low r)) (omega arith)
 
+-- ---- the places, each with the way back to the one before
+
+abbrev after-wide : tie.After-distance-key → tie.After-wide
+after-wide c = c .before .before
+
+abbrev after-distance-key : tie.After-slice-known2 → tie.After-distance-key
+after-distance-key c = c .before .before .before .before
+
 push-node-requires : tie.Need-push-node-requires
 push-node-requires c κs =
-    let r = c .before .before .before in
+    let r = after-wide (c .before) in
     record { nodes = entry r .pre .nodes; below = low r }
 
 same-length : tie.Need-same-length
@@ -50,8 +58,8 @@ same-length c = search needs
 returns : tie.Need-returns
 returns c =
     let p = c .before .before .push-node in
-    let k = c .before .before .before .before .distance-key in
-    let r = c .before .before .before .before .before .before in
+    let k = after-distance-key c .distance-key in
+    let r = after-wide (after-distance-key c) in
     let e = entry r in
     subst (λ (l : List ℕ). PushedNodes (e .args .shape) (e .args .work .now) (e .args .waiting) l (p .last .1 .0))
     (one-mapped (nodeFor (e .args .shape) (e .args .floats .now) (e .args .query .now)) (e .args .numbers .now) (e .args .at) 0 _ (e .pre .children .inside)

@@ -32,9 +32,26 @@ loop-holds c =
     let a = c .before .args in
     popping-start (a .heap .now) (a .count) (a .k) (c .before .pre .queue)
 
+-- ---- the places, each with the way back to the one before
+
+abbrev start : tie.At-loop Inv-loop μ-loop → tie.Start Inv-loop μ-loop
+start c = c .before .before
+
+abbrev at-loop : tie.Else1 Inv-loop μ-loop → tie.At-loop Inv-loop μ-loop
+at-loop c = c .before
+
+abbrev else1 : tie.After-pop Inv-loop μ-loop → tie.Else1 Inv-loop μ-loop
+else1 c = c .before .before .before
+
+abbrev after-pop : tie.Then3 Inv-loop μ-loop → tie.After-pop Inv-loop μ-loop
+after-pop c = c .before .before .before .before
+
+abbrev after-pop′ : tie.Else3 Inv-loop μ-loop → tie.After-pop Inv-loop μ-loop
+after-pop′ c = c .before .before .before .before
+
 pop-requires : tie.Need-pop-requires Inv-loop μ-loop
 pop-requires c κs =
-    let t = c .before .before .before in
+    let t = at-loop (c .before .before) in
     let loop = t .loop in
     record {
       narrow = omega arith;
@@ -49,26 +66,26 @@ sub-left c = search needs
 
 add-hits : tie.Need-add-hits Inv-loop μ-loop
 add-hits c =
-    let p = c .before .before .before .before in
-    omega (arith, turn p .loop .inv .most, p .before .before .before .if1 .left, entry (turn p) .fits .k)
+    let p = after-pop c in
+    omega (arith, turn p .loop .inv .most, else1 p .if1 .left, entry (turn p) .fits .k)
 
 loop-less : tie.Need-loop-less Inv-loop μ-loop
 loop-less c = search needs
 
 loop-again : tie.Need-loop-again Inv-loop μ-loop
 loop-again c =
-    let p = c .before .before .before .before in
+    let p = after-pop c in
     let a = entry (turn p) .args in
     let loop = turn p .loop in
     popping-other (a .heap .now) (a .count) (a .k) (loop .heap) _ (loop .hits) (loop .left) (loop .last) (loop .key) (p .pop .result) (loop .inv) (p .pop .ensures)
-    (omega (arith, p .before .before .if2 .left)) (omega arith) (c .if3 .taken) (p .before .before .before .if1 .left)
+    (omega (arith, p .before .before .if2 .left)) (omega arith) (c .if3 .taken) (else1 p .if1 .left)
 
 loop-less-2 : tie.Need-loop-less-2 Inv-loop μ-loop
 loop-less-2 c = search needs
 
 loop-again-2 : tie.Need-loop-again-2 Inv-loop μ-loop
 loop-again-2 c =
-    let p = c .before .before .before .before in
+    let p = after-pop′ c in
     let a = entry (turn p) .args in
     let loop = turn p .loop in
     popping-same (a .heap .now) (a .count) (a .k) (loop .heap) _ (loop .hits) (loop .left) (loop .last) (loop .key) (p .pop .result) (loop .inv) (p .pop .ensures)
@@ -79,7 +96,7 @@ same-length c = c .before .loop .inv .size
 
 returns : tie.Need-returns Inv-loop μ-loop
 returns c =
-    let a = c .before .before .before .args in
+    let a = start (c .before) .args in
     let loop = c .before .loop in
     bounds-enough (a .heap .now) (a .count) (a .k) (loop .heap) (loop .hits) (loop .left) (loop .last) (loop .key) (c .if1 .taken) (loop .inv)
 
@@ -88,7 +105,7 @@ same-length-2 c = c .before .before .loop .inv .size
 
 returns-2 : tie.Need-returns-2 Inv-loop μ-loop
 returns-2 c =
-    let a = c .before .before .before .before .args in
+    let a = start (at-loop (c .before)) .args in
     let loop = c .before .before .loop in
     bounds-none (a .heap .now) (a .count) (a .k) (loop .heap) (loop .hits) (loop .left) (loop .last) (loop .key) (loop .inv)
 

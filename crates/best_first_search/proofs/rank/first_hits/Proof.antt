@@ -19,10 +19,18 @@ same-length-2 c = search needs
 same-length-3 : tie.Need-same-length-3
 same-length-3 c = search needs
 
+-- ---- the places, each with the way back to the one before
+
+abbrev after-rank : tie.After-take-hits → tie.After-rank
+after-rank c = c .before .before .before .before .before .before
+
+abbrev after-take-hits : tie.After-slice-known7 → tie.After-take-hits
+after-take-hits c = c .before .before .before .before .before .before
+
 returns : tie.Need-returns
 returns c =
-    let t = c .before .before .before .before .before .before in
-    let r = t .before .before .before .before .before .before in
+    let t = after-take-hits c in
+    let r = after-rank t in
     firsts _ _ _ _ _ _ _ _ _ (t .take-hits .result) (r .rank .ensures) (t .take-hits .ensures)
 
 pub first-hits-spec : {M : Type 1} → statement M

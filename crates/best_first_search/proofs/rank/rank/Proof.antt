@@ -15,9 +15,17 @@ entry s = s .before .before .before .before .before .before
 sample-bound-requires : tie.Need-sample-bound-requires
 sample-bound-requires c κs = search needs
 
+-- ---- the places, each with the way back to the one before
+
+abbrev after-sample-bound : tie.After-measure-arg → tie.After-sample-bound
+after-sample-bound c = c .before .before .before
+
+abbrev after-sample-bound′ : tie.After-slice-known3 → tie.After-sample-bound
+after-sample-bound′ c = c .before .before .before .before .before .before
+
 measure-requires : tie.Need-measure-requires
 measure-requires c κs =
-    let s = c .before .before .before in
+    let s = after-sample-bound c in
     let e = entry s in
     let a = e .args in
     record { lent = e .pre .lent; measure = measure-again (a .counts) (hit e) (a .k) (a .from) (a .found) (a .heap .now) (e .pre .measure) (s .sample-bound .result) (s .sample-bound .last .1 .1 .1 .1 .0) (s .sample-bound .ensures) }
@@ -28,7 +36,7 @@ same-length c = search needs
 returns : tie.Need-returns
 returns c =
     let m = c .before .before in
-    let s = c .before .before .before .before .before .before in
+    let s = after-sample-bound′ c in
     let e = entry s in
     let a = e .args in
     ranked-within (a .counts) (hit e) (a .k) (a .from) (a .found) (a .heap .now) (e .pre .measure) (s .sample-bound .result) (m .measure .result) (s .sample-bound .last .1 .1 .1 .1 .0) (m .measure .last .1 .1 .1 .1 .0)

@@ -55,9 +55,29 @@ short c =
     let start = start-1 (c .before .before) in
     c .lists-short .ensures ∙ ap (λ (s : Shape). listsShort s (lens start) (start .args .work)) (c .before .shape-of .ensures)
 
+-- ---- the places, each with the way back to the one before
+
+abbrev else1 : tie.After-shape-of → tie.Else1
+else1 c = c .before
+
+abbrev after-shape-of : tie.Else2 → tie.After-shape-of
+after-shape-of c = c .before .before
+
+abbrev else2 : tie.Else3 → tie.Else2
+else2 c = c .before
+
+abbrev else3 : tie.Else4 → tie.Else3
+else3 c = c .before .before
+
+abbrev else4 : tie.Then5 → tie.Else4
+else4 c = c .before .before .before
+
+abbrev else4′ : tie.Else5 → tie.Else4
+else4′ c = c .before .before .before
+
 -- where the owners start
 owners-start : (c : tie.After-owners-at) → c .owners-at .result ≡ ownersAt (indexShape (start-4 (c .before) .args .index))
-owners-start c = c .owners-at .ensures ∙ ap (λ (s : Shape). s .vectors) (c .before .before .before .before .before .before .shape-of .ensures)
+owners-start c = c .owners-at .ensures ∙ ap (λ (s : Shape). s .vectors) (after-shape-of (else2 (else3 (c .before))) .shape-of .ensures)
 
 -- what the fourth row asks
 bad : (c : tie.After-owners-sound)
@@ -74,12 +94,12 @@ after-1 : (c : tie.Else1) → firstOf (rows (start-1 c)) ≡ firstOf (drop 1 (ro
 after-1 c = row-passes _ _ (ap not (sym (c .before .state-sound .ensures)) ∙ c .if1 .left)
 
 after-2 : (c : tie.Else2) → firstOf (rows (start-2 c)) ≡ firstOf (drop 2 (rows (start-2 c)))
-after-2 c = after-1 (c .before .before .before) ∙ row-passes _ _ (sym (short (c .before)) ∙ c .if2 .left)
+after-2 c = after-1 (else1 (after-shape-of c)) ∙ row-passes _ _ (sym (short (c .before)) ∙ c .if2 .left)
 
 after-3 : (c : tie.Else4) → firstOf (rows (start-4 c)) ≡ firstOf (drop 3 (rows (start-4 c)))
 after-3 c =
     let index = start-4 c .args .index in
-    after-2 (c .before .before .before)
+    after-2 (else2 (else3 c))
     ∙ row-passes _ _ (ap (λ (t : Bool). not t && eqb (index .counts .vectors) 0) (c .before .before .if3 .left) ∙ ne-eqb _ _ (c .if4 .left))
 
 -- the fourth row's case, for an index that is not built
@@ -89,7 +109,7 @@ fourth : (c : tie.After-owners-sound)
     ≡ not (c .owners-sound .result)
 fourth c =
     let args = start-4 (c .before .before) .args in
-    ap (λ (t : Bool). not t && ownersBad (args .index) (now (args .numbers))) (c .before .before .before .before .if3 .left) ∙ sym (bad c)
+    ap (λ (t : Bool). not t && ownersBad (args .index) (now (args .numbers))) (else3 (c .before .before) .if3 .left) ∙ sym (bad c)
 
 state-sound-requires : tie.Need-state-sound-requires
 state-sound-requires c κs = search needs
@@ -104,7 +124,7 @@ lists-short-requires : tie.Need-lists-short-requires
 lists-short-requires c κs = subst (λ (s : Shape). Limits s) (sym (c .shape-of .ensures)) (sound (c .before) .limits)
 
 returns-2 : tie.Need-returns-2
-returns-2 c = sym (checked-rows _ _ _ _ ∙ after-1 (c .before .before .before) ∙ row-stops _ _ (sym (short (c .before)) ∙ c .if2 .taken))
+returns-2 c = sym (checked-rows _ _ _ _ ∙ after-1 (else1 (c .before .before)) ∙ row-stops _ _ (sym (short (c .before)) ∙ c .if2 .taken))
 
 returns-3 : tie.Need-returns-3
 returns-3 c =
@@ -120,30 +140,30 @@ returns-4 : tie.Need-returns-4
 returns-4 c =
     let index = start-3 (c .before .before) .args .index in
     sym
-    (checked-rows _ _ _ _ ∙ after-2 (c .before .before .before)
+    (checked-rows _ _ _ _ ∙ after-2 (else2 (c .before .before))
     ∙ row-stops _ _ (ap (λ (t : Bool). not t && eqb (index .counts .vectors) 0) (c .before .before .if3 .left) ∙ eq-eqb _ _ (c .if4 .taken)))
 
 owners-at-requires : tie.Need-owners-at-requires
 owners-at-requires c κs =
-    subst (λ (s : Shape). Limits s) (sym (c .before .before .before .before .before .shape-of .ensures)) (sound (c .before .before .before .before .before .before) .limits)
+    subst (λ (s : Shape). Limits s) (sym (after-shape-of (else2 (else3 c)) .shape-of .ensures)) (sound (else1 (after-shape-of (else2 (else3 c)))) .limits)
 
 owners-sound-requires : tie.Need-owners-sound-requires
 owners-sound-requires c κs =
-    let second = c .before .before .before .before in
+    let second = else2 (else3 (c .before)) in
     let args = start-2 second .args in
     let at = owners-start c in
     let long = lists-long (indexShape (args .index)) (lens (start-2 second)) (args .work) (sym (short (second .before)) ∙ second .if2 .left) .0 .numbers in
-    let few = sound (second .before .before .before) .entries in
+    let few = sound (else1 (after-shape-of second)) .entries in
     subst (λ (a : ℕ). a + args .index .counts .entries ≤ length (now (args .numbers))) (sym at) (omega (arith, long, few, start-2 second .pre))
 
 returns-5 : tie.Need-returns-5
-returns-5 c = sym (checked-rows _ _ _ _ ∙ after-3 (c .before .before .before) ∙ row-stops _ _ (fourth (c .before) ∙ c .if5 .taken))
+returns-5 c = sym (checked-rows _ _ _ _ ∙ after-3 (else4 c) ∙ row-stops _ _ (fourth (c .before) ∙ c .if5 .taken))
 
 returns-6 : tie.Need-returns-6
 returns-6 c =
-    let index = start-4 (c .before .before .before) .args .index in
+    let index = start-4 (else4′ c) .args .index in
     sym
-    (checked-rows _ _ _ _ ∙ after-3 (c .before .before .before) ∙ row-passes _ _ (fourth (c .before) ∙ c .if5 .left)
+    (checked-rows _ _ _ _ ∙ after-3 (else4′ c) ∙ row-passes _ _ (fourth (c .before) ∙ c .if5 .left)
     ∙ row-passes (fullRow index false) [] (and-false (not (index .built)))
     ∙ no-rows)
 

@@ -21,9 +21,29 @@ shaped c = c .before .before .before .before .before
 shape-of-requires : tie.Need-shape-of-requires
 shape-of-requires c κs = search needs
 
+-- ---- the places, each with the way back to the one before
+
+abbrev after-shape-of : tie.After-build-tree-arg3 → tie.After-shape-of
+after-shape-of c = c .before .before .before .before
+
+abbrev after-build-tree : tie.After-made → tie.After-build-tree
+after-build-tree c = c .before .before .before .before .before .before .before .before
+
+abbrev after-build-tree′ : tie.After-enum-told → tie.After-build-tree
+after-build-tree′ c = c .before .before .before .before .before .before .before .before
+
+abbrev after-made : tie.After-insert-label-entries-arg3 → tie.After-made
+after-made c = c .before .before .before .before
+
+abbrev after-made′ : tie.After-insert-label-entries → tie.After-made
+after-made′ c = c .before .before .before .before .before
+
+abbrev after-insert-label-entries : tie.After-built-with → tie.After-insert-label-entries
+after-insert-label-entries c = c .before .before .before .before .before .before .before
+
 build-tree-requires : tie.Need-build-tree-requires
 build-tree-requires c κs =
-    let at = c .before .before .before .before in
+    let at = after-shape-of c in
     let s = entry at in
     tree-asked (s .args .index) (storeOf s) (now (s .args .work)) (at .shape-of .ensures) (s .pre)
 
@@ -35,13 +55,13 @@ enum-known-made c = search needs
 
 insert-label-entries-requires : tie.Need-insert-label-entries-requires
 insert-label-entries-requires c κs =
-    let built = c .before .before .before .before .before .before .before .before .before .before .before .before in
+    let built = after-build-tree (after-made c) in
     let at = shaped built in
     let s = entry at in
     let store = storeOf s in
     let work = now (s .args .work) in
     let all =
-    tree-whole (s .args .index) store work (at .shape-of .ensures) (built .build-tree .ensures) (c .before .before .before .before .made .given .1) in (
+    tree-whole (s .args .index) store work (at .shape-of .ensures) (built .build-tree .ensures) (after-made c .made .given .1) in (
       finish-room (s .args .index) store work (at .shape-of .ensures) (s .pre) all,
       finish-made (s .args .index) store work (at .shape-of .ensures) (s .pre) all,
     )
@@ -60,7 +80,7 @@ same-length-3 c = search needs
 
 returns : tie.Need-returns
 returns c =
-    let built = c .before .before .before .before .before .before .before .before in
+    let built = after-build-tree′ c in
     let at = shaped built in
     let s = entry at in
     tree-full (s .args .index) (storeOf s) (now (s .args .work)) (at .shape-of .ensures) (s .pre) (built .build-tree .ensures) (c .enum-told .given .1)
@@ -79,9 +99,9 @@ same-length-7 c = search needs
 
 returns-2 : tie.Need-returns-2
 returns-2 c =
-    let done = c .before .before .before .before .before .before .before in
-    let told = done .before .before .before .before .before in
-    let built = told .before .before .before .before .before .before .before .before in
+    let done = after-insert-label-entries c in
+    let told = after-made′ done in
+    let built = after-build-tree told in
     let at = shaped built in
     let s = entry at in
     let store = storeOf s in

@@ -13,11 +13,28 @@ smaller-requires c κs = search needs
 centres-at-requires : tie.Need-centres-at-requires
 centres-at-requires c κs = search needs
 
+-- ---- the places, each with the way back to the one before
+
+abbrev start : tie.After-smaller → tie.Start
+start c = c .before .before .before .before
+
+abbrev after-smaller : tie.After-centres-at → tie.After-smaller
+after-smaller c = c .before .before .before
+
+abbrev after-centres-at : tie.After-simple-kmeans → tie.After-centres-at
+after-centres-at c = c .before
+
+abbrev after-simple-kmeans : tie.After-sort-by-mark-arg → tie.After-simple-kmeans
+after-simple-kmeans c = c .before .before .before .before .before
+
+abbrev after-simple-kmeans′ : tie.After-slice-known5 → tie.After-simple-kmeans
+after-simple-kmeans′ c = c .before .before .before .before .before .before .before .before
+
 simple-kmeans-requires : tie.Need-simple-kmeans-requires
 simple-kmeans-requires c κs =
-    let a = c .before .before .before .before .before .before .before .args in
-    let p = c .before .before .before .before .before .before .before .pre in
-    let k = c .before .before .before .smaller in
+    let a = start (after-smaller c) .args in
+    let p = start (after-smaller c) .pre in
+    let k = after-smaller c .smaller in
     let e = k .ensures in
     let b = p .0 .branching-low in
     let room = room-smaller (a .shape .branching) {k = k .result} (p .1 .0) (omega arith) in
@@ -25,10 +42,10 @@ simple-kmeans-requires c κs =
 
 sort-by-mark-requires : tie.Need-sort-by-mark-requires
 sort-by-mark-requires c κs =
-    let p = c .before .before .before .before .before .before .before .before .before .before .before .before .before .pre in
-    let e = c .before .before .before .before .before .before .before .before .before .smaller .ensures in
+    let p = start (after-smaller (after-centres-at (after-simple-kmeans c))) .pre in
+    let e = after-smaller (after-centres-at (after-simple-kmeans c)) .smaller .ensures in
     let b = p .0 .branching-high in
-    let w = c .before .before .before .before .before .simple-kmeans .kept .1 .1 .0 in
+    let w = after-simple-kmeans c .simple-kmeans .kept .1 .1 .0 in
     (omega (arith, w, p .1 .1 .1 .1 .1 .0), (p .1 .1 .1 .1 .0, (λ i h. let k = p .1 .0 .below i h in omega (arith, k, p .1 .1 .0), (omega arith, p .1 .1 .1 .1 .1 .1))))
 
 same-length : tie.Need-same-length
@@ -39,11 +56,11 @@ same-length-2 c = search needs
 
 returns : tie.Need-returns
 returns c =
-    let a = c .before .before .before .before .before .before .before .before .before .before .before .before .before .before .before .before .args in
-    let p = c .before .before .before .before .before .before .before .before .before .before .before .before .before .before .before .before .pre in
-    let w = c .before .before .before .before .before .before .before .before .simple-kmeans .kept .1 .1 .0 in
-    let room : 2 * length (a .ids .now) ≤ length (c .before .before .before .before .before .before .before .before .simple-kmeans .last .1 .1 .0) = omega (arith, w, p .1 .1 .1 .1 .1 .0) in
-    clustering-end (p .0) (c .before .before .before .before .before .before .before .before .before .centres-at .ensures) (c .before .before .before .before .before .before .before .before .before .before .before .before .smaller .ensures) room (c .before .before .before .before .before .before .before .before .simple-kmeans .ensures) (c .before .before .sort-by-mark .ensures .0) (c .before .before .sort-by-mark .ensures .1)
+    let a = start (after-smaller (after-centres-at (after-simple-kmeans′ c))) .args in
+    let p = start (after-smaller (after-centres-at (after-simple-kmeans′ c))) .pre in
+    let w = after-simple-kmeans′ c .simple-kmeans .kept .1 .1 .0 in
+    let room : 2 * length (a .ids .now) ≤ length (after-simple-kmeans′ c .simple-kmeans .last .1 .1 .0) = omega (arith, w, p .1 .1 .1 .1 .1 .0) in
+    clustering-end (p .0) (after-centres-at (after-simple-kmeans′ c) .centres-at .ensures) (after-smaller (after-centres-at (after-simple-kmeans′ c)) .smaller .ensures) room (after-simple-kmeans′ c .simple-kmeans .ensures) (c .before .before .sort-by-mark .ensures .0) (c .before .before .sort-by-mark .ensures .1)
 
 pub split-ids-spec : {M : Type 1} → statement M
 split-ids-spec =

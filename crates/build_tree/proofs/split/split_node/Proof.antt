@@ -23,10 +23,27 @@ part-split-ids-start c = search needs
 part-split-ids-end : tie.Need-part-split-ids-end
 part-split-ids-end c = search needs
 
+-- ---- the places, each with the way back to the one before
+
+abbrev start : tie.After-split-ids-arg3 → tie.Start
+start c = c .before .before .before .before .before .before .before
+
+abbrev start′ : tie.After-split-ids → tie.Start
+start′ c = c .before .before .before .before .before .before .before .before
+
+abbrev after-split-ids : tie.After-copy-to → tie.After-split-ids
+after-split-ids c = c .before .before .before .before .before .before .before .before
+
+abbrev after-copy-to : tie.After-write-six-arg → tie.After-copy-to
+after-copy-to c = c .before .before .before
+
+abbrev after-copy-to′ : tie.After-slice-known7 → tie.After-copy-to
+after-copy-to′ c = c .before .before .before .before .before .before
+
 split-ids-requires : tie.Need-split-ids-requires
 split-ids-requires c κs =
-    let a = c .before .before .before .before .before .before .before .args in
-    let p = c .before .before .before .before .before .before .before .pre in
+    let a = start c .args in
+    let p = start c .pre in
     let k = length-lentIds (p .0) (p .1) in
     let room = split-room (p .0) (p .1) in
     let work = split-work (p .0) (p .1) in
@@ -51,11 +68,11 @@ copy-to-requires c κs = search needs
 
 write-six-requires : tie.Need-write-six-requires
 write-six-requires c κs =
-    let a = c .before .before .before .before .before .before .before .before .before .before .before .before .before .before .before .before .before .before .before .args in
-    let p = c .before .before .before .before .before .before .before .before .before .before .before .before .before .before .before .before .before .before .before .pre in
-    let d = c .before .before .before .before .before .before .before .before .before .before .before .split-ids in
+    let a = start′ (after-split-ids (after-copy-to c)) .args in
+    let p = start′ (after-split-ids (after-copy-to c)) .pre in
+    let d = after-split-ids (after-copy-to c) .split-ids in
     let few = split-few (p .0) (p .1) (d .ensures) in
-    (omega (arith, p .1 .room, c .before .before .before .copy-to .kept .0), (few, (omega arith, omega arith)))
+    (omega (arith, p .1 .room, after-copy-to c .copy-to .kept .0), (few, (omega arith, omega arith)))
 
 same-length : tie.Need-same-length
 same-length c = search needs
@@ -68,10 +85,10 @@ same-length-3 c = search needs
 
 returns : tie.Need-returns
 returns c =
-    let a = c .before .before .before .before .before .before .before .before .before .before .before .before .before .before .before .before .before .before .before .before .before .before .args in
-    let p = c .before .before .before .before .before .before .before .before .before .before .before .before .before .before .before .before .before .before .before .before .before .before .pre in
-    let d = c .before .before .before .before .before .before .before .before .before .before .before .before .before .before .split-ids in
-    divided (p .0) (p .1) (d .ensures) (c .before .before .before .before .before .before .copy-to .ensures) (c .before .before .write-six .ensures)
+    let a = start′ (after-split-ids (after-copy-to′ c)) .args in
+    let p = start′ (after-split-ids (after-copy-to′ c)) .pre in
+    let d = after-split-ids (after-copy-to′ c) .split-ids in
+    divided (p .0) (p .1) (d .ensures) (after-copy-to′ c .copy-to .ensures) (c .before .before .write-six .ensures)
 
 pub split-node-spec : {M : Type 1} → statement M
 split-node-spec =

@@ -40,17 +40,34 @@ enum-known-check c = search needs
 enum-told : tie.Need-enum-told
 enum-told c = search needs
 
+-- ---- the places, each with the way back to the one before
+
+abbrev after-add-check : tie.After-known-told → tie.After-add-check
+after-add-check c = c .before .before .before
+
+abbrev after-enum-told : tie.After-write-add-arg3 → tie.After-enum-told
+after-enum-told c = c .before .before .before
+
+abbrev after-enum-told′ : tie.After-write-add → tie.After-enum-told
+after-enum-told′ c = c .before .before .before .before
+
+abbrev after-write-add : tie.After-slice-known6 → tie.After-write-add
+after-write-add c = c .before .before .before .before .before .before
+
+abbrev after-write-add′ : tie.After-grown → tie.After-write-add
+after-write-add′ c = c .before .before .before .before .before .before .before
+
 write-add-requires : tie.Need-write-add-requires
-write-add-requires c κs = facts (c .before .before .before) .room
+write-add-requires c κs = facts (after-enum-told c) .room
 
 grown-requires : tie.Need-grown-requires
 grown-requires c κs =
-    let r = facts (c .before .before .before .before .before .before .before .before .before .before) .room in
+    let r = facts (after-enum-told′ (after-write-add c)) .room in
     (omega arith, omega arith)
 
 returns : tie.Need-returns
 unfolding AddsBy addCheck
-returns c = adds-by _ _ _ _ _ _ (sym (c .before .before .before .add-check .ensures) ∙ c .before .check .given .1) (is-refused _ _ refl, refl)
+returns c = adds-by _ _ _ _ _ _ (sym (after-add-check c .add-check .ensures) ∙ c .before .check .given .1) (is-refused _ _ refl, refl)
 
 same-length : tie.Need-same-length
 same-length c = search needs
@@ -64,8 +81,8 @@ same-length-3 c = search needs
 returns-2 : tie.Need-returns-2
 unfolding AddsBy
 returns-2 c =
-    let wrote = c .before .before .before .before .before .before .before in
-    adds-by _ _ _ _ _ _ (fine (wrote .before .before .before .before)) (is-carried _ _ (ap Index (c .grown .ensures)), wrote .write-add .ensures)
+    let wrote = after-write-add′ c in
+    adds-by _ _ _ _ _ _ (fine (after-enum-told′ wrote)) (is-carried _ _ (ap Index (c .grown .ensures)), wrote .write-add .ensures)
 
 pub add-spec : {M : Type 1} → statement M
 add-spec =

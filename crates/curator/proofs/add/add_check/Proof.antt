@@ -65,9 +65,26 @@ after-1 : (c : tie.Else1) → firstOf (rows (start-1 c)) ≡ firstOf (drop 1 (ro
 unfolding addRows
 after-1 c = row-passes _ _ (ap not (sym (c .before .state-sound .ensures)) ∙ c .if1 .left)
 
+-- ---- the places, each with the way back to the one before
+
+abbrev else1 : tie.Else2 → tie.Else1
+else1 c = c .before .before .before
+
+abbrev else1′ : tie.Then2 → tie.Else1
+else1′ c = c .before .before .before
+
+abbrev else1′′ : tie.Else7 → tie.Else1
+else1′′ c = c .before .before .before .before .before .before .before .before .before .before .before .before
+
+abbrev else7 : tie.Else8 → tie.Else7
+else7 c = c .before .before .before
+
+abbrev else7′ : tie.Then8 → tie.Else7
+else7′ c = c .before .before .before
+
 after-2 : (c : tie.Else2) → firstOf (rows (start-2 c)) ≡ firstOf (drop 2 (rows (start-2 c)))
 unfolding addRows
-after-2 c = after-1 (c .before .before .before) ∙ row-passes _ _ (sym (short (c .before)) ∙ c .if2 .left)
+after-2 c = after-1 (else1 c) ∙ row-passes _ _ (sym (short (c .before)) ∙ c .if2 .left)
 
 after-3 : (c : tie.Else3) → firstOf (rows (start-3 c)) ≡ firstOf (drop 3 (rows (start-3 c)))
 unfolding addRows
@@ -91,7 +108,7 @@ after-7 c = after-6 (c .before .before) ∙ row-passes _ _ (ne-eqb _ _ (c .if7 .
 
 after-8 : (c : tie.Else8) → firstOf (rows (start-8 c)) ≡ firstOf (drop 8 (rows (start-8 c)))
 unfolding addRows
-after-8 c = after-7 (c .before .before .before) ∙ row-passes _ _ (le-ltb _ _ (c .if8 .left))
+after-8 c = after-7 (else7 c) ∙ row-passes _ _ (le-ltb _ _ (c .if8 .left))
 
 state-sound-requires : tie.Need-state-sound-requires
 state-sound-requires c κs = search needs
@@ -108,7 +125,7 @@ store-short-requires c κs = subst (λ (s : Shape). Limits s) (sym (c .shape-of 
 
 returns-2 : tie.Need-returns-2
 unfolding addRows
-returns-2 c = sym (after-1 (c .before .before .before) ∙ row-stops _ _ (sym (short (c .before)) ∙ c .if2 .taken))
+returns-2 c = sym (after-1 (else1′ c) ∙ row-stops _ _ (sym (short (c .before)) ∙ c .if2 .taken))
 
 returns-3 : tie.Need-returns-3
 unfolding addRows
@@ -138,13 +155,13 @@ returns-7 c = sym (after-6 (c .before .before) ∙ row-stops _ _ (eq-eqb _ _ (c 
 
 add-if8 : tie.Need-add-if8
 add-if8 c =
-    let first = c .before .before .before .before .before .before .before .before .before .before .before .before .before in
+    let first = else1′′ (c .before) in
     let s = sound first in
     omega (arith, start-1 first .good)
 
 returns-8 : tie.Need-returns-8
 unfolding addRows
-returns-8 c = sym (after-7 (c .before .before .before) ∙ row-stops _ _ (lt-ltb _ _ (c .if8 .taken)))
+returns-8 c = sym (after-7 (else7′ c) ∙ row-stops _ _ (lt-ltb _ _ (c .if8 .taken)))
 
 returns-9 : tie.Need-returns-9
 unfolding addRows

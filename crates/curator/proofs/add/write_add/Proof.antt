@@ -28,9 +28,32 @@ started numbers vector document held count h e = h ∙ ap (λ (o : ℕ). sets (s
 shape-of-requires : tie.Need-shape-of-requires
 shape-of-requires c κs = search needs
 
+-- ---- the places, each with the way back to the one before
+
+abbrev at-start : tie.After-shape-of → tie.Start
+at-start c = c .before .before .before .before .before .before .before .before
+
+abbrev after-owners-at : tie.After-struct-known3 → tie.After-owners-at
+after-owners-at c = c .before .before .before .before
+
+abbrev after-owners-at′ : tie.After-write-vector → tie.After-owners-at
+after-owners-at′ c = c .before .before .before .before .before
+
+abbrev after-write-vector : tie.After-write-numbers-arg → tie.After-write-vector
+after-write-vector c = c .before .before .before
+
+abbrev after-write-vector′ : tie.After-write-numbers → tie.After-write-vector
+after-write-vector′ c = c .before .before .before .before
+
+abbrev after-write-numbers : tie.After-write-hashes-arg → tie.After-write-numbers
+after-write-numbers c = c .before .before .before
+
+abbrev after-write-numbers′ : tie.After-slice-known6 → tie.After-write-numbers
+after-write-numbers′ c = c .before .before .before .before .before .before
+
 owners-at-requires : tie.Need-owners-at-requires
 owners-at-requires c κs =
-    let start = c .before .before .before .before .before .before .before .before in
+    let start = at-start c in
     subst (λ (s : Shape). Limits s) (sym (c .shape-of .ensures)) (start .pre .limits)
 
 add-owners : tie.Need-add-owners
@@ -41,7 +64,7 @@ mul-write-vector c = place-fits _ _ (omega arith) (omega arith)
 
 write-vector-requires : tie.Need-write-vector-requires
 write-vector-requires c κs =
-    let start = entry (c .before .before .before .before) in
+    let start = entry (after-owners-at c) in
     let index = start .args .index in
     let fits =
     place-room (index .counts .vectors) (index .dimension) (index .capacities .vectors) (index .capacities .nodes)
@@ -51,13 +74,13 @@ write-vector-requires c κs =
 
 write-numbers-requires : tie.Need-write-numbers-requires
 write-numbers-requires c κs =
-    let known = c .before .before .before .before .before .before .before .before in
+    let known = after-owners-at′ (after-write-vector c) in
     let start = owners known in
     (omega (arith, entry known .pre), omega (arith, entry known .pre), omega (arith, entry known .pre))
 
 write-hashes-requires : tie.Need-write-hashes-requires
 write-hashes-requires c κs =
-    let known = c .before .before .before .before .before .before .before .before .before .before .before .before in
+    let known = after-owners-at′ (after-write-vector′ (after-write-numbers c)) in
     (omega (arith, entry known .pre), entry known .pre .labels)
 
 same-length : tie.Need-same-length
@@ -71,9 +94,9 @@ same-length-3 c = search needs
 
 returns : tie.Need-returns
 returns c =
-    let numbered = c .before .before .before .before .before .before in
-    let stored = numbered .before .before .before .before in
-    let known = stored .before .before .before .before .before in
+    let numbered = after-write-numbers′ c in
+    let stored = after-write-vector′ numbered in
+    let known = after-owners-at′ stored in
     let args = entry known .args in
     record {
       stored = stored .write-vector .ensures .stored;

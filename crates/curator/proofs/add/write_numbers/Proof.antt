@@ -17,9 +17,14 @@ slice-write-numbers c = search needs
 write-all-requires : tie.Need-write-all-requires
 write-all-requires c κs = search needs
 
+-- ---- the places, each with the way back to the one before
+
+abbrev start : tie.After-slice-known2 → tie.Start
+start c = c .before .before .before .before .before
+
 same-length : tie.Need-same-length
 same-length c =
-    let args = c .before .before .before .before .before .args in
+    let args = start c .args in
     c .before .before .write-all .kept .0 ∙ length-set (args .numbers .now) (args .vector) (args .doc-id)
 
 returns : tie.Need-returns

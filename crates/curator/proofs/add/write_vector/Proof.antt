@@ -35,11 +35,19 @@ normalize-requires c κs = search needs
 same-length : tie.Need-same-length
 same-length c = search needs
 
+-- ---- the places, each with the way back to the one before
+
+abbrev start : tie.After-dot → tie.Start
+start c = c .before .before .before
+
+abbrev after-dot : tie.After-slice-known2 → tie.After-dot
+after-dot c = c .before .before .before .before
+
 returns : tie.Need-returns
 returns c =
-    let args = c .before .before .before .before .before .before .before .args in
+    let args = start (after-dot c) .args in
     let stored = c .before .before .normalize .last .1 .1 .0 in
-    let squares = c .before .before .before .before .dot .ensures in
+    let squares = after-dot c .dot .ensures in
     let h = subst (λ (s : Float). Normalized s (args .vector .now) stored) squares (c .before .before .normalize .ensures) in
     let n = length-stored h in
     let end = args .place + length (args .vector .now) in

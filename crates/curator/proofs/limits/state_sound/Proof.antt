@@ -29,16 +29,27 @@ counts-allowed-requires c κs = search needs
 built-allowed-requires : tie.Need-built-allowed-requires
 built-allowed-requires c κs = search needs
 
+-- ---- the places, each with the way back to the one before
+
+abbrev start : tie.After-dimension-allowed → tie.Start
+start c = c .before .before .before .before
+
+abbrev after-dimension-allowed : tie.After-params-allowed → tie.After-dimension-allowed
+after-dimension-allowed c = c .before
+
+abbrev after-params-allowed : tie.After-built-allowed → tie.After-params-allowed
+after-params-allowed c = c .before .before .before
+
 returns : tie.Need-returns
 returns c = joined
-    (c .before .before .before .before .before .before .before .before .args .index)
+    (start (after-dimension-allowed (after-params-allowed c)) .args .index)
     _
     _
     _
     _
     _
-    (c .before .before .before .before .dimension-allowed .ensures)
-    (c .before .before .before .params-allowed .ensures)
+    (after-dimension-allowed (after-params-allowed c) .dimension-allowed .ensures)
+    (after-params-allowed c .params-allowed .ensures)
     (c .before .before .capacities-allowed .ensures)
     (c .before .counts-allowed .ensures)
     (c .built-allowed .ensures)

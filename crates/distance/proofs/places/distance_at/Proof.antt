@@ -24,9 +24,14 @@ part-cosine-distance-normalized-end c = search needs
 cosine-distance-normalized-requires : tie.Need-cosine-distance-normalized-requires
 cosine-distance-normalized-requires c κs = search needs
 
+-- ---- the places, each with the way back to the one before
+
+abbrev start : tie.After-cosine-distance-normalized → tie.Start
+start c = c .before .before .before .before
+
 returns : tie.Need-returns
 returns c =
-    let p = c .before .before .before .before .args in
+    let p = start c .args in
     c .cosine-distance-normalized .ensures ∙ ap (distance (p .query .now)) (lent-run (p .at) (p .dimension) (p .floats .now))
 
 pub distance-at-spec : {M : Type 1} → statement M

@@ -69,9 +69,14 @@ part-cosine-distance-four-end-4 c = search needs
 cosine-distance-four-requires : tie.Need-cosine-distance-four-requires
 cosine-distance-four-requires c κs = search needs
 
+-- ---- the places, each with the way back to the one before
+
+abbrev start : tie.After-cosine-distance-four → tie.Start
+start c = c .before .before .before .before .before .before .before
+
 returns : tie.Need-returns
 returns c =
-    let p = c .before .before .before .before .before .before .before .args in
+    let p = start c .args in
     let far = distance (p .query .now) in
     let l = p .floats .now in
     let n = p .dimension in

@@ -22,8 +22,28 @@ file c = start c .args .file .now
 abbrev length-at : tie.After-known-told → ℕ
 length-at c = c .before .length-at .given .0 .0
 
+-- ---- the places, each with the way back to the one before
+
+abbrev at-start : tie.After-skip → tie.Start
+at-start c = c .before .before
+
+abbrev after-skip : tie.After-known-told → tie.After-skip
+after-skip c = c .before .before .before
+
+abbrev after-known-told : tie.After-read-counted → tie.After-known-told
+after-known-told c = c .before
+
+abbrev after-read-counted : tie.After-known-told2 → tie.After-read-counted
+after-read-counted c = c .before .before .before
+
+abbrev after-known-told2 : tie.After-skip-floats → tie.After-known-told2
+after-known-told2 c = c .before
+
+abbrev after-skip-floats : tie.After-known-told3 → tie.After-skip-floats
+after-skip-floats c = c .before .before .before
+
 k-part : (c : tie.After-known-told) → Skip (file c) (start c .args .at) 2 (length-at c)
-k-part c = went (file c) (start c .args .at) 2 (length-at c) (c .before .before .before .skip .ensures) (c .before .length-at .given .1)
+k-part c = went (file c) (start c .args .at) 2 (length-at c) (after-skip c .skip .ensures) (c .before .length-at .given .1)
 
 -- ---- the label
 
@@ -37,7 +57,7 @@ abbrev floats-at : tie.After-known-told2 → ℕ
 floats-at c = c .before .label-at .given .0 .1 .0
 
 label : (c : tie.After-known-told2) → CountedAt (file (told1 c)) (length-at (told1 c)) (Part (label-at c) (floats-at c))
-label c = subst (CountedAt (file (told1 c)) (length-at (told1 c))) (c .before .label-at .given .1) (c .before .before .before .read-counted .ensures)
+label c = subst (CountedAt (file (told1 c)) (length-at (told1 c))) (c .before .label-at .given .1) (after-read-counted c .read-counted .ensures)
 
 -- ---- the floats
 
@@ -51,7 +71,7 @@ floats : (c : tie.After-known-told3)
     → Skip (entry c .args .file .now) (floats-at (told2 c)) (4 * entry c .args .known .dimension) (c .before .next .given .0 .0)
 floats c =
     went (entry c .args .file .now) (floats-at (told2 c)) (4 * entry c .args .known .dimension) (c .before .next .given .0 .0)
-    (c .before .before .before .skip-floats .ensures) (c .before .next .given .1)
+    (after-skip-floats c .skip-floats .ensures) (c .before .next .given .1)
 
 -- ---- the needs
 
@@ -66,7 +86,7 @@ enum-told c = search needs
 
 returns : tie.Need-returns
 returns c =
-    let s = c .before .before .before .before in
+    let s = at-start (c .before .before) in
     let a = s .args in
     bad (a .known) (a .file .now) (a .at)
     (filtered-cut (a .known) (a .file .now) (a .at)
@@ -83,7 +103,7 @@ enum-told-2 c = search needs
 
 returns-2 : tie.Need-returns-2
 returns-2 c =
-    let t = c .before .before .before in
+    let t = after-known-told (c .before .before) in
     let a = start t .args in
     bad (a .known) (a .file .now) (a .at)
     (filtered-cut-label (a .known) (a .file .now) (a .at) (k-part t)
@@ -100,7 +120,7 @@ enum-told-3 c = search needs
 
 returns-3 : tie.Need-returns-3
 returns-3 c =
-    let t = c .before .before .before in
+    let t = after-known-told2 (c .before .before) in
     let a = start (told1 t) .args in
     bad (a .known) (a .file .now) (a .at)
     (filtered-cut-floats (a .known) (a .file .now) (a .at) (k-part (told1 t)) (label t)

@@ -14,8 +14,22 @@ start c = c .before .before .before .before .before
 abbrev floats-at : tie.After-known-told → ℕ
 floats-at c = c .before .floats-at .given .0 .0
 
+-- ---- the places, each with the way back to the one before
+
+abbrev entry : tie.After-skip → tie.Start
+entry c = c .before .before
+
+abbrev after-skip : tie.After-known-told → tie.After-skip
+after-skip c = c .before .before .before
+
+abbrev after-known-told : tie.After-skip-floats → tie.After-known-told
+after-known-told c = c .before
+
+abbrev after-skip-floats : tie.After-known-told2 → tie.After-skip-floats
+after-skip-floats c = c .before .before .before
+
 k-part : (c : tie.After-known-told) → Skip (start c .args .file .now) (start c .args .at) 2 (floats-at c)
-k-part c = went (start c .args .file .now) (start c .args .at) 2 (floats-at c) (c .before .before .before .skip .ensures) (c .before .floats-at .given .1)
+k-part c = went (start c .args .file .now) (start c .args .at) 2 (floats-at c) (after-skip c .skip .ensures) (c .before .floats-at .given .1)
 
 -- the floats were skipped
 abbrev before : tie.After-known-told2 → tie.After-known-told
@@ -25,7 +39,7 @@ floats : (c : tie.After-known-told2)
     → Skip (start (before c) .args .file .now) (floats-at (before c)) (4 * start (before c) .args .known .dimension) (c .before .next .given .0 .0)
 floats c =
     let s = start (before c) .args in
-    went (s .file .now) (floats-at (before c)) (4 * s .known .dimension) _ (c .before .before .before .skip-floats .ensures) (c .before .next .given .1)
+    went (s .file .now) (floats-at (before c)) (4 * s .known .dimension) _ (after-skip-floats c .skip-floats .ensures) (c .before .next .given .1)
 
 skip-requires : tie.Need-skip-requires
 skip-requires c κs = search needs
@@ -38,7 +52,7 @@ enum-told c = search needs
 
 returns : tie.Need-returns
 returns c =
-    let s = c .before .before .before .before in
+    let s = entry (c .before .before) in
     let file = s .args .file .now in
     bad (s .args .known) file (s .args .at)
     (search-cut (s .args .known) file (s .args .at) (stopped file (s .args .at) 2 (s .pre) (c .before .before .skip .ensures) (c .enum-told .given .1)))
@@ -54,7 +68,7 @@ enum-told-2 c = search needs
 
 returns-2 : tie.Need-returns-2
 returns-2 c =
-    let after = c .before .before .before in
+    let after = after-known-told (c .before .before) in
     let args = start after .args in
     let file = args .file .now in
     let k = k-part after in

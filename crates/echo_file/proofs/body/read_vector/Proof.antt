@@ -23,8 +23,34 @@ file c = start c .args .file .now
 abbrev count-at : tie.After-known-told → ℕ
 count-at c = c .before .count-at .given .0 .0
 
+-- ---- the places, each with the way back to the one before
+
+abbrev at-start : tie.After-skip → tie.Start
+at-start c = c .before .before
+
+abbrev after-skip : tie.After-known-told → tie.After-skip
+after-skip c = c .before .before .before
+
+abbrev after-known-told : tie.After-read-counted → tie.After-known-told
+after-known-told c = c .before
+
+abbrev after-read-counted : tie.After-known-told2 → tie.After-read-counted
+after-read-counted c = c .before .before .before
+
+abbrev after-total : tie.After-skip2 → tie.After-total
+after-total c = c .before
+
+abbrev after-skip2 : tie.After-known-told3 → tie.After-skip2
+after-skip2 c = c .before .before .before
+
+abbrev after-known-told3 : tie.After-skip-floats → tie.After-known-told3
+after-known-told3 c = c .before
+
+abbrev after-skip-floats : tie.After-known-told4 → tie.After-skip-floats
+after-skip-floats c = c .before .before .before
+
 id : (c : tie.After-known-told) → Skip (file c) (start c .args .at) 4 (count-at c)
-id c = went (file c) (start c .args .at) 4 (count-at c) (c .before .before .before .skip .ensures) (c .before .count-at .given .1)
+id c = went (file c) (start c .args .at) 4 (count-at c) (after-skip c .skip .ensures) (c .before .count-at .given .1)
 
 -- ---- the length bytes
 
@@ -38,7 +64,7 @@ abbrev labels-at : tie.After-known-told2 → ℕ
 labels-at c = c .before .lengths-at .given .0 .1 .0
 
 lengths : (c : tie.After-known-told2) → CountedAt (file (told1 c)) (count-at (told1 c)) (Part (lengths-at c) (labels-at c))
-lengths c = subst (CountedAt (file (told1 c)) (count-at (told1 c))) (c .before .lengths-at .given .1) (c .before .before .before .read-counted .ensures)
+lengths c = subst (CountedAt (file (told1 c)) (count-at (told1 c))) (c .before .lengths-at .given .1) (after-read-counted c .read-counted .ensures)
 
 -- ---- the label bytes
 
@@ -53,7 +79,7 @@ floats-at c = c .before .floats-at .given .0 .0
 
 labels : (c : tie.After-known-told3) → Skip (file (told1 (told2 c))) (labels-at (told2 c)) (summed c .total .result) (floats-at c)
 labels c =
-    went (file (told1 (told2 c))) (labels-at (told2 c)) (summed c .total .result) (floats-at c) (c .before .before .before .skip2 .ensures)
+    went (file (told1 (told2 c))) (labels-at (told2 c)) (summed c .total .result) (floats-at c) (after-skip2 c .skip2 .ensures)
     (c .before .floats-at .given .1)
 
 -- ---- the floats
@@ -68,7 +94,7 @@ floats : (c : tie.After-known-told4)
     → Skip (entry c .args .file .now) (floats-at (told3 c)) (4 * entry c .args .known .dimension) (c .before .next .given .0 .0)
 floats c =
     went (entry c .args .file .now) (floats-at (told3 c)) (4 * entry c .args .known .dimension) (c .before .next .given .0 .0)
-    (c .before .before .before .skip-floats .ensures) (c .before .next .given .1)
+    (after-skip-floats c .skip-floats .ensures) (c .before .next .given .1)
 
 -- ---- the needs
 
@@ -83,7 +109,7 @@ enum-told c = search needs
 
 returns : tie.Need-returns
 returns c =
-    let s = c .before .before .before .before in
+    let s = at-start (c .before .before) in
     let a = s .args in
     bad (a .known) (a .file .now) (a .at)
     (vector-cut (a .known) (a .file .now) (a .at)
@@ -100,7 +126,7 @@ enum-told-2 c = search needs
 
 returns-2 : tie.Need-returns-2
 returns-2 c =
-    let t = c .before .before .before in
+    let t = after-known-told (c .before .before) in
     let a = start t .args in
     bad (a .known) (a .file .now) (a .at)
     (vector-cut-lengths (a .known) (a .file .now) (a .at) (id t)
@@ -129,7 +155,7 @@ enum-told-3 c = search needs
 
 returns-3 : tie.Need-returns-3
 returns-3 c =
-    let sum = c .before .before .before in
+    let sum = after-total (c .before .before) in
     let t = sum .before .before in
     let a = start (told1 t) .args in
     bad (a .known) (a .file .now) (a .at)
@@ -147,7 +173,7 @@ enum-told-4 c = search needs
 
 returns-4 : tie.Need-returns-4
 returns-4 c =
-    let t = c .before .before .before in
+    let t = after-known-told3 (c .before .before) in
     let u = told2 t in
     let a = start (told1 u) .args in
     bad (a .known) (a .file .now) (a .at)

@@ -17,8 +17,22 @@ file c = start c .args .file .now
 abbrev from : tie.After-known-told → ℕ
 from c = c .before .from .given .0 .0
 
+-- ---- the places, each with the way back to the one before
+
+abbrev entry : tie.After-skip → tie.Start
+entry c = c .before .before
+
+abbrev after-skip : tie.After-known-told → tie.After-skip
+after-skip c = c .before .before .before
+
+abbrev after-u8-at : tie.After-skip2 → tie.After-u8-at
+after-u8-at c = c .before
+
+abbrev after-skip2 : tie.After-known-told2 → tie.After-skip2
+after-skip2 c = c .before .before .before
+
 one : (c : tie.After-known-told) → Skip (file c) (start c .args .at) 1 (from c)
-one c = went (file c) (start c .args .at) 1 (from c) (c .before .before .before .skip .ensures) (c .before .from .given .1)
+one c = went (file c) (start c .args .at) 1 (from c) (after-skip c .skip .ensures) (c .before .from .given .1)
 
 skip-requires : tie.Need-skip-requires
 skip-requires c κs = search needs
@@ -31,7 +45,7 @@ enum-told c = search needs
 
 returns : tie.Need-returns
 returns c =
-    let s = c .before .before .before .before in
+    let s = entry (c .before .before) in
     counted-cut-count (stopped (s .args .file .now) (s .args .at) 1 (s .pre) (c .before .before .skip .ensures) (c .enum-told .given .1))
 
 u8-at-requires : tie.Need-u8-at-requires
@@ -48,17 +62,17 @@ enum-told-2 c = search needs
 
 returns-2 : tie.Need-returns-2
 returns-2 c =
-    let read = c .before .before .before in
+    let read = after-u8-at (c .before .before) in
     let t = read .before in
     counted-cut (one t) (read .u8-at .ensures)
     (stopped (file t) (from t) (read .u8-at .result) (skip-end (one t)) (c .before .before .skip2 .ensures) (c .enum-told2 .given .1))
 
 returns-3 : tie.Need-returns-3
 returns-3 c =
-    let read = c .before .before .before .before in
+    let read = after-u8-at (after-skip2 c) in
     let t = read .before in
     counted-bytes (one t) (read .u8-at .ensures)
-    (went (file t) (from t) (read .u8-at .result) _ (c .before .before .before .skip2 .ensures) (c .before .to .given .1))
+    (went (file t) (from t) (read .u8-at .result) _ (after-skip2 c .skip2 .ensures) (c .before .to .given .1))
 
 pub read-counted-spec : {M : Type 1} → statement M
 read-counted-spec =

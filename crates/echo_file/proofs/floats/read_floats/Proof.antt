@@ -40,10 +40,18 @@ add-i c = omega arith
 loop-less : tie.Need-loop-less Inv-loop μ-loop
 loop-less c = omega arith
 
+-- ---- the places, each with the way back to the one before
+
+abbrev start′ : tie.After-loop Inv-loop μ-loop → tie.Start Inv-loop μ-loop
+start′ c = c .before .before .before .before
+
+abbrev start : tie.After-float-at Inv-loop μ-loop → tie.Start Inv-loop μ-loop
+start c = c .before .before .before .before .before
+
 loop-again : tie.Need-loop-again Inv-loop μ-loop
 loop-again c =
     let loop = c .before .before .loop in
-    let a = c .before .before .before .before .before .args in (
+    let a = start c .args in (
       omega arith,
       simp length-set (loop .inv .1),
       float-turn (a .file .now) (a .at) (a .out .now) (loop .out) (loop .i) _ (loop .inv .2) (omega (arith, c .before .loop-test .taken, loop .inv .1)) (c .float-at .ensures),
@@ -54,7 +62,7 @@ same-length c = c .before .loop .inv .1
 
 returns : tie.Need-returns Inv-loop μ-loop
 returns c =
-    let a = c .before .before .before .before .args in
+    let a = start′ c .args in
     let loop = c .before .loop in
     float-end (a .file .now) (a .at) (a .out .now) (loop .out) (loop .i) (loop .inv .2) (omega (arith, c .loop-test .left, loop .inv .1))
 

@@ -27,10 +27,18 @@ shared-slice-read-wide c = search needs
 wide-requires : tie.Need-wide-requires Inv-loop μ-loop
 wide-requires c κs = search needs
 
+-- ---- the places, each with the way back to the one before
+
+abbrev start : tie.At-loop Inv-loop μ-loop → tie.Start Inv-loop μ-loop
+start c = c .before .before
+
+abbrev at-loop : tie.After-wide Inv-loop μ-loop → tie.At-loop Inv-loop μ-loop
+at-loop c = c .before .before .before
+
 -- a length is a byte
 byte : (c : tie.After-wide Inv-loop μ-loop)
     → (c .wide .result ≡ getD (c .before .before .before .before .before .args .lengths .now) (c .before .before .before .loop .i) 0) × (c .wide .result < 256)
-byte c = let known = c .before .shared-slice-known2 .given (c .before .before .before .loop .i) in let e = c .wide .ensures in (e, omega arith)
+byte c = let known = c .before .shared-slice-known2 .given (at-loop c .loop .i) in let e = c .wide .ensures in (e, omega arith)
 
 add-sum : tie.Need-add-sum Inv-loop μ-loop
 add-sum c = omega (arith, byte c)
@@ -44,13 +52,13 @@ loop-less c = omega arith
 loop-again : tie.Need-loop-again Inv-loop μ-loop
 loop-again c =
     let b = byte c in
-    let left = total-drop (c .before .before .before .before .before .args .lengths .now) (c .before .before .before .loop .i) (c .before .before .loop-test .taken) in
+    let left = total-drop (start (at-loop c) .args .lengths .now) (at-loop c .loop .i) (c .before .before .loop-test .taken) in
     (omega arith, rw add-one (omega arith), omega arith)
 
 returns : tie.Need-returns Inv-loop μ-loop
 unfolding total sumOf
 returns c =
-    let none = ap total (drop-of-length-le (c .before .before .before .args .lengths .now) (c .loop-test .left)) in
+    let none = ap total (drop-of-length-le (start (c .before) .args .lengths .now) (c .loop-test .left)) in
     omega arith
 
 pub total-spec : {M : Type 1} → statement M

@@ -48,9 +48,20 @@ pop-requires c κs =
 sub-left : tie.Need-sub-left Inv-loop μ-loop
 sub-left c = search needs
 
+-- ---- the places, each with the way back to the one before
+
+abbrev start : tie.After-loop Inv-loop μ-loop → tie.Start Inv-loop μ-loop
+start c = c .before .before .before
+
+abbrev after-pop : tie.Then1 Inv-loop μ-loop → tie.After-pop Inv-loop μ-loop
+after-pop c = c .before .before .before .before
+
+abbrev after-pop′ : tie.Else1 Inv-loop μ-loop → tie.After-pop Inv-loop μ-loop
+after-pop′ c = c .before .before .before .before
+
 add-total : tie.Need-add-total Inv-loop μ-loop
 add-total c =
-    let p = c .before .before .before .before in
+    let p = after-pop c in
     omega (arith, turn p .loop .inv .few, p .before .before .loop-test .taken, entry (turn p) .fits .count)
 
 loop-less : tie.Need-loop-less Inv-loop μ-loop
@@ -58,7 +69,7 @@ loop-less c = search needs
 
 loop-again : tie.Need-loop-again Inv-loop μ-loop
 loop-again c =
-    let p = c .before .before .before .before in
+    let p = after-pop c in
     let a = entry (turn p) .args in
     let loop = turn p .loop in
     counting-other (a .heap .now) (a .count) (a .after) (loop .heap) _ (loop .total) (loop .left) (loop .last) _ (loop .inv) (p .before .before .loop-test .taken) (p .pop .ensures) (omega arith) (c .if1 .taken)
@@ -68,7 +79,7 @@ loop-less-2 c = search needs
 
 loop-again-2 : tie.Need-loop-again-2 Inv-loop μ-loop
 loop-again-2 c =
-    let p = c .before .before .before .before in
+    let p = after-pop′ c in
     let a = entry (turn p) .args in
     let loop = turn p .loop in
     counting-same (a .heap .now) (a .count) (a .after) (loop .heap) _ (loop .total) (loop .left) (loop .last) _ (loop .inv) (p .pop .ensures) (omega arith) (c .if1 .left)
@@ -79,7 +90,7 @@ same-length c =
 
 returns : tie.Need-returns Inv-loop μ-loop
 returns c =
-    let a = c .before .before .before .args in
+    let a = start c .args in
     let loop = c .before .loop in
     counted (a .heap .now) (a .count) (a .after) (loop .heap) (loop .total) (loop .left) (loop .last) (c .loop-test .left) (loop .inv)
 

@@ -44,14 +44,34 @@ ids-length t = ap length (t .loop .inv .ids-are) ∙ length-sets (entry t .args 
 distances-length : (t : Turn) → length (t .loop .distances) ≡ length (entry t .args .distances .now)
 distances-length t = ap length (t .loop .inv .distances-are) ∙ length-sets (entry t .args .distances .now) 0 (map distanceOf (t .loop .inv .kept))
 
+-- ---- the places, each with the way back to the one before
+
+abbrev start : tie.After-slice-known3 Inv-loop μ-loop → tie.Start Inv-loop μ-loop
+start c = c .before .before .before
+
+abbrev at-loop : tie.Else1 Inv-loop μ-loop → tie.At-loop Inv-loop μ-loop
+at-loop c = c .before
+
+abbrev else1 : tie.After-pop Inv-loop μ-loop → tie.Else1 Inv-loop μ-loop
+else1 c = c .before .before .before
+
+abbrev after-pop : tie.Then3 Inv-loop μ-loop → tie.After-pop Inv-loop μ-loop
+after-pop c = c .before .before .before .before
+
+abbrev after-pop′′ : tie.Else3 Inv-loop μ-loop → tie.After-pop Inv-loop μ-loop
+after-pop′′ c = c .before .before .before .before
+
+abbrev after-pop′ : tie.After-from-key Inv-loop μ-loop → tie.After-pop Inv-loop μ-loop
+after-pop′ c = c .before .before .before .before .before
+
 loop-holds : tie.Need-loop-holds Inv-loop μ-loop
 loop-holds c =
-    let e = c .before .before .before in
+    let e = start c in
     taking-start (e .args .heap .now) (e .args .count) (e .args .k) (e .args .ids .now) (e .args .distances .now) (e .pre .queue)
 
 pop-requires : tie.Need-pop-requires Inv-loop μ-loop
 pop-requires c κs =
-    let t = c .before .before .before in
+    let t = at-loop (c .before .before) in
     record {
       narrow = omega arith;
       wide = omega arith;
@@ -71,9 +91,9 @@ mul-ids c = search needs
 
 slice-write-ids : tie.Need-slice-write-ids Inv-loop μ-loop
 slice-write-ids c =
-    let p = c .before .before .before .before in
+    let p = after-pop c in
     let t = turn p in
-    omega (arith, t .loop .inv .within, p .before .before .before .if1 .left, entry t .pre .ids-room, ids-length t)
+    omega (arith, t .loop .inv .within, else1 p .if1 .left, entry t .pre .ids-room, ids-length t)
 
 from-key-requires : tie.Need-from-key-requires Inv-loop μ-loop
 from-key-requires c κs = search needs
@@ -83,9 +103,9 @@ mul-distances c = search needs
 
 slice-write-distances : tie.Need-slice-write-distances Inv-loop μ-loop
 slice-write-distances c =
-    let p = c .before .before .before .before .before in
+    let p = after-pop′ c in
     let t = turn p in
-    omega (arith, t .loop .inv .within, p .before .before .before .if1 .left, entry t .pre .distances-room, distances-length t)
+    omega (arith, t .loop .inv .within, else1 p .if1 .left, entry t .pre .distances-room, distances-length t)
 
 add-hits : tie.Need-add-hits Inv-loop μ-loop
 add-hits c = search needs
@@ -95,18 +115,18 @@ loop-less c = search needs
 
 loop-again : tie.Need-loop-again Inv-loop μ-loop
 loop-again c =
-    let p = c .before .before .before .before .before in
+    let p = after-pop′ c in
     let loop = turn p .loop in
     let a = entry (turn p) .args in
     taking-other (a .heap .now) (a .count) (a .k) (a .ids .now) (a .distances .now) (loop .heap) _ (loop .ids) (loop .distances) (loop .hits) (loop .left) (loop .last) _ _
-    (loop .inv) (p .pop .ensures) (omega arith) (c .before .if3 .taken) (p .before .before .before .if1 .left) (c .from-key .ensures)
+    (loop .inv) (p .pop .ensures) (omega arith) (c .before .if3 .taken) (else1 p .if1 .left) (c .from-key .ensures)
 
 loop-less-2 : tie.Need-loop-less-2 Inv-loop μ-loop
 loop-less-2 c = search needs
 
 loop-again-2 : tie.Need-loop-again-2 Inv-loop μ-loop
 loop-again-2 c =
-    let p = c .before .before .before .before in
+    let p = after-pop′′ c in
     let loop = turn p .loop in
     let a = entry (turn p) .args in
     taking-same (a .heap .now) (a .count) (a .k) (a .ids .now) (a .distances .now) (loop .heap) _ (loop .ids) (loop .distances) (loop .hits) (loop .left) (loop .last) _

@@ -24,9 +24,14 @@ mul-t9 c = search needs
 add-t11 : tie.Need-add-t11
 add-t11 c = search needs
 
+-- ---- the places, each with the way back to the one before
+
+abbrev start : tie.After-key → tie.Start
+start c = c .before .before .before .before
+
 returns : tie.Need-returns
 returns c =
-    let a = c .before .before .before .before .args in
+    let a = start c .args in
     value-is _ ∙ ap₂ (λ key document. key * 2 ^ 64 + (document * 2 ^ 32 + a .vector)) (c .key .ensures) (c .before .wide .ensures .0)
 
 pub hit-spec : {M : Type 1} → statement M

@@ -57,9 +57,26 @@ grown t m total heap h d =
     let a = e .args in
     measured-next (a .counts) (hit e) (a .bound) 0 (t .loop .queued) total (a .from) (a .found) (t .loop .j) m (a .heap .now) (t .loop .heap) heap (e .pre .measure) h (t .loop .inv .1) d
 
+-- ---- the places, each with the way back to the one before
+
+abbrev start : tie.After-shared-slice-known3 Inv-loop μ-loop → tie.Start Inv-loop μ-loop
+start c = c .before .before .before .before
+
+abbrev at-loop : tie.In-loop Inv-loop μ-loop → tie.At-loop Inv-loop μ-loop
+at-loop c = c .before
+
+abbrev in-loop : tie.Then1 Inv-loop μ-loop → tie.In-loop Inv-loop μ-loop
+in-loop c = c .before
+
+abbrev in-loop′ : tie.After-slice-known3 Inv-loop μ-loop → tie.In-loop Inv-loop μ-loop
+in-loop′ c = c .before .before .before .before .before
+
+abbrev then1 : tie.After-slice-known2 Inv-loop μ-loop → tie.Then1 Inv-loop μ-loop
+then1 c = c .before .before .before .before
+
 loop-holds : tie.Need-loop-holds Inv-loop μ-loop
 loop-holds c =
-    let e = c .before .before .before .before in
+    let e = start c in
     let a = e .args in (
       omega arith,
       subst (λ (l : List ℕ). Measured (a .bound) (map (hit e) l) 0 (a .heap .now) 0 (a .heap .now)) (sym (part-zero (a .from) (a .heap .now)))
@@ -76,7 +93,7 @@ sub-if1 c = search needs
 
 measure-four-requires : tie.Need-measure-four-requires Inv-loop μ-loop
 measure-four-requires c κs =
-    let t = c .before .before .before in
+    let t = at-loop (in-loop (c .before)) in
     record { lent = entry t .pre .lent; measure = next t 4 (omega (arith, c .before .if1 .taken)) }
 
 add-j : tie.Need-add-j Inv-loop μ-loop
@@ -88,12 +105,12 @@ loop-less c = search needs
 loop-again : tie.Need-loop-again Inv-loop μ-loop
 loop-again c =
     let four = c .before .before .measure-four in
-    let more : c .before .before .before .before .before .before .loop .j + 4 ≤ entry (c .before .before .before .before .before .before) .args .found = omega (arith, c .before .before .before .before .if1 .taken) in
-    (more, grown (c .before .before .before .before .before .before) 4 (four .result) _ more (four .ensures))
+    let more : at-loop (in-loop (then1 c)) .loop .j + 4 ≤ entry (at-loop (in-loop (then1 c))) .args .found = omega (arith, then1 c .if1 .taken) in
+    (more, grown (at-loop (in-loop (then1 c))) 4 (four .result) _ more (four .ensures))
 
 measure-one-requires : tie.Need-measure-one-requires Inv-loop μ-loop
 measure-one-requires c κs =
-    let t = c .before .before .before in
+    let t = at-loop (c .before .before) in
     record { lent = entry t .pre .lent; measure = next t 1 (omega (arith, c .before .before .loop-test .taken)) }
 
 add-j-2 : tie.Need-add-j-2 Inv-loop μ-loop
@@ -105,9 +122,9 @@ loop-less-2 c = search needs
 loop-again-2 : tie.Need-loop-again-2 Inv-loop μ-loop
 loop-again-2 c =
     let one = c .before .before .measure-one in
-    let more : c .before .before .before .before .before .before .loop .j + 1 ≤ entry (c .before .before .before .before .before .before) .args .found =
-    omega (arith, c .before .before .before .before .before .loop-test .taken) in
-    (more, grown (c .before .before .before .before .before .before) 1 (one .result) _ more (one .ensures))
+    let more : at-loop (in-loop′ c) .loop .j + 1 ≤ entry (at-loop (in-loop′ c)) .args .found =
+    omega (arith, in-loop′ c .loop-test .taken) in
+    (more, grown (at-loop (in-loop′ c)) 1 (one .result) _ more (one .ensures))
 
 same-length : tie.Need-same-length Inv-loop μ-loop
 same-length c = c .before .loop .inv .1 .size

@@ -38,13 +38,33 @@ held w i v low is =
     let a = entry w .args in
     number-held (a .counts) (a .heap .now) (a .count) (a .at) 4 (entry w .pre .measure) i (a .at + i) v low refl is
 
+-- ---- the places, each with the way back to the one before
+
+abbrev after-wide : tie.After-wide2 → tie.After-wide
+after-wide c = c .before .before
+
+abbrev after-wide2 : tie.After-wide4 → tie.After-wide2
+after-wide2 c = c .before .before .before .before
+
+abbrev after-wide4 : tie.After-hit2 → tie.After-wide4
+after-wide4 c = c .before .before .before
+
+abbrev after-wide4′ : tie.After-hit3 → tie.After-wide4
+after-wide4′ c = c .before .before .before .before
+
+abbrev after-wide4′′ : tie.After-hit4 → tie.After-wide4
+after-wide4′′ c = c .before .before .before .before .before
+
+abbrev after-hit4 : tie.After-slice-known6 → tie.After-hit4
+after-hit4 c = c .before .before .before .before
+
 held-first : (w : Numbers) → first w < entry w .args .counts .vectors
 held-first w =
     let a = entry w .args in
-    number-held (a .counts) (a .heap .now) (a .count) (a .at) 4 (entry w .pre .measure) 0 (a .at) (first w) (omega arith) (omega arith) (w .before .before .before .before .before .before .wide .ensures .0)
+    number-held (a .counts) (a .heap .now) (a .count) (a .at) 4 (entry w .pre .measure) 0 (a .at) (first w) (omega arith) (omega arith) (after-wide (after-wide2 w) .wide .ensures .0)
 
 held-second : (w : Numbers) → second w < entry w .args .counts .vectors
-held-second w = held w 1 (second w) (omega arith) (w .before .before .before .before .wide2 .ensures .0)
+held-second w = held w 1 (second w) (omega arith) (after-wide2 w .wide2 .ensures .0)
 
 held-third : (w : Numbers) → third w < entry w .args .counts .vectors
 held-third w = held w 2 (third w) (omega arith) (w .before .before .wide3 .ensures .0)
@@ -130,14 +150,14 @@ hit-requires-2 : tie.Need-hit-requires-2
 hit-requires-2 c κs = let w = c .before .before in listed w (second w) (held-second w)
 
 hit-requires-3 : tie.Need-hit-requires-3
-hit-requires-3 c κs = let w = c .before .before .before in listed w (third w) (held-third w)
+hit-requires-3 c κs = let w = after-wide4 c in listed w (third w) (held-third w)
 
 hit-requires-4 : tie.Need-hit-requires-4
-hit-requires-4 c κs = let w = c .before .before .before .before in listed w (fourth w) (held-fourth w)
+hit-requires-4 c κs = let w = after-wide4′ c in listed w (fourth w) (held-fourth w)
 
 push-four-requires : tie.Need-push-four-requires
 push-four-requires c κs =
-    let pre = entry (c .before .before .before .before .before .before) .pre .measure in
+    let pre = entry (after-wide4′′ (c .before)) .pre .measure in
     record { room = pre .room; queue = pre .queue }
 
 same-length : tie.Need-same-length
@@ -146,7 +166,7 @@ same-length c = search needs
 returns : tie.Need-returns
 returns c =
     let pushed = c .before .before .push-four in
-    let h4 = c .before .before .before .before in
+    let h4 = after-hit4 c in
     let h3 = h4 .before in
     let h2 = h3 .before in
     let h1 = h2 .before in
@@ -157,8 +177,8 @@ returns c =
     let is = hit-is (a .shape) (a .floats .now) (a .numbers .now) (a .query .now) in
     subst (λ (hits : List ℕ). Measured (a .bound) hits (a .count) (a .heap .now) (pushed .result) (pushed .last .0))
     (four-mapped (hitAt (a .shape) (a .floats .now) (a .numbers .now) (a .query .now)) (a .heap .now) (a .at) 0 _ _ _ _ (entry w .pre .measure .inside)
-    (is _ (first w) _ _ (h1 .hit .ensures) (four .0) (w .before .before .before .before .before .before .wide .ensures .0))
-    (is _ (second w) _ _ (h2 .hit2 .ensures) (four .1 .0) (w .before .before .before .before .wide2 .ensures .0))
+    (is _ (first w) _ _ (h1 .hit .ensures) (four .0) (after-wide (after-wide2 w) .wide .ensures .0))
+    (is _ (second w) _ _ (h2 .hit2 .ensures) (four .1 .0) (after-wide2 w .wide2 .ensures .0))
     (is _ (third w) _ _ (h3 .hit3 .ensures) (four .1 .1 .0) (w .before .before .wide3 .ensures .0))
     (is _ (fourth w) _ _ (h4 .hit4 .ensures) (four .1 .1 .1) (w .wide4 .ensures .0)))
     (pushed .ensures)

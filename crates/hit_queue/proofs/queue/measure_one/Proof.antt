@@ -56,10 +56,15 @@ push-within-requires c κs = search needs
 same-length : tie.Need-same-length
 same-length c = search needs
 
+-- ---- the places, each with the way back to the one before
+
+abbrev after-hit : tie.After-slice-known3 → tie.After-hit
+after-hit c = c .before .before .before .before
+
 returns : tie.Need-returns
 returns c =
     let pushed = c .before .before .push-within in
-    let h = c .before .before .before .before in
+    let h = after-hit c in
     let w = h .before .before in
     let a = entry w .args in
     subst (λ (hits : List ℕ). Measured (a .bound) hits (a .count) (a .heap .now) (pushed .result) (pushed .last .0))

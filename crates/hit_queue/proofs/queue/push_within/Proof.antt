@@ -14,14 +14,25 @@ add-total c = search needs
 same-length : tie.Need-same-length
 same-length c = search needs
 
+-- ---- the places, each with the way back to the one before
+
+abbrev start : tie.Then1 → tie.Start
+start c = c .before .before .before
+
+abbrev start′ : tie.Else1 → tie.Start
+start′ c = c .before .before .before
+
+abbrev then1 : tie.After-slice-known2 → tie.Then1
+then1 c = c .before .before .before .before
+
 returns : tie.Need-returns
 returns c =
-    let e = c .before .before .before .before .before .before .before in
-    measured-pushed (e .args .bound) (e .args .count) (e .args .heap .now) (e .args .record) (omega arith) (omega arith) _ (c .before .before .before .before .if1 .taken) (c .before .before .push .ensures)
+    let e = start (then1 c) in
+    measured-pushed (e .args .bound) (e .args .count) (e .args .heap .now) (e .args .record) (omega arith) (omega arith) _ (then1 c .if1 .taken) (c .before .before .push .ensures)
 
 returns-2 : tie.Need-returns-2
 returns-2 c =
-    let e = c .before .before .before in
+    let e = start′ c in
     measured-past (e .args .bound) (e .args .count) (e .args .heap .now) (e .args .record) (omega arith) (omega arith) (c .if1 .left) (e .pre .queue)
 
 pub push-within-spec : {M : Type 1} → statement M

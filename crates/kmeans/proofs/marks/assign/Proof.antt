@@ -103,8 +103,13 @@ loop-again c =
 same-length : tie.Need-same-length Inv-loop μ-loop
 same-length c = c .before .loop .inv .1
 
+-- ---- the places, each with the way back to the one before
+
+abbrev entry : tie.After-loop Inv-loop μ-loop → tie.Start Inv-loop μ-loop
+entry c = c .before .before .before .before .before
+
 returns : tie.Need-returns Inv-loop μ-loop
-returns c = assign-end _ _ _ _ _ _ _ (c .before .before .before .before .before .pre .0) _ _ (c .before .loop .inv .2) (c .loop-test .left)
+returns c = assign-end _ _ _ _ _ _ _ (entry c .pre .0) _ _ (c .before .loop .inv .2) (c .loop-test .left)
 
 pub assign-spec : {M : Type 1} → statement M
 assign-spec =

@@ -63,9 +63,14 @@ same-length-2 c = search needs
 same-length-3 : tie.Need-same-length-3
 same-length-3 c = search needs
 
+-- ---- the places, each with the way back to the one before
+
+abbrev after-add : tie.After-added → tie.After-add
+after-add c = c .before .before .before .before .before .before .before
+
 returns : tie.Need-returns
 returns c =
-    let a = c .before .before .before .before .before .before .before in
+    let a = after-add c in
     let r = read (a .before) in
     let s = start r in
     let v = s .args .vector in

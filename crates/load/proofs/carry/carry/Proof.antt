@@ -62,9 +62,20 @@ enum-known-task-3 c = search needs
 look-up-requires : tie.Need-look-up-requires
 look-up-requires c κs = finding (to-find c) .stands
 
+-- ---- the places, each with the way back to the one before
+
+abbrev after-task-at : tie.After-known-told → tie.After-task-at
+after-task-at c = c .before .before .before
+
+abbrev after-add-vector : tie.After-slice-known9 → tie.After-add-vector
+after-add-vector c = c .before .before .before .before .before .before
+
+abbrev after-look-up : tie.After-slice-known15 → tie.After-look-up
+after-look-up c = c .before .before .before .before .before .before .before .before .before .before .before .before
+
 returns : tie.Need-returns
 returns c =
-    let k = c .before .before .before in
+    let k = after-task-at c in
     subst (Asks (file k) (Comes k)) (c .before .task .given .1) (k .task-at .ensures) (lent k)
 
 same-length : tie.Need-same-length
@@ -78,7 +89,7 @@ same-length-3 c = search needs
 
 returns-2 : tie.Need-returns-2
 returns-2 c =
-    let a = c .before .before .before .before .before .before in
+    let a = after-add-vector c in
     let k = to-add (a .before) in
     let x = a .add-vector .last .1 .1 .1 in
     let left : Store = record { floats = x .0; numbers = x .1 .0; hashes = x .1 .1 .0 } in
@@ -104,7 +115,7 @@ same-length-9 c = search needs
 
 returns-3 : tie.Need-returns-3
 returns-3 c =
-    let l = c .before .before .before .before .before .before .before .before .before .before .before .before in
+    let l = after-look-up c in
     let k = to-find (l .before) in
     let x = l .look-up .last .1 .1 .1 in
     let left : Lent =

@@ -70,10 +70,24 @@ same-length-2 c = search needs
 same-length-3 : tie.Need-same-length-3
 same-length-3 c = search needs
 
+-- ---- the places, each with the way back to the one before
+
+abbrev after-components2 : tie.After-search → tie.After-components2
+after-components2 c = c .before .before .before
+
+abbrev after-components : tie.After-search-filtered → tie.After-components
+after-components c = c .before .before .before
+
+abbrev after-search : tie.After-slice-known9 → tie.After-search
+after-search c = c .before .before .before .before .before .before
+
+abbrev after-search-filtered : tie.After-slice-known6 → tie.After-search-filtered
+after-search-filtered c = c .before .before .before .before .before .before
+
 returns : tie.Need-returns
 returns c =
-    let f = c .before .before .before .before .before .before in
-    let t = filtered (f .before .before .before) in
+    let f = after-search-filtered c in
+    let t = filtered (after-components f) in
     let s = start (t .before) in
     let x = f .search-filtered .last .1 .1 .1 .1 in
     let end : SearchEnd = record { answer = f .search-filtered .result; work = x .0; ids = x .1 .1 .1 .1 .0; distances = x .1 .1 .1 .1 .1 .0 } in
@@ -100,8 +114,8 @@ same-length-6 c = search needs
 
 returns-2 : tie.Need-returns-2
 returns-2 c =
-    let f = c .before .before .before .before .before .before in
-    let t = unfiltered (f .before .before .before) in
+    let f = after-search c in
+    let t = unfiltered (after-components2 f) in
     let s = start (t .before) in
     let x = f .search .last .1 .1 .1 .1 in
     let end : SearchEnd = record { answer = f .search .result; work = x .0; ids = x .1 .1 .1 .0; distances = x .1 .1 .1 .1 .0 } in

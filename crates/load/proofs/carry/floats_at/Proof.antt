@@ -27,10 +27,15 @@ read-floats-requires c κs =
     let front = length-take-le (s .args .count) sixteen (omega (arith, s .pre .0)) in
     omega (arith, front, s .pre .1)
 
+-- ---- the places, each with the way back to the one before
+
+abbrev start : tie.After-values2 → tie.Start
+start c = c .before .before .before .before
+
 returns : tie.Need-returns
 returns c =
     let r = c .before .read-floats in
-    let s = c .before .before .before .before in
+    let s = start c in
     floats-front (r .last .1 .1 .0) (drop (s .args .count) sixteen) (s .args .file .now) (s .args .at)
     (length-take-le (s .args .count) sixteen (omega (arith, s .pre .0))) (r .ensures)
 

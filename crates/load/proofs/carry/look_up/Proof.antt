@@ -80,9 +80,14 @@ same-length-9 c = search needs
 same-length-10 : tie.Need-same-length-10
 same-length-10 c = search needs
 
+-- ---- the places, each with the way back to the one before
+
+abbrev after-find : tie.After-found → tie.After-find
+after-find c = c .before .before .before .before .before .before .before
+
 returns-2 : tie.Need-returns-2
 returns-2 c =
-    let f = c .before .before .before .before .before .before .before in
+    let f = after-find c in
     let k = known (f .before) in
     let b = ready k in
     let s = start b in

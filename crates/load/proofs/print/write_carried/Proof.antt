@@ -69,14 +69,28 @@ write-hits-requires c κs =
     let f = fit k in
     (omega (arith, f .0, found k .pre .1), f)
 
+-- ---- the places, each with the way back to the one before
+
+abbrev after-shared-slice-known : tie.After-carried2 → tie.After-shared-slice-known
+after-shared-slice-known c = c .before .before .before
+
+abbrev after-carried : tie.After-write-refused → tie.After-carried
+after-carried c = c .before .before .before .before
+
+abbrev after-write-hits : tie.After-write-closing-arg → tie.After-write-hits
+after-write-hits c = c .before .before .before
+
+abbrev after-write-hits′ : tie.After-write-closing → tie.After-write-hits
+after-write-hits′ c = c .before .before .before .before
+
 write-closing-requires : tie.Need-write-closing-requires
 write-closing-requires c κs =
-    let h = c .before .before .before in
+    let h = after-write-hits c in
     let k = hits h in
     let f = fit k in
     let s = found k in
     let w = h .write-hits .ensures in
-    let few = hits-le (s .args .ids .now) (s .args .distances .now) (λ i. omega (arith, k .before .before .before .shared-slice-known .given i)) (k .carried2 .given .0 .1 .1 .0) in
+    let few = hits-le (s .args .ids .now) (s .args .distances .now) (λ i. omega (arith, after-shared-slice-known k .shared-slice-known .given i)) (k .carried2 .given .0 .1 .1 .0) in
     omega (arith, f .0, s .pre .1, w .end, length-written w, few)
 
 returns : tie.Need-returns
@@ -89,7 +103,7 @@ returns-2 : tie.Need-returns-2
 unfolding refusedText
 returns-2 c =
     let w = c .before .before in
-    let k = w .before .before .before .before in
+    let k = after-carried w in
     text-as (refused k) (k .carried .given .1) (written-text (ap refusedLine (w .before .number .ensures)) (w .write-refused .ensures))
 
 returns-3 : tie.Need-returns-3
@@ -101,7 +115,7 @@ same-length-2 c = search needs
 returns-4 : tie.Need-returns-4
 returns-4 c =
     let w = c .before .before in
-    let h = w .before .before .before .before in
+    let h = after-write-hits′ w in
     let k = hits h in
     text-as (found k) (k .carried2 .given .1) (written-then (h .write-hits .ensures) (w .write-closing .ensures))
 

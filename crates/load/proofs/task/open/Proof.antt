@@ -26,21 +26,32 @@ opens : {dimension next : ℕ} {params : CuratorParams} {carried : Carried} (ans
     → carried ≡ openedBy answer dimension next → Opens dimension params next carried
 opens answer creates comes = record { answer = answer; creates = creates; comes = comes }
 
+-- ---- the places, each with the way back to the one before
+
+abbrev after-new′ : tie.After-known-told → tie.After-new
+after-new′ c = c .before .before .before
+
+abbrev after-new : tie.Then1 → tie.After-new
+after-new c = c .before .before .before .before
+
+abbrev after-new′′ : tie.Else1 → tie.After-new
+after-new′′ c = c .before .before .before .before
+
 returns : tie.Need-returns
 returns c =
-    let made = c .before .before .before .before in
+    let made = after-new c in
     let s = made .before in
     opens (made .new .result) (made .new .ensures) (open-wide _ _ (s .args .dimension) (s .args .next) (c .before .before .answer2 .given .1) (c .if1 .taken))
 
 returns-2 : tie.Need-returns-2
 returns-2 c =
-    let made = c .before .before .before in
+    let made = after-new′ c in
     let s = made .before in
     opens (made .new .result) (made .new .ensures) (open-refused _ _ (s .args .dimension) (s .args .next) (c .before .answer .given .1))
 
 returns-3 : tie.Need-returns-3
 returns-3 c =
-    let made = c .before .before .before .before in
+    let made = after-new′′ c in
     let s = made .before in
     opens (made .new .result) (made .new .ensures) (open-narrow _ _ (s .args .dimension) (s .args .next) (c .before .before .answer2 .given .1) (c .if1 .left))
 

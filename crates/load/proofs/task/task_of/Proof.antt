@@ -21,17 +21,28 @@ enum-known-located-3 c = search needs
 returns : tie.Need-returns
 returns c = ap (taskOf (c .before .before .args .index)) (sym (c .enum-told .given .1))
 
+-- ---- the places, each with the way back to the one before
+
+abbrev start : tie.After-known-told → tie.Start
+start c = c .before .before .before
+
+abbrev start′ : tie.After-query-of → tie.Start
+start′ c = c .before .before .before .before
+
+abbrev start′′ : tie.After-query-of2 → tie.Start
+start′′ c = c .before .before .before .before
+
 returns-2 : tie.Need-returns-2
-returns-2 c = ap (taskOf (c .before .before .before .args .index)) (sym (c .before .located .given .1))
+returns-2 c = ap (taskOf (start c .args .index)) (sym (c .before .located .given .1))
 
 returns-3 : tie.Need-returns-3
 returns-3 c =
-    let index = c .before .before .before .before .args .index in
+    let index = start′ c .args .index in
     ap (Find index) (c .query-of .ensures) ∙ ap (taskOf index) (sym (c .before .before .located2 .given .1))
 
 returns-4 : tie.Need-returns-4
 returns-4 c =
-    let index = c .before .before .before .before .args .index in
+    let index = start′′ c .args .index in
     ap (Find index) (c .query-of2 .ensures) ∙ ap (taskOf index) (sym (c .before .before .located3 .given .1))
 
 query-of-requires : tie.Need-query-of-requires

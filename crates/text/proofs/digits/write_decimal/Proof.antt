@@ -13,8 +13,16 @@ use Rattle.text.proofs.digits.write_decimal.Tie as tie
 decimal-places-requires : tie.Need-decimal-places-requires
 decimal-places-requires c κs = search needs
 
+-- ---- the places, each with the way back to the one before
+
+abbrev start : tie.After-decimal-places → tie.Start
+start c = c .before .before .before
+
+abbrev after-decimal-places : tie.After-slice-known2 → tie.After-decimal-places
+after-decimal-places c = c .before .before .before
+
 write-digits-requires : tie.Need-write-digits-requires
-write-digits-requires c κs = omega (arith, length-decimalOf (c .before .before .before .args .n))
+write-digits-requires c κs = omega (arith, length-decimalOf (start c .args .n))
 
 same-length : tie.Need-same-length
 same-length c = search needs
@@ -22,10 +30,10 @@ same-length c = search needs
 returns : tie.Need-returns
 unfolding decimalOf
 returns c =
-    let s = c .before .before .before .before .before .before in
+    let s = start (after-decimal-places c) in
     let w = c .before .before .write-digits in
     subst (λ (k : ℕ). Written (now (s .args .out)) (s .args .at) (lastDigits 10 k (s .args .n)) (w .last .0) (w .result))
-    (c .before .before .before .decimal-places .ensures) (w .ensures)
+    (after-decimal-places c .decimal-places .ensures) (w .ensures)
 
 pub write-decimal-spec : {M : Type 1} → statement M
 write-decimal-spec =

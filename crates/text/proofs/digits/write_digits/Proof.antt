@@ -26,8 +26,19 @@ sub-i c = omega arith
 rem-digit-char : tie.Need-rem-digit-char Inv-loop μ-loop
 rem-digit-char c = omega arith
 
+-- ---- the places, each with the way back to the one before
+
+abbrev start : tie.In-loop Inv-loop μ-loop → tie.Start Inv-loop μ-loop
+start c = c .before .before .before
+
+abbrev start′′ : tie.After-loop Inv-loop μ-loop → tie.Start Inv-loop μ-loop
+start′′ c = c .before .before .before
+
+abbrev start′ : tie.After-digit-char Inv-loop μ-loop → tie.Start Inv-loop μ-loop
+start′ c = c .before .before .before .before
+
 digit-char-requires : tie.Need-digit-char-requires Inv-loop μ-loop
-digit-char-requires c κs = omega (arith, mod-lt (c .before .loop .rest) {m = c .before .before .before .args .base} (omega arith))
+digit-char-requires c κs = omega (arith, mod-lt (c .before .loop .rest) {m = start c .args .base} (omega arith))
 
 add-out : tie.Need-add-out Inv-loop μ-loop
 add-out c = omega arith
@@ -43,7 +54,7 @@ loop-less c = omega arith
 
 loop-again : tie.Need-loop-again Inv-loop μ-loop
 loop-again c =
-    let a = c .before .before .before .before .args in
+    let a = start′ c .args in
     let l = c .before .before .loop in
     let h : 0 < l .i = omega arith in (
       omega arith,
@@ -61,7 +72,7 @@ same-length c = c .before .loop .inv .1
 
 returns : tie.Need-returns Inv-loop μ-loop
 returns c =
-    let a = c .before .before .before .args in
+    let a = start′′ c .args in
     let l = c .before .loop in
     digits-end (a .out .now) (l .out) (a .at) (a .base) (a .count) (a .n) (l .i) (l .rest) (omega arith) (omega arith) (l .inv .2)
 

@@ -30,22 +30,39 @@ shared-slice-read-wide-2 c = search needs
 wide-requires-2 : tie.Need-wide-requires-2
 wide-requires-2 c κs = search needs
 
+-- ---- the places, each with the way back to the one before
+
+abbrev entry : tie.After-wide → tie.Start
+entry c = c .before .before .before
+
+abbrev after-wide : tie.Then1 → tie.After-wide
+after-wide c = c .before .before .before
+
+abbrev after-wide′ : tie.Else1 → tie.After-wide
+after-wide′ c = c .before .before .before
+
+abbrev after-wide′′ : tie.Then2 → tie.After-wide
+after-wide′′ c = c .before .before .before .before
+
+abbrev after-wide′′′ : tie.Else2 → tie.After-wide
+after-wide′′′ c = c .before .before .before .before
+
 returns : tie.Need-returns
 returns c =
-    let a = c .before .before .before .before .before .before .args in
+    let a = entry (after-wide c) .args in
     let z : getD (a .numbers .now) (a .at + 1) 0 ≡ 0 = sym (c .before .wide2 .ensures .0) ∙ c .if1 .taken in
-    rw z (block-empty (getD (a .numbers .now) (a .at) 0) (a .held), record { is = refl; room = omega (arith, c .before .before .before .before .before .before .pre .room) })
+    rw z (block-empty (getD (a .numbers .now) (a .at) 0) (a .held), record { is = refl; room = omega (arith, entry (after-wide c) .pre .room) })
 
 add-if2 : tie.Need-add-if2
 add-if2 c =
-    omega (arith, c .before .before .before .wide .ensures .1, c .before .wide2 .ensures .1)
+    omega (arith, after-wide′ c .wide .ensures .1, c .before .wide2 .ensures .1)
 
 returns-2 : tie.Need-returns-2
 returns-2 c =
-    let a = c .before .before .before .before .before .before .before .args in
-    let start = c .before .before .before .before .wide .ensures .0 in
+    let a = entry (after-wide′′ c) .args in
+    let start = after-wide′′ c .wide .ensures .0 in
     let count = c .before .before .wide2 .ensures .0 in
-    let out = block-out (c .before .before .before .before .wide .result) (c .before .before .wide2 .result) (a .held) (c .before .if1 .left) (c .if2 .taken) in
+    let out = block-out (after-wide′′ c .wide .result) (c .before .before .wide2 .result) (a .held) (c .before .if1 .left) (c .if2 .taken) in
     rw (← start, ← count) out
 
 add-t10 : tie.Need-add-t10
@@ -53,12 +70,12 @@ add-t10 c = search needs
 
 returns-3 : tie.Need-returns-3
 returns-3 c =
-    let a = c .before .before .before .before .before .before .before .args in
-    let room = c .before .before .before .before .before .before .before .pre .room in
-    let start = c .before .before .before .before .wide .ensures .0 in
+    let a = entry (after-wide′′′ c) .args in
+    let room = entry (after-wide′′′ c) .pre .room in
+    let start = after-wide′′′ c .wide .ensures .0 in
     let count = c .before .before .wide2 .ensures .0 in
     rw (← start, ← count) (
-      block-in (c .before .before .before .before .wide .result) (c .before .before .wide2 .result) (a .held) (c .if2 .left),
+      block-in (after-wide′′′ c .wide .result) (c .before .before .wide2 .result) (a .held) (c .if2 .left),
       record { is = refl; room = omega (arith, room, c .if2 .left) },
     )
 

@@ -44,19 +44,30 @@ part-may-contain-end c = search needs
 may-contain-requires : tie.Need-may-contain-requires
 may-contain-requires c κs = search needs
 
+-- ---- the places, each with the way back to the one before
+
+abbrev entry : tie.After-enum-told → tie.Start
+entry c = c .before .before .before
+
+abbrev entry′ : tie.After-wanted → tie.Start
+entry′ c = c .before .before .before
+
+abbrev after-wanted : tie.After-may-contain → tie.After-wanted
+after-wanted c = c .before .before .before .before
+
 returns : tie.Need-returns
 unfolding denies
 returns c =
-    sym (ap (λ w. denies w (part (filtersAt (c .before .before .before .args .shape) + c .before .before .before .args .i * 4) 4 (c .before .before .before .args .hashes .now))) (c .enum-told .given .1))
+    sym (ap (λ w. denies w (part (filtersAt (entry c .args .shape) + entry c .args .i * 4) 4 (entry c .args .hashes .now))) (c .enum-told .given .1))
 
 returns-2 : tie.Need-returns-2
 unfolding denies
 returns-2 c =
-    let start = c .before .before .before .before .before .before .before in
+    let start = entry′ (after-wanted c) in
     let from = filtersAt (start .args .shape) + start .args .i * 4 in
     let begins : c .before .before .filters-at .result + start .args .i * 4 ≡ from = ap (λ n. n + start .args .i * 4) (c .before .before .filters-at .ensures) in
-    ap not (c .may-contain .ensures ∙ ap (λ f. mayContain f (c .before .before .before .before .wanted .given .0 .0)) (lent-is (start .args .hashes .now) _ _ from 4 begins (ap (λ n. n + 4) begins)))
-    ∙ sym (ap (λ w. denies w (part from 4 (start .args .hashes .now))) (c .before .before .before .before .wanted .given .1))
+    ap not (c .may-contain .ensures ∙ ap (λ f. mayContain f (after-wanted c .wanted .given .0 .0)) (lent-is (start .args .hashes .now) _ _ from 4 begins (ap (λ n. n + 4) begins)))
+    ∙ sym (ap (λ w. denies w (part from 4 (start .args .hashes .now))) (after-wanted c .wanted .given .1))
 
 pub denied-spec : {M : Type 1} → statement M
 denied-spec =

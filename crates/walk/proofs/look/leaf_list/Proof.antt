@@ -30,15 +30,23 @@ entry-order-at-requires c κs = search needs
 block-at-requires-2 : tie.Need-block-at-requires-2
 block-at-requires-2 c κs = search needs
 
+-- ---- the places, each with the way back to the one before
+
+abbrev start : tie.After-block-at → tie.Start
+start c = c .before .before .before .before .before
+
+abbrev start′ : tie.After-block-at2 → tie.Start
+start′ c = c .before .before .before .before .before
+
 returns : tie.Need-returns
 returns c =
-    let a = c .before .before .before .before .before .args in
+    let a = start c .args in
     subst (λ w. LeafPlacing (a .shape) (a .counts) (a .numbers .now) w (a .at) (c .block-at .result)) (sym (c .before .before .enum-told .given .1))
     (subst (λ base. Placing (a .numbers .now) (a .at + 2) base (a .counts .vectors) (c .block-at .result)) (c .before .order-at .ensures) (c .block-at .ensures))
 
 returns-2 : tie.Need-returns-2
 returns-2 c =
-    let a = c .before .before .before .before .before .args in
+    let a = start′ c .args in
     subst (λ w. LeafPlacing (a .shape) (a .counts) (a .numbers .now) w (a .at) (c .block-at2 .result)) (sym (c .before .before .enum-told2 .given .1))
     (subst (λ base. Placing (a .numbers .now) (a .at + 4) base (a .counts .entries) (c .block-at2 .result)) (c .before .entry-order-at .ensures) (c .block-at2 .ensures))
 
