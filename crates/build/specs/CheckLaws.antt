@@ -1,17 +1,18 @@
 -- What the rows of a build come to, from what they come to with row 13 left open; and what their passing says, as plain facts.
 use Prim.Native.Nat.{ℕ, zero, suc, _+_, _-_, _≤_, _<_}
-use mathlib.Core.Bool.{Bool, true, false, not, _&&_, _||_}
+use mathlib.Core.Bool.{Bool, true, false, not, _&&_}
 use mathlib.Core.List.{List, [], _∷_, _++_}
 use mathlib.Core.Path.{_≡_, refl, sym, ap, _∙_, subst}
 use native.Mathlib.Nat.{not-suc-le-zero, le-of-suc-le-suc}
 use native.Mathlib.Omega.{arith}
-use borrow.Author.Tests.{not-false, leb-true, ltb-true, eqb-false}
-use lib.Dec.{leb, ltb, eqb}
+use borrow.Author.Tests.{not-false, ltb-true, eqb-false}
+use lib.Dec.{ltb, eqb}
 use lib.ListN.{length, getD}
 use Rattle.lists.specs.Lists.{part}
-use Rattle.lists.specs.Parts.{length-part, getD-part, part-cons, sets-self}
+use Rattle.lists.specs.Parts.{length-part, getD-part, part-cons}
+use Rattle.lists.specs.Frame.{Freed, freed-self}
 use Rattle.store.specs.declared.Shape.{Shape}
-use Rattle.store.specs.Store.{Store, ownersAt, workSize}
+use Rattle.store.specs.Store.{Store, ownersAt, workSize, workPart}
 use Rattle.lists.specs.Tests.{allPass, and-both, and-false}
 use Rattle.settings.specs.declared.Check.{Check}
 use Rattle.settings.specs.declared.Check.the-variants.{Fine, Refused}
@@ -24,11 +25,11 @@ use Rattle.settings.specs.declared.refusal.StoreRefusal.the-variants.{ListTooSh
 use Rattle.curator.specs.Limits.{stateSound, indexShape}
 use Rattle.curator.specs.Rows.{Row, row, firstOf, stateRow, buildRows}
 use Rattle.store.specs.declared.Lengths.{Lengths}
-use Rattle.store.specs.Lent.{storeShort, listsShort, lengthsOf}
+use Rattle.store.specs.Lent.{listsShort, lengthsOf}
 use Rattle.curator.specs.RowLaws.{FirstAt, refusalAt, refused-first, fine-none, no-rows, row-stops, row-passes, rows-then}
-use Rattle.curator.specs.StateLaws.{Sound, sound-facts}
+use Rattle.curator.specs.StateLaws.{sound-facts}
 use Rattle.curator.specs.Calls.{heldEntries}
-use Rattle.curator.specs.Changes.{Part, workPart, Freed, freeOf, Left, ownersDamaged, tooManyNodes, buildCheck}
+use Rattle.curator.specs.Changes.{freeOf, Left, ownersDamaged, tooManyNodes, buildCheck}
 use Rattle.build.specs.Asked.{ownersBad, buildChecked, Ready}
 use Rattle.store.specs.LentLaws.{lists-long}
 
@@ -191,11 +192,6 @@ ready index store work f b =
 
 -- ---- what a refusal by the check leaves
 
--- a part that is written with what stands there
-kept : {A : Type 0} (p : Part) (l : List A) → p .start + p .count ≤ length l → Freed (p ∷ []) l l
-unfolding Freed
-kept p l h = (part (p .start) (p .count) l, length-part (p .start) (p .count) l h, sym (sets-self l (p .start) (p .count)))
-
 left-state : (s : Shape) (r : StateRefusal) (store : Store) (work : List ℕ) → Left s (Refusal′.State r) store work store work
 unfolding Freed freeOf
 left-state s r store work = record { floats = refl; numbers = refl; hashes = refl; work = refl }
@@ -206,7 +202,7 @@ left-short s store work = record { floats = refl; numbers = refl; hashes = refl;
 
 left-damaged : (s : Shape) (store : Store) (work : List ℕ) → workSize s ≤ length work → Left s (Refusal′.Store Damaged) store work store work
 unfolding Freed freeOf
-left-damaged s store work h = record { floats = refl; numbers = refl; hashes = refl; work = kept (workPart s) work (omega (arith, h)) }
+left-damaged s store work h = record { floats = refl; numbers = refl; hashes = refl; work = freed-self (workPart s) work (omega (arith, h)) }
 
 same-refusal : {q r : Refusal} → Refused q ≡ Refused r → q ≡ r
 same-refusal e = cc

@@ -1,6 +1,6 @@
 -- 'Parts past the counts held are never read', of a build: it reads the lengths of the lists, the vectors held and the entries held. Stores that
 -- agree on these, whatever else stands in them and in the work lists, give the same answer, and the same nodes are laid out in both.
-use Prim.Native.Nat.{ℕ, _+_, _-_, _*_, _≤_, _<_}
+use Prim.Native.Nat.{ℕ, _-_, _*_, _≤_, _<_}
 use mathlib.Core.Bool.{Bool, true, false, not, _&&_}
 use mathlib.Core.List.{List, [], _∷_, _++_}
 use mathlib.Core.Path.{_≡_, refl, sym, ap, ap₂, _∙_, subst}
@@ -16,8 +16,9 @@ use Rattle.store.specs.Store.{Store, centroidsAt, ownersAt, orderAt, nodesAt, l
 use Rattle.cluster.specs.VectorsLaws.{length-vectorsIn}
 use Rattle.tree.specs.Tree.{Splitting, treeOf, size}
 use Rattle.tree.specs.Nodes.{Entries, Node, nodesOf}
-use Rattle.tree.specs.NodeLaws.{length-nodesOf, length-ids, length-links, length-entries}
-use Rattle.tree.specs.Subtrees.{nodesOf-four, nodesOf-wide}
+use Rattle.tree.specs.NodeLaws.{length-nodesOf, length-ids, length-links}
+use Rattle.tree.specs.NodeEntryLaws.{length-entries}
+use Rattle.tree.specs.NumberedNodes.{nodesOf-four, nodesOf-wide}
 use Rattle.tree.specs.Layout.{sixFrom, numbersOf, hashesOf, floatsOf}
 use Rattle.tree.specs.LayoutLaws.{nodesOf-fit, length-blocks, length-sixFrom, numbers-order, numbers-six, numbers-links, numbers-entries, floats-centroids}
 use Rattle.store.specs.declared.Counts.{Counts}
@@ -39,7 +40,7 @@ use Rattle.curator.specs.Rows.{row, firstOf, stateRow, buildRows}
 use Rattle.build.specs.Asked.{Ready}
 use Rattle.build.specs.CheckLaws.{earlyRows, fullRow, check-rows, checked-rows, ready}
 use Rattle.build.specs.BuildLaws.{builds-accepted}
-use Rattle.build.specs.MakeLaws.{held-vectors}
+use Rattle.build.specs.WrittenLaws.{held-vectors}
 use Rattle.curator.specs.OutcomeLaws.{carried-is, refused-is}
 
 -- What a build reads is the same: whether a list is too short, the vectors held, and the owners and hashes of the entries held. Document ids are not

@@ -16,7 +16,9 @@ use Rattle.cluster.specs.Vectors.{vectorsIn}
 use Rattle.waiting_groups.specs.Waiting.{headed, encoded, groupAt, sixes, leaves}
 use Rattle.waiting_groups.specs.WaitingLaws.{length-headed}
 use Rattle.build_tree.specs.Contracts.{splittingOf, Lent, Waits, Stepped, Built}
-use Rattle.build_tree.specs.Standing.{Standing, order-length, standing-begin, standing-lent, next-waits, standing-step, built-whole, built-overfull}
+use Rattle.build_tree.specs.Standing.{Standing, order-length, standing-begin, standing-lent}
+use Rattle.build_tree.specs.StandingStep.{next-waits, standing-step}
+use Rattle.build_tree.specs.StandingEnd.{built-whole, built-overfull}
 use Rattle.build_tree.specs.declared.Made.the-variants as Made′
 
 module _ {s : Shape} {n order : ℕ} {floats₀ : List Float} {numbers₀ numbers₁ work₀ : List ℕ} (lent : Lent s n floats₀ numbers₀ work₀)

@@ -7,10 +7,10 @@ use lib.ListN.{length, getD}
 use lib.Seq.{sets}
 use Rattle.lists.specs.Lists.{part, keep, joined}
 use Rattle.store.specs.declared.Shape.{Shape}
-use Rattle.store.specs.Store.{Limits, centroidsAt, centresAt, floatsSize, orderAt, nodesAt, numbersSize, workSize}
+use Rattle.store.specs.Store.{Limits, centroidsAt, centresAt, floatsSize, orderAt, nodesAt, numbersSize, workSize, workPart}
 use Rattle.cluster.specs.Clusters.{clusters, meanOf}
 use Rattle.cluster.specs.Vectors.{vectorsIn}
-use Rattle.lists.specs.Frame.{AlikeBut}
+use Rattle.lists.specs.Frame.{AlikeBut, Freed}
 use Rattle.tree.specs.Tree.{Splitting, treeOf, size}
 use Rattle.tree.specs.Nodes.{Entries, nodesOf}
 use Rattle.tree.specs.Layout.{floatsOf}
@@ -88,20 +88,6 @@ pub record Stepped
     pub work-alike : AlikeBut 0 (workSize s) work work′
     pub next-is : next ≡ done + length (own (splittingOf s leaf) g)
 
--- a part of a list is replaced by some list of its length, and nothing else changed
-pub record Replaced {ℓ} {A : Type ℓ} (start count : ℕ) (before after : List A) : Type ℓ where
-  pub new : List A
-  pub size-is : length new ≡ count
-  pub written : after ≡ sets before start new
-
--- two parts of a list are replaced by some lists of their lengths, and nothing else changed
-pub record BothReplaced {ℓ} {A : Type ℓ} (start count start′ count′ : ℕ) (before after : List A) : Type ℓ where
-  pub new : List A
-  pub size-is : length new ≡ count
-  pub new′ : List A
-  pub size-is′ : length new′ ≡ count′
-  pub written : after ≡ sets (sets before start new) start′ new′
-
 -- All nodes are made: centroids, leaf order and the six numbers of each node, whatever the entries. The centres are free, and the work list.
 pub record Whole (s : Shape) (leaf n : ℕ) (floats floats′ : List Float) (numbers numbers′ work work′ : List ℕ) (answer : Made) : Type 0 where
   pub answered : answer ≡ Made′.Nodes (size (treeOf (splittingOf s leaf) (vectorsIn (s .dimension) n floats)))
@@ -112,14 +98,14 @@ pub record Whole (s : Shape) (leaf n : ℕ) (floats floats′ : List Float) (num
       → numbers′
       ≡ sets (sets numbers (orderAt s) (joined (λ node. node .ids) (nodesOf (splittingOf s leaf) (vectorsIn (s .dimension) n floats) e)))
       (nodesAt s) (madeFrom 0 (nodesOf (splittingOf s leaf) (vectorsIn (s .dimension) n floats) e))
-  pub work-free : Replaced 0 (workSize s) work work′
+  pub work-free : Freed (workPart s ∷ []) work work′
 
 -- 13: 'the defined tree has more than M nodes'. Free are the centroids and the centres, the leaf order of vectors and the six per node, and the work.
 pub record Overfull (s : Shape) (floats floats′ : List Float) (numbers numbers′ work work′ : List ℕ) (answer : Made) : Type 0 where
   pub answered : answer ≡ Made′.TooMany
-  pub floats-free : BothReplaced (centroidsAt s) (s .dimension * s .nodes) (centresAt s) (s .dimension * s .branching) floats floats′
-  pub numbers-free : BothReplaced (orderAt s) (s .vectors) (nodesAt s) (6 * s .nodes) numbers numbers′
-  pub work-free : Replaced 0 (workSize s) work work′
+  pub floats-free : Freed (record { start = centroidsAt s; count = s .dimension * s .nodes } ∷ record { start = centresAt s; count = s .dimension * s .branching } ∷ []) floats floats′
+  pub numbers-free : Freed (record { start = orderAt s; count = s .vectors } ∷ record { start = nodesAt s; count = 6 * s .nodes } ∷ []) numbers numbers′
+  pub work-free : Freed (workPart s ∷ []) work work′
 
 -- What `build_tree` does.
 pub record Built (s : Shape) (leaf n : ℕ) (floats floats′ : List Float) (numbers numbers′ work work′ : List ℕ) (answer : Made) : Type 0 where

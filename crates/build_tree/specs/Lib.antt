@@ -2,3 +2,5 @@
 pub mod Contracts
 pub mod MadeLaws
 pub mod Standing
+pub mod StandingStep
+pub mod StandingEnd

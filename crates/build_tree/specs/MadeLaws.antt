@@ -19,7 +19,7 @@ use Rattle.tree.specs.TreeLaws.{group-some, perm-groups}
 use Rattle.tree.specs.Nodes.{Entries, Node, nodesOf}
 use Rattle.tree.specs.Layout.{startOf}
 use Rattle.tree.specs.LayoutLaws.{length-blocks}
-use Rattle.tree.specs.Made as Made
+use Rattle.tree.specs.Made.{madeFrom}
 use Rattle.tree.specs.Steps.{Group, isLeaf, split, childGroups, childGroups-leaf, childGroups-split, split-perm, made, rootGroup, made-ids, made-counts, made-centroids}
 use Rattle.waiting_groups.specs.Waiting.{encoded, own, stands, six, sixes, leaves, centroids}
 use Rattle.waiting_groups.specs.WaitingLaws.{length-encoded}
@@ -140,8 +140,8 @@ module _ (s : Splitting) (vectors : List (List Float)) where
   -- ---- all groups
 
   nodes-six : (v : ℕ) (nodes : List Node) (gs : List Group) → map (λ node. node .ids) nodes ≡ map (own s) gs
-      → map (λ node. length (node .children)) nodes ≡ map (λ g. length (childGroups s vectors g)) gs → Made.madeFrom v nodes ≡ sixes s vectors v gs
-  unfolding Made.madeFrom sixes six
+      → map (λ node. length (node .children)) nodes ≡ map (λ g. length (childGroups s vectors g)) gs → madeFrom v nodes ≡ sixes s vectors v gs
+  unfolding madeFrom sixes six
   nodes-six v [] [] p q = refl
   nodes-six v [] (g ∷ gs) p q = let z : _≡_ {A = ℕ} 0 1 = cc in absurd (omega arith)
   nodes-six v (node ∷ nodes) [] p q = let z : _≡_ {A = ℕ} 0 1 = cc in absurd (omega arith)
@@ -150,14 +150,14 @@ module _ (s : Splitting) (vectors : List (List Float)) where
       let b : length (node .children) ≡ length (childGroups s vectors g) = cc in
       let p′ : map (λ node. node .ids) nodes ≡ map (own s) gs = cc in
       let q′ : map (λ node. length (node .children)) nodes ≡ map (λ g. length (childGroups s vectors g)) gs = cc in
-      ap₂ (λ (x : ℕ) (y : List ℕ). 0 ∷ x ∷ startOf v y ∷ length y ∷ 0 ∷ 0 ∷ Made.madeFrom (v + length y) nodes) b a
+      ap₂ (λ (x : ℕ) (y : List ℕ). 0 ∷ x ∷ startOf v y ∷ length y ∷ 0 ∷ 0 ∷ madeFrom (v + length y) nodes) b a
       ∙ ap (λ (r : List ℕ). 0 ∷ length (childGroups s vectors g) ∷ startOf v (own s g) ∷ length (own s g) ∷ 0 ∷ 0 ∷ r)
       (nodes-six (v + length (own s g)) nodes gs p′ q′)
 
   abbrev allMade : List Group
   allMade = made s vectors (rootGroup s vectors ∷ [])
 
-  pub six-all : (e : Entries) → Made.madeFrom 0 (nodesOf s vectors e) ≡ sixes s vectors 0 allMade
+  pub six-all : (e : Entries) → madeFrom 0 (nodesOf s vectors e) ≡ sixes s vectors 0 allMade
   unfolding own
   six-all e = nodes-six 0 (nodesOf s vectors e) allMade (made-ids s vectors e) (made-counts s vectors e)
 

@@ -9,7 +9,7 @@ use Rattle.lists.specs.Lists.{part}
 use Rattle.lists.specs.Counting.{sumOf}
 use Rattle.lists.specs.Parts.{part-cons, part-set-before, drop-take, sets-append, sets-comm}
 use Rattle.tree.specs.Links.{Linked, linkUp, length-linked}
-use Rattle.child_links.specs.Contracts.{Counts}
+use Rattle.child_links.specs.Contracts.{ChildCounts}
 
 -- every node but the roots has been linked
 abbrev pub Full : ℕ → List ℕ → Type 0
@@ -72,7 +72,7 @@ pub record Linking (cs numbers₀ work₀ : List ℕ) (links : ℕ) (numbers wor
   pub work-is : drop (length cs) work ≡ drop (length cs) work₀
   pub work-long : length work ≡ length work₀
 
-pub linking-start : (cs numbers work : List ℕ) (links : ℕ) → Counts cs
+pub linking-start : (cs numbers work : List ℕ) (links : ℕ) → ChildCounts cs
     → Linking cs numbers work links numbers work (length cs) (length cs - 1) (length cs)
 unfolding linkUp sumOf
 linking-start cs numbers work links counts =
@@ -92,7 +92,7 @@ linking-start cs numbers work links counts =
       work-long = refl;
     }
 
-module _ (cs numbers₀ work₀ : List ℕ) (links : ℕ) (counts : Counts cs) (numbers work : List ℕ) (top end i : ℕ) (small : i < length cs)
+module _ (cs numbers₀ work₀ : List ℕ) (links : ℕ) (counts : ChildCounts cs) (numbers work : List ℕ) (top end i : ℕ) (small : i < length cs)
     (fits : length cs ≤ length work₀) (before : Linking cs numbers₀ work₀ links numbers work top end (suc i)) where
   here : drop i cs ≡ getD cs i 0 ∷ drop (suc i) cs
   here = drop-cons cs i 0 small
@@ -194,7 +194,7 @@ module _ (cs numbers₀ work₀ : List ℕ) (links : ℕ) (counts : Counts cs) (
       }
 
 -- once node 0 is linked
-pub linking-done : (cs numbers₀ work₀ : List ℕ) (links : ℕ) (numbers work : List ℕ) (top end i : ℕ) → Counts cs → i ≡ 0
+pub linking-done : (cs numbers₀ work₀ : List ℕ) (links : ℕ) (numbers work : List ℕ) (top end i : ℕ) → ChildCounts cs → i ≡ 0
     → Linking cs numbers₀ work₀ links numbers work top end i → numbers ≡ sets numbers₀ links (linkUp 0 cs .links)
 linking-done cs numbers₀ work₀ links numbers work top end i counts z done =
     let a = done .ends in
@@ -216,7 +216,7 @@ pub record Turn (cs numbers₀ work₀ : List ℕ) (nodes links : ℕ) (numbers 
   pub end-lt : end < nodes
   pub long : length work ≡ length work₀
 
-pub turn-of : (cs numbers₀ work₀ : List ℕ) (nodes links : ℕ) (numbers work : List ℕ) (top end i j w : ℕ) → Counts cs → length cs ≡ nodes → nodes ≤ length work₀ → j ≡ suc i
+pub turn-of : (cs numbers₀ work₀ : List ℕ) (nodes links : ℕ) (numbers work : List ℕ) (top end i j w : ℕ) → ChildCounts cs → length cs ≡ nodes → nodes ≤ length work₀ → j ≡ suc i
     → i < nodes → Linking cs numbers₀ work₀ links numbers work top end j → w ≡ getD cs i 0 → Turn cs numbers₀ work₀ nodes links numbers work top end i w
 turn-of cs numbers₀ work₀ nodes links numbers work top end i j w counts n fits q h linking e =
     let small : i < length cs = omega arith in

@@ -5,7 +5,7 @@ ghost use lib.ListN.{drop};
 ghost use lib.Seq.{sets};
 ghost use Rattle.tree.specs.Links.{linkUp};
 ghost use Rattle.node_table.specs.Table.{cells, column, blockStart};
-ghost use Rattle.child_links.specs.Contracts.{Counts};
+ghost use Rattle.child_links.specs.Contracts.{ChildCounts};
 use node_table::copy_to;
 use node_table::set_starts;
 use store::wide;
@@ -17,7 +17,7 @@ fn link_children(numbers: &mut [u32], at: usize, nodes: usize, links: usize, wor
     requires { do ⌜ links + nodes ≤ (← ⟦numbers.len()⟧) ⌝ }
     requires { do ⌜ nodes ≤ (← ⟦work.len()⟧) ⌝ }
     requires { ⌜ nodes < 2 ^ 32 ⌝ }
-    requires { ⌜ Counts (cells at nodes (now numbers)) ⌝ }
+    requires { ⌜ ChildCounts (cells at nodes (now numbers)) ⌝ }
     ensures { λ r. ⌜ now (numbers .exit) ≡ sets (now (numbers .entry)) links (linkUp 0 (cells at nodes (now (numbers .entry))) .links) ⌝ }
     ensures { λ r. ⌜ drop nodes (now (work .exit)) ≡ drop nodes (now (work .entry)) ⌝ }
 {
@@ -41,7 +41,7 @@ pub fn link_nodes(numbers: &mut [u32], table: usize, nodes: usize, links: usize,
     requires { do ⌜ links + nodes ≤ (← ⟦numbers.len()⟧) ⌝ }
     requires { do ⌜ nodes ≤ (← ⟦work.len()⟧) ⌝ }
     requires { ⌜ nodes < 2 ^ 32 ⌝ }
-    requires { ⌜ Counts (cells (table + 1) nodes (now numbers)) ⌝ }
+    requires { ⌜ ChildCounts (cells (table + 1) nodes (now numbers)) ⌝ }
     ensures { λ r. ⌜ now (numbers .exit) ≡ sets (column table nodes (blockStart table (now (numbers .entry))) (now (numbers .entry))) links (linkUp 0 (cells (table + 1) nodes (now (numbers .entry))) .links) ⌝ }
     ensures { λ r. ⌜ drop nodes (now (work .exit)) ≡ drop nodes (now (work .entry)) ⌝ }
 {

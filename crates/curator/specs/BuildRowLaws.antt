@@ -12,7 +12,6 @@ use lib.ListN.{getD, length}
 use Rattle.store.specs.Store.{Store}
 use Rattle.tree.specs.Tree.{treeOf, size}
 use Rattle.curator.specs.declared.Changed.{Changed}
-use Rattle.curator.specs.declared.Changed.the-variants as Changed′
 use Rattle.settings.specs.declared.Check.{Check}
 use Rattle.settings.specs.declared.Check.the-variants.{Fine, Refused}
 use Rattle.curator.specs.declared.CuratorIndex.{CuratorIndex}

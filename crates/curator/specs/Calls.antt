@@ -5,7 +5,6 @@ use mathlib.Core.List.{List, map}
 use lib.Ieee.{Float}
 use Rattle.lists.specs.Lists.{part, pieces}
 use Rattle.label.specs.Fnv.{fnv}
-use Rattle.store.specs.declared.Shape.{Shape}
 use Rattle.store.specs.Store.{Store, ownersAt}
 use Rattle.cluster.specs.Vectors.{vectorsIn}
 use Rattle.tree.specs.Tree.{Splitting}

@@ -9,11 +9,12 @@ use lib.ListN.{length, set, replicate}
 use lib.Seq.{sets}
 use Rattle.vector.specs.Vector.{dot, Normalized}
 use Rattle.store.specs.declared.Shape.{Shape}
-use Rattle.store.specs.Store.{Store, centroidsAt, centresAt, ownersAt, orderAt, nodesAt, linksAt, entryOrderAt, filtersAt, workSize}
+use Rattle.store.specs.Store.{Store, centroidsAt, ownersAt, orderAt, nodesAt, linksAt, entryOrderAt, filtersAt, centresPart, workPart}
 use Rattle.tree.specs.Tree.{treeOf, size}
-use Rattle.tree.specs.Nodes.{Node, Entries, nodesOf}
+use Rattle.tree.specs.Nodes.{Node, nodesOf}
 use Rattle.tree.specs.Layout.{numbersOf, hashesOf, floatsOf}
 use Rattle.lists.specs.Tests.{allPass}
+use Rattle.lists.specs.Frame.{Part, Freed}
 use Rattle.settings.specs.declared.CuratorParams.{CuratorParams}
 use Rattle.settings.specs.declared.Capacities.{Capacities}
 use Rattle.curator.specs.declared.CuratorIndex.{CuratorIndex}
@@ -34,28 +35,12 @@ use Rattle.curator.specs.Calls.{factsOf, hashesOfLabels, heldVectors, he
 
 -- ---- free parts
 
--- a part of a list by its start and length
-pub record Part : Type 0 where
-  pub start : ℕ
-  pub count : ℕ
-
--- a list with those parts, and nothing else, replaced by some lists of their lengths
-unfoldable pub Freed {ℓ} : {A : Type ℓ} → List Part → List A → List A → Type ℓ
-Freed [] before after = after ≡ before
-Freed {A = A} (p ∷ parts) before after = (new : List A) × (length new ≡ p .count) × Freed parts (sets before (p .start) new) after
-
 -- what a call may leave other than it was, list by list
 pub record Free : Type 0 where
   pub floats : List Part
   pub numbers : List Part
   pub hashes : List Part
   pub work : List Part
-
-abbrev pub centresPart : Shape → Part
-centresPart s = record { start = centresAt s; count = s .dimension * s .branching }
-
-abbrev pub workPart : Shape → Part
-workPart s = record { start = 0; count = workSize s }
 
 -- The table's last column. Row 13: 'centroids, the six per node, child links, leaf orders, filters, work, centres'; row 15: 'work'; no other row
 -- has anything there.

@@ -1,11 +1,10 @@
 -- Document 01, 'Refusals and what they leave': rows in their order. 'A refusal is returned in its row's case and in no other; where several cases
 -- hold, the earliest in the order is returned.' The rows after 4 look at the settings, the number of vectors and entries held, whether it is built,
 -- and the call's arguments, list lengths among them, so that the same rows can be asked of a state and of the model of all calls.
-use Prim.Native.Nat.{ℕ, suc, _+_}
+use Prim.Native.Nat.{ℕ, _+_}
 use mathlib.Core.Bool.{Bool, not, _&&_, _||_, cond}
 use mathlib.Core.List.{List, [], _∷_}
 use lib.Dec.{ltb, eqb}
-use lib.Ieee.{Float}
 use lib.ListN.{length}
 use Rattle.lists.specs.Lists.{total}
 use Rattle.vector.specs.Vector.{allFinite}

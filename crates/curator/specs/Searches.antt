@@ -7,7 +7,7 @@ use lib.ListN.{length}
 use lib.Seq.{sets}
 use Rattle.vector.specs.Vector.{dot, Normalized}
 use Rattle.label.specs.Fnv.{fnv}
-use Rattle.store.specs.Store.{Store}
+use Rattle.store.specs.Store.{Store, workPart}
 use Rattle.walk.specs.declared.Wanted.{Wanted}
 use Rattle.walk.specs.declared.Wanted.the-variants.{Everything, Label}
 use Rattle.walk.specs.Walk.{State, damaged, going, walk}
@@ -26,7 +26,7 @@ use Rattle.curator.specs.Arguments.{Asked, everything, labelled, SearchC
 use Rattle.curator.specs.Rows.{firstOf, stateRow, searchRows}
 use Rattle.curator.specs.Calls.{factsOf}
 use Rattle.store.specs.Lent.{lengthsOf}
-use Rattle.curator.specs.Changes.{Freed, workPart}
+use Rattle.lists.specs.Frame.{Freed}
 
 unfoldable pub wantedOf : Asked → Wanted
 unfolding fnv

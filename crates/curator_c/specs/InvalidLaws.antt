@@ -1,7 +1,7 @@
 -- 'No sound state in the list is 4': what each call does where the list holds no state, or one that is not sound.
 use Prim.Native.Nat.{ℕ}
 use mathlib.Core.Bool.{Bool, false, not}
-use mathlib.Core.List.{List, []}
+use mathlib.Core.List.{List}
 use mathlib.Core.Path.{_≡_, ap, _∙_, subst}
 use lib.Ieee.{Float}
 use lib.ListN.{length}
@@ -13,14 +13,14 @@ use Rattle.settings.specs.declared.Check.{Check}
 use Rattle.settings.specs.declared.Check.the-variants as Check′
 use Rattle.curator.specs.declared.CuratorIndex.{CuratorIndex}
 use Rattle.curator.specs.declared.Found.{Found}
-use Rattle.curator.specs.declared.Found.the-variants as Found′
 use Rattle.curator.specs.Limits.{stateSound}
 use Rattle.curator.specs.Outcome.{foundNumber, foundValues, ChangeRefused}
 use Rattle.curator.specs.Rows.{stateRow, addRows, buildRows, searchRows}
 use Rattle.curator.specs.RowLaws.{row-stops}
 use Rattle.curator.specs.Calls.{factsOf}
 use Rattle.store.specs.Lent.{lengthsOf}
-use Rattle.curator.specs.Changes.{AddsBy, addCheck, Adds, ownersDamaged, tooManyNodes, BuildsBy, buildCheck, Builds, Freed, freeOf}
+use Rattle.curator.specs.Changes.{AddsBy, addCheck, Adds, ownersDamaged, tooManyNodes, BuildsBy, buildCheck, Builds, freeOf}
+use Rattle.lists.specs.Frame.{Freed}
 use Rattle.curator.specs.Arguments.{AddCall, SearchCall, askingOf}
 use Rattle.curator.specs.Searches.{Untouched, SearchesBy, searchCheck, Searches}
 use Rattle.curator_c.specs.declared.state.Held.{Held}

@@ -13,7 +13,6 @@ use Rattle.curator.specs.declared.Changed.{Changed}
 use Rattle.curator.specs.declared.Changed.the-variants as Changed′
 use Rattle.settings.specs.declared.CuratorParams.{CuratorParams}
 use Rattle.curator.specs.declared.Found.{Found}
-use Rattle.curator.specs.declared.Found.the-variants as Found′
 use Rattle.settings.specs.declared.refusal.Refusal.{Refusal}
 use Rattle.settings.specs.declared.refusal.Refusal.the-variants as Refusal′
 use Rattle.settings.specs.declared.refusal.StateRefusal.the-variants.{InvalidState}

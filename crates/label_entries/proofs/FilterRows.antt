@@ -17,8 +17,9 @@ use Rattle.tree.specs.Tree.{Splitting, treeOf, size}
 use Rattle.tree.specs.Nodes.{Entries, Node, nodesOf}
 use Rattle.tree.specs.Layout.{startOf, numbersOf, hashesOf}
 use Rattle.tree.specs.TreeLaws.{fair-treeOf}
-use Rattle.tree.specs.NodeLaws.{length-nodesOf, entry-below}
-use Rattle.tree.specs.Subtrees.{node-entries, node-filter-length, node-children, filter-at}
+use Rattle.tree.specs.NodeLaws.{length-nodesOf}
+use Rattle.tree.specs.NodeEntryLaws.{entry-below}
+use Rattle.tree.specs.NumberedNodes.{node-entries, node-filter-length, node-children, filter-at}
 use Rattle.tree.specs.LayoutLaws.{blockAt, NodesFit, sixOf, length-numbersOf, field-read, children-read, entries-read, start-end, length-blocks, row-read}
 use Rattle.node_table.specs.Table.{placesOf, cell}
 use Rattle.node_filters.specs.Filters.{entryBlock, childBlock, filterMade, filtersMade}

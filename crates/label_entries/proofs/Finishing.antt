@@ -2,28 +2,28 @@
 use Prim.Native.Nat.{ℕ, zero, suc, _+_, _-_, _*_, _≤_, _<_}
 use mathlib.Core.Path.{_≡_, refl, sym, ap, ap₂, _∙_, subst}
 use mathlib.Core.List.{List, [], _∷_, map}
-use native.Mathlib.Nat.{zero-add}
 use native.Mathlib.Omega.{arith}
 use lib.ListN.{length, getD, set, drop}
 use lib.Seq.{sets, length-sets, take-length, drop-drop, drop-set-lt}
 use Rattle.lists.specs.Lists.{part, joined, countFrom}
 use Rattle.lists.specs.Counting.{sumOf, sumOf-map, length-joined}
 use Rattle.lists.specs.Partition.{count, List·Permᴰ}
-use Rattle.lists.specs.Parts.{length-part, getD-part, getD-sets-before, set-sets-before, sets-self, sets-part}
+use Rattle.lists.specs.Parts.{length-part, getD-part, getD-sets-before, set-sets-before, sets-self}
 use Rattle.store.specs.declared.Shape.{Shape}
 use Rattle.store.specs.Store.{ownersAt, orderAt, nodesAt, linksAt, entryOrderAt, workSize}
 use Rattle.tree.specs.Nodes.{Entries, Node}
 use Rattle.tree.specs.Layout.{sixFrom, numbersOf}
 use Rattle.tree.specs.TreeLaws.{once-perm, once-countFrom}
-use Rattle.tree.specs.NodeLaws.{length-ids, length-nodesOf, perm-entries}
+use Rattle.tree.specs.NodeLaws.{length-ids, length-nodesOf}
+use Rattle.tree.specs.NodeEntryLaws.{perm-entries}
 use Rattle.tree.specs.Links.{Linked, linkUp, linkUp-nodesOf, length-linked}
 use Rattle.tree.specs.LayoutLaws.{blockAt, block-read, block-end, NodesFit, nodesOf-fit}
 use Rattle.tree.specs.Made.{madeFrom}
 use Rattle.node_table.specs.Table.{written, cellAt, cell, cells, column, sumTo, blockStart}
-use Rattle.child_links.specs.Contracts.{Counts}
+use Rattle.child_links.specs.Contracts.{ChildCounts}
 use Rattle.entry_leaves.specs.Leaves.{marked, leavesMarked}
 use Rattle.entry_order.specs.EntryOrder.{classStart, classPlace}
-use Rattle.label_entries.specs.Contracts.{held, Room, AllMade, nodesMade, Used}
+use Rattle.label_entries.specs.Contracts.{held, Room, AllMade, nodesMade}
 use Rattle.node_table.specs.TableLaws.{Distinct, length-written, getD-written-other, getD-written-same, sumTo-congr}
 use Rattle.entry_leaves.specs.LeavesLaws.{length-marked}
 use Rattle.label_entries.proofs.Classes.{classTo, length-class-all, sumTo-block, sorted-is}
@@ -55,15 +55,6 @@ drop-marked places counts (suc n) l m h =
     drop-written (λ k. places (sumTo counts n + k)) (λ k. n) (counts n) (marked places counts n l) m
     (λ k b. h (sumTo counts n + k) (let x : sumTo counts n + k < sumTo counts n + counts n = omega arith in x))
     ∙ drop-marked places counts n l m (λ p b. h p (let x : p < sumTo counts n + counts n = omega arith in x))
-
--- a list that is as before past a place
-pub used-front : (before after : List ℕ) (m : ℕ) → m ≤ length before → length after ≡ length before → drop m after ≡ drop m before → Used m before after
-used-front before after m h n e =
-    let z = zero-add m in (
-      part 0 m after,
-      length-part 0 m after (omega arith),
-      sym (sets-part before after 0 m (omega arith) (omega arith) refl (ap (λ (k : ℕ). drop k before) z ∙ sym e ∙ ap (λ (k : ℕ). drop k after) (sym z))),
-    )
 
 pub drop-later : (l m : List ℕ) (a b : ℕ) → a ≤ b → drop a l ≡ drop a m → drop b l ≡ drop b m
 drop-later l m a b h e =
@@ -120,7 +111,7 @@ module _ (s : Shape) (n e rows : ℕ) (numbers hashes work₀ : List ℕ) (room 
   pub links-is : linkUp 0 (cells (nodesAt s + 1) rows numbers) .links ≡ joined (λ node. node .children) nodes
   links-is = ap (λ (r : Linked). r .links) linked-is
 
-  pub counts-ok : Counts (cells (nodesAt s + 1) rows numbers)
+  pub counts-ok : ChildCounts (cells (nodesAt s + 1) rows numbers)
   counts-ok =
       let cs = cells (nodesAt s + 1) rows numbers in
       let a : sumOf (λ c. c) cs ≡ length (linkUp 0 cs .links) =

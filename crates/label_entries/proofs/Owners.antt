@@ -18,7 +18,7 @@ use Rattle.tree.specs.Tree.{Splitting, treeOf}
 use Rattle.tree.specs.Nodes.{Entries, Node, nodesOf, entriesOf}
 use Rattle.tree.specs.TreeLaws.{Once, once-perm, once-countFrom}
 use Rattle.tree.specs.NodeLaws.{perm-ids, length-ids, id-one-leaf}
-use Rattle.tree.specs.Subtrees.{node-entries}
+use Rattle.tree.specs.NumberedNodes.{node-entries}
 use Rattle.node_table.specs.Table.{written, sumTo}
 use Rattle.entry_leaves.specs.Leaves.{marked}
 use Rattle.node_table.specs.TableLaws.{Distinct, last-or-below, getD-written-other, getD-written-same, sumTo-next}

@@ -2,26 +2,27 @@
 -- parts as the program holds them.
 use Prim.Native.Nat.{ℕ, _+_, _*_, _≤_, _<_, _^_}
 use mathlib.Core.Path.{_≡_, refl, sym, ap, ap₂, _∙_, subst}
-use mathlib.Core.List.{List}
+use mathlib.Core.List.{List, [], _∷_}
 use native.Mathlib.Omega.{arith}
 use lib.ListN.{length, getD, drop}
 use lib.Seq.{sets, length-sets}
 use Rattle.lists.specs.Lists.{part}
 use Rattle.lists.specs.Partition.{count}
+use Rattle.lists.specs.Frame.{Freed, freed-front}
 use Rattle.store.specs.declared.Shape.{Shape}
 use Rattle.store.specs.Store.{nodesAt, linksAt, workSize}
 use Rattle.tree.specs.Layout.{numbersOf, hashesOf}
 use Rattle.tree.specs.Links.{linkUp}
 use Rattle.node_table.specs.declared.Places.{Places}
 use Rattle.node_table.specs.Table.{written, cellAt, cell, cells, column, sumTo, blockStart, placesOf}
-use Rattle.child_links.specs.Contracts.{Counts}
+use Rattle.child_links.specs.Contracts.{ChildCounts}
 use Rattle.entry_leaves.specs.Leaves.{leavesMarked}
 use Rattle.entry_order.specs.EntryOrder.{classStart, classPlace}
 use Rattle.node_filters.specs.Filters.{filtersMade}
 use Rattle.node_filters.specs.Contracts.{RowFits}
-use Rattle.label_entries.specs.Contracts.{held, Room, AllMade, nodesMade, Used}
+use Rattle.label_entries.specs.Contracts.{held, Room, AllMade, nodesMade}
 use Rattle.node_table.specs.TableLaws.{length-written}
-use Rattle.label_entries.proofs.Finishing.{fit, owners-count, counts-ok, linked, ids-sum, places-below, owner-below, after, leaves, length-leaves, leaves-below, numbers-final, work-final, used-front, drop-later}
+use Rattle.label_entries.proofs.Finishing.{fit, owners-count, counts-ok, linked, ids-sum, places-below, owner-below, after, leaves, length-leaves, leaves-below, numbers-final, work-final, drop-later}
 use Rattle.label_entries.proofs.FilterRows.{rows-fit, filters-final}
 
 -- what the nodes' links are written over, and what each later step asks
@@ -124,8 +125,8 @@ module _ (g : Given) where
 
   module _ (made : AllMade s n e rows numbers hashes) where
     -- the child counts
-    pub counts-at : Counts (cells (p .table + 1) rows numbers)
-    counts-at = subst (λ (q : Places). Counts (cells (q .table + 1) rows numbers)) (sym is) (counts-ok s n e rows numbers hashes work room made)
+    pub counts-at : ChildCounts (cells (p .table + 1) rows numbers)
+    counts-at = subst (λ (q : Places). ChildCounts (cells (q .table + 1) rows numbers)) (sym is) (counts-ok s n e rows numbers hashes work room made)
 
     module _ (numbers₁ work₁ : List ℕ) (is₁ : numbers₁ ≡ linkedAt rows numbers p) (size₁ : length work₁ ≡ length work) where
       numbers-linked : numbers₁ ≡ linked s n e rows numbers hashes work room made
@@ -204,9 +205,9 @@ module _ (g : Given) where
               ∙ filters-final s (made .splitting) (made .vectors) (held s e numbers hashes) (made .branching) numbers hashes (fit s n e rows numbers hashes work room made)
               (room .numbers-long) (room .hashes-long) (omega arith) e f o refl
 
-        pub work-kept : length work₂ ≡ length work → drop rows work₁ ≡ drop rows work → Used (workSize s) work work₂
+        pub work-kept : length work₂ ≡ length work → drop rows work₁ ≡ drop rows work → Freed (record { start = 0; count = workSize s } ∷ []) work work₂
         work-kept size₂ d =
             let a = room .nodes-fit in
-            used-front work work₂ (workSize s) (room .work-long) size₂
+            freed-front (workSize s) work work₂ (room .work-long) size₂
             (ap (drop (workSize s)) work-marked ∙ work-final s n e rows numbers hashes work room made work₁ long
             ∙ drop-later work₁ work rows (workSize s) (omega arith) d)

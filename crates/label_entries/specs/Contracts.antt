@@ -1,13 +1,13 @@
 -- The contract of the finishing passes: what they are given once all nodes of an index are made, and what they leave.
 use Prim.Native.Nat.{ℕ, _+_, _*_, _≤_, _<_}
-use mathlib.Core.List.{List}
+use mathlib.Core.List.{List, [], _∷_}
 use mathlib.Core.Path.{_≡_}
 use lib.Ieee.{Float}
 use lib.ListN.{length, getD}
-use lib.Seq.{sets}
 use Rattle.lists.specs.Lists.{part, joined}
+use Rattle.lists.specs.Frame.{Freed}
 use Rattle.store.specs.declared.Shape.{Shape}
-use Rattle.store.specs.Store.{Limits, ownersAt, orderAt, nodesAt, numbersSize, hashesSize, workSize}
+use Rattle.store.specs.Store.{Limits, ownersAt, orderAt, nodesAt, numbersSize, hashesSize, workSize, workPart}
 use Rattle.tree.specs.Tree.{Splitting}
 use Rattle.tree.specs.Nodes.{Entries, Node, nodesOf}
 use Rattle.tree.specs.Layout.{numbersOf, hashesOf}
@@ -43,12 +43,8 @@ pub record AllMade (s : Shape) (count entries nodes : ℕ) (numbers hashes : Lis
 abbrev pub nodesMade : (s : Shape) (count entries nodes : ℕ) (numbers hashes : List ℕ) → AllMade s count entries nodes numbers hashes → List Node
 nodesMade s count entries nodes numbers hashes made = nodesOf (made .splitting) (made .vectors) (held s entries numbers hashes)
 
--- a list of which a front was used
-abbrev pub Used : ℕ → List ℕ → List ℕ → Type 0
-Used size before after = (front : List ℕ) × (length front ≡ size) × (after ≡ sets before 0 front)
-
 -- The numbers and the hashes have the nodes written in full; of the work list nothing past its size is touched.
 pub record Finished (s : Shape) (count entries nodes : ℕ) (numbers hashes work numbers′ hashes′ work′ : List ℕ) : Type 0 where
   pub numbers-are : (made : AllMade s count entries nodes numbers hashes) → numbers′ ≡ numbersOf s (nodesMade s count entries nodes numbers hashes made) numbers
   pub hashes-are : (made : AllMade s count entries nodes numbers hashes) → hashes′ ≡ hashesOf s (nodesMade s count entries nodes numbers hashes made) hashes
-  pub work-used : Used (workSize s) work work′
+  pub work-free : Freed (workPart s ∷ []) work work′

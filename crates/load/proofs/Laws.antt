@@ -29,7 +29,6 @@ use Rattle.echo_file.specs.FieldLaws.{bytes-drop, length-numbers}
 use Rattle.echo_file.specs.Decode.{Decoded, numbers, decode}
 use Rattle.text.specs.Lines.{Written}
 use Rattle.echo_file.specs.DecodeLaws.{finds, none-exactly}
-use Rattle.echo_file.specs.declared.Known.{Known}
 use Rattle.echo_file.specs.declared.Located.{Located}
 use Rattle.echo_file.specs.declared.Located.the-variants.{Settings as SettingsAt, Vector, Filtered, Search}
 use Rattle.echo_file.specs.declared.Reading.the-variants.{Found}

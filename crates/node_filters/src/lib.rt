@@ -52,13 +52,13 @@ fn unite_children(hashes: &mut [u64], filters: usize, at: usize, children: &[u32
 }
 
 // The ends of a block of numbers.
-struct Block {
+struct BlockEnds {
     from: usize,
     to: usize,
 }
 
 // The block whose start, counted from `first`, and count stand at two places.
-fn block_ends(numbers: &[u32], first: usize, start_at: usize, count_at: usize) -> Block
+fn block_ends(numbers: &[u32], first: usize, start_at: usize, count_at: usize) -> BlockEnds
     requires { ⌜ «start_at» < length (now numbers) ⌝ }
     requires { ⌜ «count_at» < length (now numbers) ⌝ }
     requires { ⌜ first + getD (now numbers) «start_at» 0 + getD (now numbers) «count_at» 0 ≤ length (now numbers) ⌝ }
@@ -66,7 +66,7 @@ fn block_ends(numbers: &[u32], first: usize, start_at: usize, count_at: usize) -
     ensures { λ r. ⌜ r .to ≡ first + getD (now (numbers .entry)) «start_at» 0 + getD (now (numbers .entry)) «count_at» 0 ⌝ }
 {
     let from = first + wide(numbers[start_at]);
-    Block {
+    BlockEnds {
         from: from,
         to: from + wide(numbers[count_at]),
     }

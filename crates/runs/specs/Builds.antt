@@ -8,8 +8,9 @@ use mathlib.Core.List.{List, _∷_, []}
 use mathlib.Core.Path.{_≡_, refl, sym, ap, _∙_, subst}
 use lib.Dec.{ltb}
 use lib.ListN.{length}
+use Rattle.lists.specs.Frame.{freed-length}
 use Rattle.store.specs.declared.Lengths.{Lengths}
-use Rattle.store.specs.Store.{Store}
+use Rattle.store.specs.Store.{Store, workPart}
 use Rattle.store.specs.Lent.{lengthsOf, Long, listsShort, joinStores}
 use Rattle.store.specs.Agree.{agree-sym, agree-join}
 use Rattle.curator.specs.declared.CuratorIndex.{CuratorIndex}
@@ -25,7 +26,7 @@ use Rattle.settings.specs.Refusals.{checkNumber}
 use Rattle.curator.specs.Limits.{indexShape}
 use Rattle.curator.specs.Rows.{Facts, firstOf, buildRows}
 use Rattle.curator.specs.Calls.{builtWith}
-use Rattle.curator.specs.Changes.{workPart, freeOf, Left, Builds, BuildsBy, BuildsFine, buildCheck, LaidOut, heldNodes}
+use Rattle.curator.specs.Changes.{freeOf, Left, Builds, BuildsBy, BuildsFine, buildCheck, LaidOut, heldNodes}
 use Rattle.runs.specs.Calls.{build}
 use Rattle.runs.specs.Model.{Setting, Model, rowVectors, rowHashes, rowEntries, nodeCount, modelNodes, modelFacts, settingShape, changeRows, changeCheck, carriedOut, changedBy}
 use Rattle.runs.specs.Run.{nextIndex}
@@ -33,7 +34,7 @@ use Rattle.runs.specs.Theorem.{withBudget}
 use Rattle.runs.specs.State.{Allowed, Within, Small, stateOf, nodesHeld}
 use Rattle.runs.specs.Held.{Held, rowsEnd, SameHeld, held-same}
 use Rattle.runs.specs.Refusals.{build-refused, build-room, BuildRoom}
-use Rattle.runs.specs.Built.{Laid, NodeFacts, node-facts, laid-same, laid-out, built-held, held-nodes, laid-lengths, lays-out, left-lengths, left-same, left-held, leaves, freed-length}
+use Rattle.runs.specs.Built.{Laid, NodeFacts, node-facts, laid-same, laid-out, built-held, held-nodes, laid-lengths, lays-out, left-lengths, left-same, left-held, leaves}
 use Rattle.runs.specs.Invariant.{Invariant, long-same, held-front, held-back}
 use Rattle.runs.specs.ChangeLaws.{Others, ChangeEnds, ChangeOutcome, ChangeLaws}
 use Rattle.curator.specs.OutcomeLaws.{refused-is, carried-is, is-carried, is-refused}

@@ -7,17 +7,18 @@ use mathlib.Core.List.{List, [], _∷_, List·Memᴰ}
 use mathlib.Core.Path.{_≡_, refl, sym, ap, ap₂, _∙_, subst}
 use lib.Ieee.{Float, nan}
 use lib.ListN.{length, getD, take, replicate, length-replicate}
-use lib.Seq.{sets, length-sets}
+use lib.Seq.{sets}
 use Rattle.lists.specs.Lists.{part, joined}
 use Rattle.lists.specs.Parts.{part-sets-same, take-sets}
+use Rattle.lists.specs.Frame.{Freed, From, freed-length, freed-take, freed}
 use Rattle.store.specs.declared.Shape.{Shape}
-use Rattle.store.specs.Store.{Store, centroidsAt, centresAt, orderAt, nodesAt, linksAt, entryOrderAt, filtersAt, floatsSize, numbersSize, hashesSize}
+use Rattle.store.specs.Store.{Store, centroidsAt, centresAt, orderAt, nodesAt, linksAt, entryOrderAt, filtersAt, floatsSize, numbersSize, hashesSize, workPart}
 use Rattle.store.specs.Lent.{storeOf, lengthsOf, sizesOf, Long}
 use Rattle.store.specs.Agree.{Agree, part-same}
 use Rattle.tree.specs.Nodes.{Node, Entries, nodesOf}
 use Rattle.tree.specs.Layout.{sixFrom, floatsOf, numbersOf, hashesOf}
 use Rattle.tree.specs.NodeLaws.{length-nodesOf}
-use Rattle.tree.specs.Subtrees.{nodesOf-four, nodesOf-wide}
+use Rattle.tree.specs.NumberedNodes.{nodesOf-four, nodesOf-wide}
 use Rattle.tree.specs.LayoutLaws.{NodesFit, nodesOf-fit, length-blocks, length-sixFrom, numbers-order, numbers-six, numbers-links, numbers-entries, floats-centroids, length-floatsOf, length-numbersOf, length-hashesOf}
 use Rattle.curator.specs.declared.CuratorIndex.{CuratorIndex}
 use Rattle.settings.specs.declared.refusal.Refusal.{Refusal}
@@ -26,7 +27,7 @@ use Rattle.settings.specs.declared.refusal.StoreRefusal.{StoreRefusal}
 use Rattle.settings.specs.declared.refusal.StoreRefusal.the-variants.{ListTooShort, VectorsFull, EntriesFull, NodesFull, Damaged}
 use Rattle.curator.specs.Limits.{indexShape}
 use Rattle.curator.specs.Calls.{splittingOf}
-use Rattle.curator.specs.Changes.{LaidOut, heldNodes, Part, Freed, workPart, freeOf, freeStore, Left}
+use Rattle.curator.specs.Changes.{LaidOut, heldNodes, freeOf, freeStore, Left}
 use Rattle.runs.specs.Model.{Setting, Model, rowVectors, rowEntries, nodeCount, modelNodes, settingShape}
 use Rattle.runs.specs.State.{Allowed, Within, limits, stateOf}
 use Rattle.runs.specs.Held.{Held, rowsEnd, SameHeld, held-vectors, held-entries, owner-below, owners-length, length-vectors}
@@ -173,34 +174,6 @@ module _ (s : Setting) (m : Model) (store store′ : Store) (work work′ : List
             sym (ap (take (filtersAt sh)) hashes-are
             ∙ take-sets (filtersAt sh) (store .hashes) (filtersAt sh) (joined (λ node. node .filter) N) (omega arith));
       }
-
--- ---- freed parts
-
--- every part starts at or behind a place
-abbrev From : ℕ → List Part → Type 0
-From n [] = Unit {0}
-From n (p ∷ parts) = (n ≤ p .start) × From n parts
-
-module _ {A : Type 0} where
-  pub freed-length : (parts : List Part) (before after : List A) → Freed parts before after → length before ≡ length after
-  unfolding Freed
-  freed-length [] before after f = ap length (sym f)
-  freed-length (p ∷ parts) before after f = sym (length-sets before (p .start) (f .0)) ∙ freed-length parts (sets before (p .start) (f .0)) after (f .2)
-
-  freed-take : (n : ℕ) (parts : List Part) (before after : List A) → From n parts → Freed parts before after → take n before ≡ take n after
-  unfolding Freed
-  freed-take n [] before after h f = ap (take n) (sym f)
-  freed-take n (p ∷ parts) before after h f = sym (take-sets n before (p .start) (f .0) (h .0))
-      ∙ freed-take n parts (sets before (p .start) (f .0)) after (h .1) (f .2)
-
-  -- any list can be left so
-  pub freed : (x : A) (parts : List Part) (before : List A) → (after : List A) × Freed parts before after
-  unfolding Freed
-  freed x [] before = (before, refl)
-  freed x (p ∷ parts) before =
-      let new = replicate (p .count) x in
-      let r = freed x parts (sets before (p .start) new) in
-      (r .0, (new, length-replicate (p .count) x, r .1))
 
 -- ---- an accepted build, whatever index and lists it is given
 

@@ -18,8 +18,11 @@ use Rattle.record_queue.specs.SortedLaws.{perm-sort}
 use Rattle.tree.specs.Tree.{Tree, Forest, leaf, inner, none, more, Splitting, treeOf, size}
 use Rattle.tree.specs.Nodes.{Node, Entries, roots, entriesOf, filterOf}
 use Rattle.tree.specs.TreeLaws.{keptIds, leafIds, forestIds, Fair, Once, once-left, once-right, once-perm, once-treeOf, fair-treeOf, perm-leafIds, kept-grow, size-some, size-treeOf}
-use Rattle.tree.specs.NodeLaws.{treesOf, perm-children-ids, entriesOf-nil, entriesOf-perm, entriesOf-append}
-use Rattle.tree.specs.Subtrees.{subs, forestSubs, subs-cons, length-subs, childrenOf, ownIds, rootNode, getD-nodesOf, subs-children, child-range, children-tile, fair-sub}
+use Rattle.tree.specs.NodeLaws.{treesOf}
+use Rattle.tree.specs.NodeEntryLaws.{entriesOf-nil, entriesOf-perm, entriesOf-append}
+use Rattle.tree.specs.NodeFilterLaws.{perm-children-ids}
+use Rattle.tree.specs.Subtrees.{subs, forestSubs, subs-cons, length-subs, childrenOf, ownIds, subs-children, child-range, children-tile, fair-sub}
+use Rattle.tree.specs.NumberedNodes.{rootNode, getD-nodesOf}
 use Rattle.walk.specs.declared.Wanted.{Wanted}
 use Rattle.walk.specs.Walk.{children, hits, shown}
 use Rattle.walk.specs.Wanted.{LeafList, vector-list, entry-list, denies, listRead, given, heldIn}

@@ -5,9 +5,10 @@ use mathlib.Core.List.{List, [], _∷_}
 use mathlib.Core.Path.{_≡_, refl, sym, ap, _∙_, subst}
 use lib.ListN.{length}
 use lib.Seq.{sets}
+use Rattle.lists.specs.Frame.{freed}
 use Rattle.vector.specs.Normalized.{normalized, normalized-holds}
 use Rattle.store.specs.declared.Lengths.{Lengths}
-use Rattle.store.specs.Store.{Store}
+use Rattle.store.specs.Store.{Store, workPart}
 use Rattle.store.specs.Lent.{lengthsOf, NoShorter, joinStores}
 use Rattle.walk.specs.Walk.{State, damaged, going, walk}
 use Rattle.walk.specs.Answer.{answer}
@@ -20,14 +21,13 @@ use Rattle.curator.specs.declared.Found.the-variants as Found′
 use Rattle.settings.specs.declared.refusal.Refusal.the-variants as Refusal′
 use Rattle.settings.specs.declared.refusal.StoreRefusal.the-variants as StoreRefusal′
 use Rattle.curator.specs.Limits.{indexShape}
-use Rattle.curator.specs.Changes.{workPart, Creates}
+use Rattle.curator.specs.Changes.{Creates}
 use Rattle.curator.specs.Searches.{SearchEnd, wantedOf, Searches, SearchesBy, searchCheck, WalkedTo}
 use Rattle.curator.specs.Arguments.{SearchCall}
 use Rattle.runs.specs.Calls.{Change, Call, change, search, Typed, TypedCall, AllTyped}
 use Rattle.runs.specs.Model.{Setting}
 use Rattle.runs.specs.Run.{Ended, changed, found, nextIndex, Step, RunFrom, done, next, Run}
 use Rattle.store.specs.Fronts.{frontOf, restOf, front-rest, front-lent, join-lengths, noLengths, addLengths, both-fit, same-fit, zeros}
-use Rattle.runs.specs.Built.{freed}
 use Rattle.runs.specs.Reached.{change-laws}
 use Rattle.curator.specs.OutcomeLaws.{is-search-refused, is-found}
 

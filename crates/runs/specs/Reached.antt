@@ -4,7 +4,7 @@ use Prim.Native.Nat.{ℕ, suc}
 use native.Mathlib.Omega.{arith}
 use mathlib.Core.Logic.{inr}
 use mathlib.Core.List.{List, [], _∷_}
-use mathlib.Core.Path.{_≡_, refl, sym, ap, _∙_, subst}
+use mathlib.Core.Path.{_≡_, refl, sym, _∙_, subst}
 use lib.ListN.{length, take}
 use Rattle.store.specs.declared.Lengths.{Lengths}
 use Rattle.store.specs.Store.{Store}
@@ -16,7 +16,6 @@ use Rattle.settings.specs.declared.Check.{Check}
 use Rattle.settings.specs.declared.Check.the-variants as Check′
 use Rattle.curator.specs.declared.Changed.{Changed}
 use Rattle.curator.specs.declared.Found.the-variants.{Hits}
-use Rattle.curator.specs.Outcome.{foundNumber}
 use Rattle.settings.specs.Refusals.{number, checkNumber}
 use Rattle.curator.specs.Rows.{searchRows}
 use Rattle.curator.specs.RowLaws.{number-positive}

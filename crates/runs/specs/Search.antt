@@ -4,7 +4,7 @@ use Prim.Native.Nat.{ℕ}
 use native.Mathlib.Omega.{arith}
 use mathlib.Core.Bool.{Bool, true, false, false≢true}
 use mathlib.Core.List.{List}
-use mathlib.Core.Path.{_≡_, refl, sym, ap, ap₂, _∙_, subst}
+use mathlib.Core.Path.{_≡_, refl, sym, ap₂, _∙_, subst}
 use lib.Ieee.{Float}
 use lib.ListN.{length}
 use Rattle.vector.specs.Normalized.{normalized, normalized-is}
@@ -17,7 +17,6 @@ use Rattle.walk.specs.StoreView.{storeView}
 use Rattle.walk.specs.SoundWalk.{sound-goes}
 use Rattle.settings.specs.declared.Check.{Check}
 use Rattle.settings.specs.declared.Check.the-variants as Check′
-use Rattle.curator.specs.Outcome.{foundNumber}
 use Rattle.curator.specs.Arguments.{Question, SearchCall}
 use Rattle.curator.specs.Searches.{SearchEnd, wantedOf, Searches, SearchesBy, WalkedTo}
 use Rattle.runs.specs.Calls.{search}

@@ -22,8 +22,9 @@ use Rattle.store.specs.Store.{Store, vectorAt, nodesAt, linksAt, filtersAt}
 use Rattle.tree.specs.Tree.{treeOf}
 use Rattle.tree.specs.Nodes.{Node, nodesOf, entriesOf}
 use Rattle.tree.specs.Layout.{startOf, sixFrom}
-use Rattle.tree.specs.NodeLaws.{length-ids, length-entries, id-below, entry-below, length-links}
-use Rattle.tree.specs.Subtrees.{node-entries, node-children}
+use Rattle.tree.specs.NodeLaws.{length-ids, id-below, length-links}
+use Rattle.tree.specs.NodeEntryLaws.{length-entries, entry-below}
+use Rattle.tree.specs.NumberedNodes.{node-entries, node-children}
 use Rattle.tree.specs.LayoutLaws.{blockAt, row-read, start-read, start-end, six-getD, sixOf, length-sixFrom, length-blocks}
 use Rattle.walk.specs.declared.Wanted.{Wanted}
 use Rattle.walk.specs.Walk.{Shown, children, hits, damage, shown, walk}

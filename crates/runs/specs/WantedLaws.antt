@@ -19,7 +19,8 @@ use Rattle.lists.specs.Partition.{List·Permᴰ, Permᴰ·map, perm-keep}
 use Rattle.bloom.specs.Filter.{mayContain}
 use Rattle.store.specs.declared.Counts.{Counts}
 use Rattle.tree.specs.Nodes.{entriesOf, filterOf}
-use Rattle.tree.specs.NodeLaws.{entriesOf-all, filterOf-admits}
+use Rattle.tree.specs.NodeEntryLaws.{entriesOf-all}
+use Rattle.tree.specs.NodeFilterLaws.{filterOf-admits}
 use Rattle.walk.specs.declared.Wanted.{Wanted}
 use Rattle.walk.specs.declared.Wanted.the-variants.{Everything, Label}
 use Rattle.walk.specs.Wanted.{EntryRead, LeafList, vector-list, entry-list, denies, listRead, passes, given, heldIn}

@@ -1,5 +1,5 @@
 -- What no row's case gives, and the walk's end as a search's.
-use Prim.Native.Nat.{ℕ, _+_, _≤_}
+use Prim.Native.Nat.{ℕ, _≤_}
 use mathlib.Core.Bool.{Bool, true, false}
 use mathlib.Core.Path.{_≡_, sym, ap, _∙_, subst}
 use mathlib.Core.List.{List, [], _∷_}
@@ -9,11 +9,8 @@ use lib.Dec.{ltb}
 use lib.Ieee.{Float}
 use lib.ListN.{length}
 use Rattle.vector.specs.Vector.{dot, Normalized}
-use Rattle.lists.specs.Lists.{part}
-use Rattle.lists.specs.Parts.{length-part}
-use Rattle.lists.specs.Frame.{alike-is-sets}
 use Rattle.store.specs.declared.Shape.{Shape}
-use Rattle.store.specs.Store.{Store, workSize}
+use Rattle.store.specs.Store.{Store, workSize, workPart}
 use Rattle.store.specs.declared.Counts.{Counts}
 use Rattle.walk.specs.declared.Searched.{Searched}
 use Rattle.walk.specs.declared.Wanted.{Wanted}
@@ -25,8 +22,9 @@ use Rattle.settings.specs.declared.Check.{Check}
 use Rattle.settings.specs.declared.Check.the-variants.{Fine}
 use Rattle.curator.specs.declared.CuratorIndex.{CuratorIndex}
 use Rattle.curator.specs.Calls.{factsOf}
+use Rattle.lists.specs.Frame.{Freed, alike-freed}
 use Rattle.store.specs.Lent.{lengthsOf}
-use Rattle.curator.specs.Changes.{Freed, workPart}
+use Rattle.store.specs.Store.{workPart}
 use Rattle.curator.specs.Limits.{stateSound, indexShape}
 use Rattle.settings.specs.Limits.{builtAllowed}
 use Rattle.curator.specs.RowLaws.{NoneHolds, fine-none}
@@ -92,11 +90,7 @@ searches-by index store work call end check e h = subst (λ (c : Check). Searche
 
 -- a list of which only the work part changed
 pub freed : (s : Shape) (work work′ : List ℕ) → workSize s ≤ length work → Works s work work′ → Freed (workPart s ∷ []) work work′
-unfolding Freed
-freed s work work′ room w =
-    let before : 0 + workSize s ≤ length work = omega (arith, room) in
-    let after : 0 + workSize s ≤ length work′ = omega (arith, room, w .size) in
-    (part 0 (workSize s) work′, length-part 0 (workSize s) work′ after, alike-is-sets 0 (workSize s) work work′ (w .alike) before after)
+freed s work work′ room w = alike-freed (workPart s) work work′ (omega (arith, room)) (w .size) (w .alike)
 
 pub walked-to : (state : State) (index : CuratorIndex) (work : List ℕ) (call : SearchCall) (searched : Searched) (end : SearchEnd)
     → end .answer ≡ foundOf searched → Freed (workPart (indexShape index) ∷ []) work (end .work)

@@ -3,6 +3,7 @@ use Prim.Native.Nat.{ℕ, _+_, _*_, _≤_, max}
 use mathlib.Core.List.{List}
 use lib.Ieee.{Float}
 use Rattle.lists.specs.Lists.{part}
+use Rattle.lists.specs.Frame.{Part}
 use Rattle.store.specs.declared.Shape.{Shape}
 use Rattle.store.specs.declared.Counts.{Counts}
 
@@ -77,6 +78,13 @@ hitsAt s = 3 * s .nodes
 
 abbrev pub workSize : Shape → ℕ
 workSize s = 3 * s .nodes + 3 * max (s .vectors) (s .entries)
+
+-- parts that a call may leave free: cluster centres, work
+abbrev pub centresPart : Shape → Part
+centresPart s = record { start = centresAt s; count = s .dimension * s .branching }
+
+abbrev pub workPart : Shape → Part
+workPart s = record { start = 0; count = workSize s }
 
 -- 'a vector or centroid is the part of the float list that starts at its number times D'
 abbrev pub vectorAt : ℕ → List Float → ℕ → List Float

@@ -16,7 +16,8 @@ use Rattle.store.specs.Store.{vectorAt, centroidsAt, centresAt, floatsSize, ord
 use Rattle.tree.specs.Tree.{Splitting, treeOf, size}
 use Rattle.tree.specs.Nodes.{Entries, Node, nodesOf}
 use Rattle.tree.specs.Layout.{startOf, sixFrom, numbersOf, hashesOf, floatsOf}
-use Rattle.tree.specs.NodeLaws.{length-nodesOf, length-ids, length-entries, length-links}
+use Rattle.tree.specs.NodeLaws.{length-nodesOf, length-ids, length-links}
+use Rattle.tree.specs.NodeEntryLaws.{length-entries}
 
 -- ---- blocks
 

@@ -6,7 +6,10 @@ pub mod Made
 pub mod Trials
 pub mod TreeLaws
 pub mod NodeLaws
+pub mod NodeEntryLaws
+pub mod NodeFilterLaws
 pub mod Subtrees
+pub mod NumberedNodes
 pub mod Steps
 pub mod Links
 pub mod LayoutLaws

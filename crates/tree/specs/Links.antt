@@ -13,7 +13,8 @@ use Rattle.lists.specs.Counting.{joined-append}
 use Rattle.tree.specs.Tree.{Tree, Forest, leaf, inner, none, more, Splitting, treeOf, size, sizes}
 use Rattle.tree.specs.Nodes.{Entries, nodesFrom, forestNodes, nodesOf, roots}
 use Rattle.tree.specs.NodeLaws.{treesOf, length-roots}
-use Rattle.tree.specs.Subtrees.{subs, forestSubs, childrenOf, rootNode, map-numbered, nodes-numbered}
+use Rattle.tree.specs.Subtrees.{subs, forestSubs, childrenOf}
+use Rattle.tree.specs.NumberedNodes.{rootNode, map-numbered, nodes-numbered}
 
 -- the nodes that wait for a parent, and the child links, block by block
 pub record Linked : Type 0 where

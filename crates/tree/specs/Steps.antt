@@ -20,7 +20,8 @@ use Rattle.tree.specs.Tree.{Tree, Forest, leaf, inner, none, more, Split
 use Rattle.tree.specs.Nodes.{Entries, Node, nodesOf}
 use Rattle.tree.specs.TreeLaws.{kept-grow, grow-zero, grow-leaf, grow-inner, joined-groups}
 use Rattle.tree.specs.NodeLaws.{treesOf, length-roots}
-use Rattle.tree.specs.Subtrees.{subs, forestSubs, length-subs, childrenOf, ownIds, rootNode, numbered, map-numbered, nodes-numbered}
+use Rattle.tree.specs.Subtrees.{subs, forestSubs, length-subs, childrenOf, ownIds}
+use Rattle.tree.specs.NumberedNodes.{rootNode, numbered, map-numbered, nodes-numbered}
 
 -- A group of ids that waits to become a node, and how many more levels may be split: 16 at the root.
 pub record Group : Type 0 where
@@ -44,17 +45,17 @@ unfolding isLeaf split
 childGroups s vectors g = let below = split s vectors (g .levels) (g .ids) in cond (isLeaf s (g .levels) (g .ids)) [] below
 
 -- the groups that become nodes below and at a group, one for each node, by node number
-unfoldable pub madeFrom : Splitting → List (List Float) → ℕ → List ℕ → List Group
+unfoldable pub groupsFrom : Splitting → List (List Float) → ℕ → List ℕ → List Group
 unfolding groups joined
-madeFrom s vectors zero ids = record { levels = zero; ids = ids } ∷ []
-madeFrom s vectors (suc levels) ids =
-    let below = joined (madeFrom s vectors levels) (groups s vectors ids) in
+groupsFrom s vectors zero ids = record { levels = zero; ids = ids } ∷ []
+groupsFrom s vectors (suc levels) ids =
+    let below = joined (groupsFrom s vectors levels) (groups s vectors ids) in
     record { levels = suc levels; ids = ids } ∷ cond (leb (length ids) (s .leaf-size)) [] below
 
 -- the groups that become nodes, one for each node, in the order in which the nodes are made, while a list of groups waits
 unfoldable pub made : Splitting → List (List Float) → List Group → List Group
-unfolding joined madeFrom
-made s vectors waiting = joined (λ g. madeFrom s vectors (g .levels) (g .ids)) waiting
+unfolding joined groupsFrom
+made s vectors waiting = joined (λ g. groupsFrom s vectors (g .levels) (g .ids)) waiting
 
 -- the tree of a group
 abbrev pub grown : Splitting → List (List Float) → Group → Tree
@@ -77,36 +78,36 @@ module _ (s : Splitting) (vectors : List (List Float)) where
 
   pub made-append : (xs ys : List Group) → made s vectors (xs ++ ys) ≡ made s vectors xs ++ made s vectors ys
   unfolding made
-  made-append xs ys = joined-append (λ g. madeFrom s vectors (g .levels) (g .ids)) xs ys
+  made-append xs ys = joined-append (λ g. groupsFrom s vectors (g .levels) (g .ids)) xs ys
 
-  made-split : (levels : ℕ) (l : List (List ℕ)) → made s vectors (map (λ group. record { levels = levels; ids = group }) l) ≡ joined (madeFrom s vectors levels) l
+  made-split : (levels : ℕ) (l : List (List ℕ)) → made s vectors (map (λ group. record { levels = levels; ids = group }) l) ≡ joined (groupsFrom s vectors levels) l
   unfolding made
-  made-split levels l = joined-map (λ g. madeFrom s vectors (g .levels) (g .ids)) (λ group. record { levels = levels; ids = group }) l
+  made-split levels l = joined-map (λ g. groupsFrom s vectors (g .levels) (g .ids)) (λ group. record { levels = levels; ids = group }) l
 
   made-cond : (b : Bool) (l m : List Group) → l ≡ made s vectors m → cond b [] l ≡ made s vectors (cond b [] m)
   made-cond true l m h = sym made-none
   made-cond false l m h = h
 
   -- the groups below a group are made of its children's groups
-  madeFrom-cons : (levels : ℕ) (ids : List ℕ)
-      → madeFrom s vectors levels ids ≡ record { levels = levels; ids = ids } ∷ made s vectors (childGroups s vectors (record { levels = levels; ids = ids }))
-  unfolding madeFrom childGroups
-  madeFrom-cons zero ids = ap (λ (r : List Group). record { levels = zero; ids = ids } ∷ r) (sym made-none)
-  madeFrom-cons (suc levels) ids =
+  groupsFrom-cons : (levels : ℕ) (ids : List ℕ)
+      → groupsFrom s vectors levels ids ≡ record { levels = levels; ids = ids } ∷ made s vectors (childGroups s vectors (record { levels = levels; ids = ids }))
+  unfolding groupsFrom childGroups
+  groupsFrom-cons zero ids = ap (λ (r : List Group). record { levels = zero; ids = ids } ∷ r) (sym made-none)
+  groupsFrom-cons (suc levels) ids =
       ap (λ (r : List Group). record { levels = suc levels; ids = ids } ∷ r)
-      (made-cond (leb (length ids) (s .leaf-size)) (joined (madeFrom s vectors levels) (groups s vectors ids))
+      (made-cond (leb (length ids) (s .leaf-size)) (joined (groupsFrom s vectors levels) (groups s vectors ids))
       (map (λ group. record { levels = levels; ids = group }) (groups s vectors ids)) (sym (made-split levels (groups s vectors ids))))
 
   -- What is made while a group waits with others behind it: its node, and then what is made while its children's groups wait with those behind them.
   pub made-cons : (g : Group) (rest : List Group) → made s vectors (g ∷ rest) ≡ g ∷ made s vectors (childGroups s vectors g ++ rest)
   unfolding made
   made-cons g rest =
-      ap (λ (r : List Group). r ++ made s vectors rest) (madeFrom-cons (g .levels) (g .ids))
+      ap (λ (r : List Group). r ++ made s vectors rest) (groupsFrom-cons (g .levels) (g .ids))
       ∙ ap (λ (r : List Group). g ∷ r) (sym (made-append (childGroups s vectors g) rest))
 
-  pub made-one : (g : Group) → made s vectors (g ∷ []) ≡ madeFrom s vectors (g .levels) (g .ids)
+  pub made-one : (g : Group) → made s vectors (g ∷ []) ≡ groupsFrom s vectors (g .levels) (g .ids)
   unfolding made joined
-  made-one g = append-nil (madeFrom s vectors (g .levels) (g .ids))
+  made-one g = append-nil (groupsFrom s vectors (g .levels) (g .ids))
 
   -- each group that waits becomes a node
   pub made-waiting : (waiting : List Group) → length waiting ≤ length (made s vectors waiting)
@@ -126,24 +127,24 @@ module _ (s : Splitting) (vectors : List (List Float)) where
   subs-cond true t ids f l e h = ap subs e ∙ ap (λ (r : Tree). r ∷ []) (sym e)
   subs-cond false t ids f l e h = ap subs e ∙ ap₂ _∷_ (sym e) h
 
-  subs-forest : (levels : ℕ) (l : List (List ℕ)) → ((ids : List ℕ) → subs (grow s vectors levels ids) ≡ map (grown s vectors) (madeFrom s vectors levels ids))
-      → forestSubs (forestOf (grow s vectors levels) l) ≡ map (grown s vectors) (joined (madeFrom s vectors levels) l)
+  subs-forest : (levels : ℕ) (l : List (List ℕ)) → ((ids : List ℕ) → subs (grow s vectors levels ids) ≡ map (grown s vectors) (groupsFrom s vectors levels ids))
+      → forestSubs (forestOf (grow s vectors levels) l) ≡ map (grown s vectors) (joined (groupsFrom s vectors levels) l)
   unfolding forestOf forestSubs joined
   subs-forest levels [] h = refl
   subs-forest levels (ids ∷ l) h =
       ap₂ (λ (a b : List Tree). a ++ b) (h ids) (subs-forest levels l h)
-      ∙ sym (map-append (grown s vectors) (madeFrom s vectors levels ids) (joined (madeFrom s vectors levels) l))
+      ∙ sym (map-append (grown s vectors) (groupsFrom s vectors levels ids) (joined (groupsFrom s vectors levels) l))
 
-  subs-madeFrom : (levels : ℕ) (ids : List ℕ) → subs (grow s vectors levels ids) ≡ map (grown s vectors) (madeFrom s vectors levels ids)
-  unfolding grow subs madeFrom
-  subs-madeFrom zero ids = refl
-  subs-madeFrom (suc levels) ids =
+  subs-groupsFrom : (levels : ℕ) (ids : List ℕ) → subs (grow s vectors levels ids) ≡ map (grown s vectors) (groupsFrom s vectors levels ids)
+  unfolding grow subs groupsFrom
+  subs-groupsFrom zero ids = refl
+  subs-groupsFrom (suc levels) ids =
       subs-cond (leb (length ids) (s .leaf-size)) (grow s vectors (suc levels) ids) ids (forestOf (grow s vectors levels) (groups s vectors ids))
-      (joined (madeFrom s vectors levels) (groups s vectors ids)) refl (subs-forest levels (groups s vectors ids) (subs-madeFrom levels))
+      (joined (groupsFrom s vectors levels) (groups s vectors ids)) refl (subs-forest levels (groups s vectors ids) (subs-groupsFrom levels))
 
   -- What is made of one group is, in order, the subtrees of its tree.
   pub subs-made : (g : Group) → subs (grown s vectors g) ≡ map (grown s vectors) (made s vectors (g ∷ []))
-  subs-made g = subs-madeFrom (g .levels) (g .ids) ∙ ap (map (grown s vectors)) (sym (made-one g))
+  subs-made g = subs-groupsFrom (g .levels) (g .ids) ∙ ap (map (grown s vectors)) (sym (made-one g))
 
   pub length-made : (g : Group) → length (made s vectors (g ∷ [])) ≡ size (grown s vectors g)
   length-made g =

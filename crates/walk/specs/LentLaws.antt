@@ -1,13 +1,13 @@
 -- Laws on lent lists that the proofs of several crates use: a vector within the floats, and what work keeps. Assumes nothing.
 use Prim.Native.Nat.{ℕ, suc, _+_, _*_, _≤_, _<_}
-use native.Mathlib.Nat.{zero-add, suc-mul, mul-le-mul-right, mul-comm}
+use native.Mathlib.Nat.{suc-mul, mul-le-mul-right, mul-comm}
 use native.Mathlib.Omega.{arith}
 use mathlib.Core.Path.{_≡_, refl, _∙_}
 use mathlib.Core.List.{List}
 use lib.Ieee.{Float}
 use lib.ListN.{length, drop}
 use lib.Seq.{sets, length-sets}
-use Rattle.lists.specs.Frame.{AlikeBut, alike-refl, alike-trans, alike-sets, alike-widen}
+use Rattle.lists.specs.Frame.{alike-refl, alike-trans, alike-sets, alike-widen, alike-behind}
 use Rattle.store.specs.declared.Shape.{Shape}
 use Rattle.store.specs.Store.{Limits, floatsSize, workSize}
 use Rattle.walk.specs.Contracts.{Works}
@@ -22,10 +22,6 @@ vector-within s floats i n limits size h below =
     omega arith
 
 -- ---- what the work list keeps
-
--- lists with one rest are alike but for what stands before it
-alike-behind {ℓ} : {A : Type ℓ} (n : ℕ) (l m : List A) → drop n m ≡ drop n l → AlikeBut 0 n l m
-alike-behind n l m e = record { front = refl; rest = rw (zero-add n) e }
 
 pub works-refl : (s : Shape) (work : List ℕ) → Works s work work
 works-refl s work = record { alike = alike-refl 0 (workSize s) work; size = refl }

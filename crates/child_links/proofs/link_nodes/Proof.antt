@@ -7,7 +7,7 @@ use native.Mathlib.Omega.{arith}
 use lib.Seq.{sets}
 use Rattle.tree.specs.Links.{linkUp}
 use Rattle.node_table.specs.Table.{blockStart}
-use Rattle.child_links.specs.Contracts.{Counts}
+use Rattle.child_links.specs.Contracts.{ChildCounts}
 use Rattle.node_table.specs.TableLaws.{length-cells, sum-cells, cells-kept}
 use borrow.Author.Needs.{needs}
 use Rattle.child_links.proofs.link_nodes.Statement.{statement}
@@ -54,7 +54,7 @@ link-children-requires c κs =
     let fit = s .pre .0 in
     let long = s .pre .1 .0 in
     let kept = cells-kept (args .table) (args .nodes) (blockStart (args .table) (args .numbers .now)) (args .numbers .now) (starts .last .0) (starts .ensures) in
-    (omega arith, (omega arith, (s .pre .1 .1 .0, (s .pre .1 .1 .1 .0, subst (λ (cs : List ℕ). Counts cs) (sym kept) (s .pre .1 .1 .1 .1)))))
+    (omega arith, (omega arith, (s .pre .1 .1 .0, (s .pre .1 .1 .1 .0, subst (λ (cs : List ℕ). ChildCounts cs) (sym kept) (s .pre .1 .1 .1 .1)))))
 
 same-length : tie.Need-same-length
 same-length c = search needs

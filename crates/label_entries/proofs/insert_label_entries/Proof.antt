@@ -133,7 +133,7 @@ returns c =
     record {
       numbers-are = λ m. numbers-laid g m (link .last .0) (link .last .1 .1 .1 .1 .0) (link .ensures .0) (link .kept .1 .1 .1 .1 .0) (marked .last .0) leaves (marked .ensures) part₂ (sort .last .0) (sort .ensures);
       hashes-are = λ m. hashes-laid g m (link .last .0) (link .last .1 .1 .1 .1 .0) (link .ensures .0) (link .kept .1 .1 .1 .1 .0) (marked .last .0) leaves (marked .ensures) part₂ (sort .last .0) (sort .ensures) (filters .last .0) (filters .ensures);
-      work-used = work-kept g made (link .last .0) (link .last .1 .1 .1 .1 .0) (link .ensures .0) (link .kept .1 .1 .1 .1 .0) (marked .last .0) leaves (marked .ensures) part₂ (marked .kept .0 ∙ link .kept .1 .1 .1 .1 .0) (link .ensures .1);
+      work-free = work-kept g made (link .last .0) (link .last .1 .1 .1 .1 .0) (link .ensures .0) (link .kept .1 .1 .1 .1 .0) (marked .last .0) leaves (marked .ensures) part₂ (marked .kept .0 ∙ link .kept .1 .1 .1 .1 .0) (link .ensures .1);
     }
 
 pub insert-label-entries-spec : {M : Type 1} → statement M

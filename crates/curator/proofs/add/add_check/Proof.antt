@@ -5,7 +5,6 @@ use mathlib.Core.List.{List, _∷_}
 use native.Mathlib.Omega.{arith}
 use borrow.Author.Needs.{needs}
 use borrow.Author.Tests.{not-false, eq-eqb, ne-eqb, lt-ltb, le-ltb}
-use denote.Ref.{now}
 use lib.ListN.{drop}
 use Rattle.store.specs.declared.Shape.{Shape}
 use Rattle.store.specs.Store.{Limits}

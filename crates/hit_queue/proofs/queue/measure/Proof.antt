@@ -7,7 +7,7 @@ use Rattle.lists.specs.Lists.{part}
 use Rattle.lists.specs.Parts.{part-zero, length-part}
 use lib.ListN.{length, length-map}
 use mathlib.Core.List.{List, map}
-use mathlib.Core.Path.{_≡_, sym, ap, subst, _∙_}
+use mathlib.Core.Path.{_≡_, sym, subst, _∙_}
 use native.Mathlib.Omega.{arith}
 use Prim.Native.Nat.{ℕ, _+_, _-_, _≤_}
 use borrow.Author.Needs.{needs}
