@@ -4,6 +4,16 @@ use Rattle.mean.proofs.Sums.{mean-end, number-in-float}
 use Rattle.mean.proofs.mean_into.Statement.{statement}
 use Rattle.mean.proofs.mean_into.Tie as tie
 
+-- ---- the places, each with the way back to the one before
+abbrev start : tie.After-zero → tie.Start
+start c = c .before .before .before .before
+
+abbrev zeros : tie.After-sum-into → tie.After-zero
+zeros c = c .before .before .before .before
+
+abbrev sum : tie.After-row-known → tie.After-sum-into
+sum c = c .before .before .before .before
+
 zero-requires : tie.Need-zero-requires
 zero-requires c κs = search needs
 
@@ -11,8 +21,7 @@ sum-into-requires : tie.Need-sum-into-requires
 sum-into-requires c κs = search needs
 
 int-to-float-divide : tie.Need-int-to-float-divide
-int-to-float-divide c =
-    number-in-float _ (c .before .before .before .before .before .before .before .before .before .before .before .before .pre .few)
+int-to-float-divide c = number-in-float _ (start (zeros (sum c)) .pre .few)
 
 divide-requires : tie.Need-divide-requires
 divide-requires c κs = search needs
@@ -22,9 +31,8 @@ same-length c = search needs
 
 returns : tie.Need-returns
 returns c =
-    let start = c .before .before .before .before .before .before .before .before .before .before .before in
-    mean-end _ _ _ _ _ (start .before .before .before .before .pre) _ _ _ (start .zero .ensures)
-    (c .before .before .before .before .before .before .before .sum-into .ensures) (c .before .before .divide .ensures)
+    let s = sum (c .before .before .before) in
+    mean-end _ _ _ _ _ (start (zeros s) .pre) _ _ _ (zeros s .zero .ensures) (s .sum-into .ensures) (c .before .before .divide .ensures)
 
 pub mean-into-spec : {M : Type 1} → statement M
 mean-into-spec =

@@ -21,6 +21,13 @@ Inv-loop floats₀ ids dimension count at i₀ floats i =
 abbrev μ-loop : tie.MeasureT-loop
 μ-loop floats₀ ids dimension count at i₀ floats i = length ids - i
 
+-- ---- the places, each with the way back to the one before
+abbrev start : tie.At-loop Inv-loop μ-loop → tie.Start Inv-loop μ-loop
+start c = c .before .before .before
+
+abbrev turn : tie.After-add-arg Inv-loop μ-loop → tie.In-loop Inv-loop μ-loop
+turn c = c .before .before
+
 loop-holds : tie.Need-loop-holds Inv-loop μ-loop
 loop-holds c = (omega arith, refl, sum-none _ _ _ _ _ (c .before .before .pre))
 
@@ -35,15 +42,15 @@ cast-id c = omega (arith, c .shared-slice-known2 .given (c .before .before .loop
 
 mul-add : tie.Need-mul-add Inv-loop μ-loop
 mul-add c =
-    let a = c .before .before .before .before .before .before .args in
-    let room = c .before .before .before .before .before .before .pre in
-    let near = vector-before (a .dimension) (a .count) (a .at) _ (room .behind) (room .below (c .before .before .before .loop .i) (c .before .before .loop-test .taken)) in
-    omega (arith, c .before .before .before .before .before .before .good, near)
+    let s = start (turn c .before) in
+    let room = s .pre in
+    let near = vector-before (s .args .dimension) (s .args .count) (s .args .at) _ (room .behind) (room .below (turn c .before .loop .i) (turn c .loop-test .taken)) in
+    omega (arith, s .good, near)
 
 add-requires : tie.Need-add-requires Inv-loop μ-loop
 add-requires c κs =
-    let room = c .before .before .before .before .before .before .pre in
-    (vector-before _ _ _ _ (room .behind) (room .below _ (c .before .before .loop-test .taken)), omega arith)
+    let room = start (turn c .before) .pre in
+    (vector-before _ _ _ _ (room .behind) (room .below _ (turn c .loop-test .taken)), omega arith)
 
 add-i : tie.Need-add-i Inv-loop μ-loop
 add-i c = omega arith
@@ -53,18 +60,18 @@ loop-less c = omega arith
 
 loop-again : tie.Need-loop-again Inv-loop μ-loop
 loop-again c =
-    let room = c .before .before .before .before .before .before .before .before .before .pre in
-    let inv = c .before .before .before .before .before .before .loop .inv in (
+    let now = turn (c .before .before .before) in
+    let inv = now .before .loop .inv in (
       omega arith,
       c .before .before .add .kept .0 ∙ inv .1,
-      sum-turn _ _ _ _ _ room _ _ _ (inv .2) (c .before .before .before .before .before .loop-test .taken) (c .before .before .add .ensures),
+      sum-turn _ _ _ _ _ (start (now .before) .pre) _ _ _ (inv .2) (now .loop-test .taken) (c .before .before .add .ensures),
     )
 
 same-length : tie.Need-same-length Inv-loop μ-loop
 same-length c = c .before .loop .inv .1
 
 returns : tie.Need-returns Inv-loop μ-loop
-returns c = sum-end _ _ _ _ _ (c .before .before .before .before .pre) _ _ (c .before .loop .inv .2) (c .loop-test .left)
+returns c = sum-end _ _ _ _ _ (start (c .before) .pre) _ _ (c .before .loop .inv .2) (c .loop-test .left)
 
 pub sum-into-spec : {M : Type 1} → statement M
 sum-into-spec =

@@ -4,6 +4,13 @@ use borrow.Author.Needs.{needs}
 use Rattle.node_table.proofs.places_of.Statement.{statement}
 use Rattle.node_table.proofs.places_of.Tie as tie
 
+-- ---- the places, each with the way back to the one before
+abbrev vectors : tie.After-links-at → tie.After-order-at
+vectors c = c .before .before
+
+abbrev links : tie.After-filters-at → tie.After-links-at
+links c = c .before .before
+
 owners-at-requires : tie.Need-owners-at-requires
 owners-at-requires c κs = search needs
 
@@ -26,10 +33,10 @@ returns : tie.Need-returns
 returns c =
     λ t.
     record {
-      owners = c .before .before .before .before .before .owners-at .ensures t;
-      vectors = c .before .before .before .before .order-at .ensures t;
-      table = c .before .before .before .nodes-at .ensures t;
-      links = c .before .before .links-at .ensures t;
+      owners = vectors (links c) .before .owners-at .ensures t;
+      vectors = vectors (links c) .order-at .ensures t;
+      table = links c .before .nodes-at .ensures t;
+      links = links c .links-at .ensures t;
       order = c .before .entry-order-at .ensures t;
       filters = c .filters-at .ensures t;
     }

@@ -16,6 +16,10 @@ Inv-loop v i₀ i = (i ≤ length v) × (allFinite v ≡ allFinite (drop i v))
 abbrev μ-loop : tie.MeasureT-loop
 μ-loop v i₀ i = length v - i
 
+-- ---- the places, each with the way back to the one before
+abbrev turn : tie.After-is-finite Inv-loop μ-loop → tie.In-loop Inv-loop μ-loop
+turn c = c .before .before
+
 loop-holds : tie.Need-loop-holds Inv-loop μ-loop
 loop-holds c = (omega arith, refl)
 
@@ -30,7 +34,7 @@ is-finite-requires c κs = search needs
 
 returns : tie.Need-returns Inv-loop μ-loop
 returns c =
-    allFinite-out _ _ _ (c .before .before .before .before .loop .inv .1) (c .before .before .before .loop-test .taken)
+    allFinite-out _ _ _ (turn (c .before) .before .loop .inv .1) (turn (c .before) .loop-test .taken)
     (sym (c .before .is-finite .ensures) ∙ not-true _ (c .if1 .taken))
 
 add-i : tie.Need-add-i Inv-loop μ-loop
@@ -42,7 +46,7 @@ loop-less c = omega arith
 loop-again : tie.Need-loop-again Inv-loop μ-loop
 loop-again c = (
   omega arith,
-  allFinite-turn _ _ _ (c .before .before .before .before .loop .inv .1) (c .before .before .before .loop-test .taken)
+  allFinite-turn _ _ _ (turn (c .before) .before .loop .inv .1) (turn (c .before) .loop-test .taken)
       (sym (c .before .is-finite .ensures) ∙ not-false _ (c .if1 .left)),
 )
 

@@ -1,23 +1,22 @@
 -- `copy_into` meets its contract. Invariant: `out` has the first i components of v, and is otherwise as it was.
-use Prim.Native.Nat.{_≤_, _-_}
-use mathlib.Core.Path.{_≡_, refl}
-use mathlib.Core.List.{_++_}
+use Prim.Native.Nat.{_-_}
+use mathlib.Core.Path.{refl}
 use native.Mathlib.Omega.{arith}
 use borrow.Author.Needs.{needs}
-use lib.ListN.{length, take, drop, length-set}
+use lib.ListN.{length}
 use lib.Ieee.{nan}
-use Rattle.vector.proofs.Steps.{fill-turn, fill-end}
+use Rattle.lists.specs.Writes.{Writing, writing-none, whole-next, whole-all}
 use Rattle.vector.proofs.copy_into.Statement.{statement}
 use Rattle.vector.proofs.copy_into.Tie as tie
 
 abbrev Inv-loop : tie.InvT-loop
-Inv-loop v out₀ i₀ out i = (i ≤ length v) × (length out ≡ length out₀) × (out ≡ take i v ++ drop i out₀)
+Inv-loop v out₀ i₀ out i = Writing out₀ 0 (length v) v out i
 
 abbrev μ-loop : tie.MeasureT-loop
 μ-loop v out₀ i₀ out i = length v - i
 
 loop-holds : tie.Need-loop-holds Inv-loop μ-loop
-loop-holds c = (omega arith, refl, refl)
+loop-holds c = writing-none _ _ _ _ refl
 
 mul-out : tie.Need-mul-out Inv-loop μ-loop
 mul-out c = search needs
@@ -38,17 +37,13 @@ loop-less : tie.Need-loop-less Inv-loop μ-loop
 loop-less c = omega arith
 
 loop-again : tie.Need-loop-again Inv-loop μ-loop
-loop-again c = (
-  omega arith,
-  simp length-set (c .before .before .loop .inv .1),
-  fill-turn _ _ _ _ nan (c .before .before .loop .inv .2) (c .before .loop-test .taken) (c .before .before .before .pre),
-)
+loop-again c = whole-next nan (c .before .before .loop .inv) (c .before .loop-test .taken) refl
 
 same-length : tie.Need-same-length Inv-loop μ-loop
-same-length c = c .before .loop .inv .1
+same-length c = c .before .loop .inv .same
 
 returns : tie.Need-returns Inv-loop μ-loop
-returns c = fill-end _ _ _ _ (c .before .loop .inv .2) (c .loop-test .left) (c .before .before .pre)
+returns c = whole-all (c .before .loop .inv) (c .before .before .pre) (c .loop-test .left)
 
 pub copy-into-spec : {M : Type 1} → statement M
 copy-into-spec =

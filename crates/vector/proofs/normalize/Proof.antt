@@ -16,6 +16,13 @@ undivided : (n : Float) (v w : List Float) → lt (ofBits binary32 0x2EDBE6FF) n
 unfolding dividedBy threshold
 undivided n v w t e = e ∙ rw t
 
+-- ---- the places, each with the way back to the one before
+abbrev above : tie.After-slice-known2 → tie.Then1
+above c = c .before .before .before .before
+
+abbrev small : tie.After-slice-known3 → tie.Else1
+small c = c .before .before .before .before
+
 sqrt-requires : tie.Need-sqrt-requires
 sqrt-requires c κs = search needs
 
@@ -31,9 +38,9 @@ same-length c = search needs
 returns : tie.Need-returns
 returns c =
     record {
-      norm = c .before .before .before .before .before .sqrt .result;
-      root = c .before .before .before .before .before .sqrt .ensures;
-      stored = divided _ _ _ (c .before .before .before .before .if1 .taken) (c .before .before .divide-into .ensures);
+      norm = above c .before .sqrt .result;
+      root = above c .before .sqrt .ensures;
+      stored = divided _ _ _ (above c .if1 .taken) (c .before .before .divide-into .ensures);
     }
 
 same-length-2 : tie.Need-same-length-2
@@ -42,9 +49,9 @@ same-length-2 c = search needs
 returns-2 : tie.Need-returns-2
 returns-2 c =
     record {
-      norm = c .before .before .before .before .before .sqrt .result;
-      root = c .before .before .before .before .before .sqrt .ensures;
-      stored = undivided _ _ _ (c .before .before .before .before .if1 .left) (c .before .before .copy-into .ensures);
+      norm = small c .before .sqrt .result;
+      root = small c .before .sqrt .ensures;
+      stored = undivided _ _ _ (small c .if1 .left) (c .before .before .copy-into .ensures);
     }
 
 pub normalize-spec : {M : Type 1} → statement M

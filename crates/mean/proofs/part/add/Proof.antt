@@ -1,27 +1,20 @@
 -- `part::add` meets its contract. Invariant: the first i components are sums, and the rest is as it was.
-use Prim.Native.Nat.{_≤_, _-_}
-use mathlib.Core.Path.{_≡_, refl}
+use Prim.Native.Nat.{_-_}
 use native.Mathlib.Omega.{arith}
-use lib.ListN.{length, take, length-set}
-use lib.Seq.{sets}
-use Rattle.lists.specs.Lists.{part}
-use Rattle.cluster.specs.Clusters.{addVectors}
-use Rattle.lists.specs.Writes.{write-end}
-use Rattle.mean.proofs.Components.{add-turn, length-sumOf}
+use lib.Ieee.{nan}
+use Rattle.lists.specs.Writes.{Writing, writing-none, writing-next, writing-all}
+use Rattle.mean.proofs.Components.{sumOf, length-sumOf, added}
 use Rattle.mean.proofs.part.add.Statement.{statement}
 use Rattle.mean.proofs.part.add.Tie as tie
 
 abbrev Inv-loop : tie.InvT-loop
-Inv-loop floats₀ from to dimension i₀ floats i =
-    (i ≤ dimension)
-    × (length floats ≡ length floats₀)
-    × (floats ≡ sets floats₀ to (take i (addVectors (part to dimension floats₀) (part from dimension floats₀))))
+Inv-loop floats₀ from to dimension i₀ floats i = Writing floats₀ to dimension (sumOf floats₀ from to dimension) floats i
 
 abbrev μ-loop : tie.MeasureT-loop
 μ-loop floats₀ from to dimension i₀ floats i = dimension - i
 
 loop-holds : tie.Need-loop-holds Inv-loop μ-loop
-loop-holds c = (omega arith, refl, refl)
+loop-holds c = writing-none _ _ _ _ (length-sumOf _ (c .args .from) _ _ (c .pre .1))
 
 add-floats : tie.Need-add-floats Inv-loop μ-loop
 add-floats c = omega arith
@@ -57,19 +50,17 @@ loop-less : tie.Need-loop-less Inv-loop μ-loop
 loop-less c = omega arith
 
 loop-again : tie.Need-loop-again Inv-loop μ-loop
-loop-again c = (
-  omega arith,
-  simp length-set (c .before .before .before .loop .inv .1),
-  add-turn _ _ _ _ _ _ (c .before .before .before .loop .inv .2) (c .before .before .before .before .pre .0)
-      (c .before .before .before .before .pre .1) (c .before .before .loop-test .taken),
-)
+loop-again c =
+    let turn = c .before .before in
+    let fits = turn .before .before .pre in
+    writing-next nan (turn .before .loop .inv) (turn .loop-test .taken)
+    (added _ _ _ _ _ _ (turn .before .loop .inv) (fits .0) (fits .1) (turn .loop-test .taken))
 
 same-length : tie.Need-same-length Inv-loop μ-loop
-same-length c = c .before .loop .inv .1
+same-length c = c .before .loop .inv .same
 
 returns : tie.Need-returns Inv-loop μ-loop
-returns c =
-    write-end _ _ _ _ _ _ (c .before .loop .inv .2) (length-sumOf _ (c .before .before .args .from) _ _ (c .before .before .pre .1)) (c .loop-test .left)
+returns c = writing-all (c .before .loop .inv) (c .loop-test .left)
 
 pub add-spec : {M : Type 1} → statement M
 add-spec =

@@ -1,24 +1,22 @@
 -- `part::copy` meets its contract. Invariant: the first i components are those of the part at `from`, and the rest is as it was.
-use Prim.Native.Nat.{_≤_, _-_}
-use mathlib.Core.Path.{_≡_, refl}
+use Prim.Native.Nat.{_-_}
 use native.Mathlib.Omega.{arith}
-use lib.ListN.{length, take, length-set}
-use lib.Seq.{sets}
+use lib.Ieee.{nan}
 use Rattle.lists.specs.Lists.{part}
-use Rattle.lists.specs.Writes.{write-end}
-use Rattle.mean.proofs.Components.{copy-turn, length-copied}
+use Rattle.lists.specs.Parts.{length-part}
+use Rattle.lists.specs.Writes.{Writing, writing-none, writing-next, writing-all}
+use Rattle.mean.proofs.Components.{earlier}
 use Rattle.mean.proofs.part.copy.Statement.{statement}
 use Rattle.mean.proofs.part.copy.Tie as tie
 
 abbrev Inv-loop : tie.InvT-loop
-Inv-loop floats₀ from to dimension i₀ floats i =
-    (i ≤ dimension) × (length floats ≡ length floats₀) × (floats ≡ sets floats₀ to (take i (part from dimension floats₀)))
+Inv-loop floats₀ from to dimension i₀ floats i = Writing floats₀ to dimension (part from dimension floats₀) floats i
 
 abbrev μ-loop : tie.MeasureT-loop
 μ-loop floats₀ from to dimension i₀ floats i = dimension - i
 
 loop-holds : tie.Need-loop-holds Inv-loop μ-loop
-loop-holds c = (omega arith, refl, refl)
+loop-holds c = writing-none _ _ _ _ (length-part (c .args .from) _ _ (omega arith))
 
 add-floats : tie.Need-add-floats Inv-loop μ-loop
 add-floats c = omega arith
@@ -45,20 +43,16 @@ loop-less : tie.Need-loop-less Inv-loop μ-loop
 loop-less c = omega arith
 
 loop-again : tie.Need-loop-again Inv-loop μ-loop
-loop-again c = (
-  omega arith,
-  simp length-set (c .before .before .loop .inv .1),
-  copy-turn _ _ _ _ _ _ (c .before .before .loop .inv .2) (c .before .before .before .pre .0) (c .before .before .before .pre .1)
-      (c .before .loop-test .taken),
-)
+loop-again c =
+    let turn = c .before in
+    writing-next nan (turn .before .loop .inv) (turn .loop-test .taken)
+    (earlier (turn .before .loop .inv) (turn .loop-test .taken) _ (turn .before .before .pre .0))
 
 same-length : tie.Need-same-length Inv-loop μ-loop
-same-length c = c .before .loop .inv .1
+same-length c = c .before .loop .inv .same
 
 returns : tie.Need-returns Inv-loop μ-loop
-returns c =
-    let fits = c .before .before .pre in
-    write-end _ _ _ _ _ _ (c .before .loop .inv .2) (length-copied _ _ _ _ (fits .0) (fits .1)) (c .loop-test .left)
+returns c = writing-all (c .before .loop .inv) (c .loop-test .left)
 
 pub copy-spec : {M : Type 1} → statement M
 copy-spec =

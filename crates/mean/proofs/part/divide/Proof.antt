@@ -1,29 +1,22 @@
 -- `part::divide` meets its contract. Invariant: the first i components are quotients, and the rest is as it was.
-use Prim.Native.Nat.{_≤_, _-_}
-use mathlib.Core.Path.{_≡_, refl}
+use Prim.Native.Nat.{_-_}
+use mathlib.Core.Path.{_∙_}
 use native.Mathlib.Omega.{arith}
-use mathlib.Core.List.{map}
 use borrow.Author.Needs.{needs}
-use lib.ListN.{length, take, length-set}
-use lib.Seq.{sets}
-use lib.Ieee.{binary32, div}
-use Rattle.lists.specs.Lists.{part}
-use Rattle.lists.specs.Writes.{write-end}
-use Rattle.mean.proofs.Components.{divide-turn, length-quotients}
+use lib.Ieee.{nan}
+use Rattle.lists.specs.Writes.{Writing, writing-none, writing-next, writing-all}
+use Rattle.mean.proofs.Components.{quotients, length-quotients, divided}
 use Rattle.mean.proofs.part.divide.Statement.{statement}
 use Rattle.mean.proofs.part.divide.Tie as tie
 
 abbrev Inv-loop : tie.InvT-loop
-Inv-loop floats₀ to dimension by i₀ floats i =
-    (i ≤ dimension)
-    × (length floats ≡ length floats₀)
-    × (floats ≡ sets floats₀ to (take i (map (λ x. div binary32 x by) (part to dimension floats₀))))
+Inv-loop floats₀ to dimension by i₀ floats i = Writing floats₀ to dimension (quotients floats₀ to dimension by) floats i
 
 abbrev μ-loop : tie.MeasureT-loop
 μ-loop floats₀ to dimension by i₀ floats i = dimension - i
 
 loop-holds : tie.Need-loop-holds Inv-loop μ-loop
-loop-holds c = (omega arith, refl, refl)
+loop-holds c = writing-none _ _ _ _ (length-quotients _ _ _ (c .before .args .by) (c .before .pre))
 
 add-canonical : tie.Need-add-canonical Inv-loop μ-loop
 add-canonical c = omega arith
@@ -53,19 +46,17 @@ loop-less : tie.Need-loop-less Inv-loop μ-loop
 loop-less c = omega arith
 
 loop-again : tie.Need-loop-again Inv-loop μ-loop
-loop-again c = (
-  omega arith,
-  simp length-set (c .before .before .before .loop .inv .1),
-  divide-turn _ _ _ _ _ (c .before .before .before .before .before .args .by) _ (c .before .before .before .loop .inv .2)
-      (c .before .before .before .before .before .pre) (c .before .before .loop-test .taken) (c .canonical .ensures),
-)
+loop-again c =
+    let turn = c .before .before in
+    let start = turn .before .before .before in
+    writing-next nan (turn .before .loop .inv) (turn .loop-test .taken)
+    (c .canonical .ensures ∙ divided _ _ _ _ _ (start .args .by) (turn .before .loop .inv) (start .pre) (turn .loop-test .taken))
 
 same-length : tie.Need-same-length Inv-loop μ-loop
-same-length c = c .before .loop .inv .1
+same-length c = c .before .loop .inv .same
 
 returns : tie.Need-returns Inv-loop μ-loop
-returns c =
-    write-end _ _ _ _ _ _ (c .before .loop .inv .2) (length-quotients _ _ _ (c .before .before .before .args .by) (c .before .before .before .pre)) (c .loop-test .left)
+returns c = writing-all (c .before .loop .inv) (c .loop-test .left)
 
 pub divide-spec : {M : Type 1} → statement M
 divide-spec =

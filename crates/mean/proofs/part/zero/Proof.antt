@@ -1,24 +1,22 @@
 -- `part::zero` meets its contract. Invariant: the first i components of the part are +0.0, and the rest is as it was.
-use Prim.Native.Nat.{_≤_, _-_}
-use mathlib.Core.Path.{_≡_, refl}
+use Prim.Native.Nat.{_-_}
+use mathlib.Core.Path.{sym}
 use native.Mathlib.Omega.{arith}
-use lib.ListN.{length, take, replicate, length-replicate, length-set}
-use lib.Seq.{sets}
+use lib.ListN.{replicate, length-replicate, getD-replicate}
+use lib.Ieee.{nan}
 use Rattle.vector.specs.Vector.{zero32}
-use Rattle.lists.specs.Writes.{write-end}
-use Rattle.mean.proofs.Components.{zero-turn}
+use Rattle.lists.specs.Writes.{Writing, writing-none, writing-next, writing-all}
 use Rattle.mean.proofs.part.zero.Statement.{statement}
 use Rattle.mean.proofs.part.zero.Tie as tie
 
 abbrev Inv-loop : tie.InvT-loop
-Inv-loop floats₀ to dimension i₀ floats i =
-    (i ≤ dimension) × (length floats ≡ length floats₀) × (floats ≡ sets floats₀ to (take i (replicate dimension zero32)))
+Inv-loop floats₀ to dimension i₀ floats i = Writing floats₀ to dimension (replicate dimension zero32) floats i
 
 abbrev μ-loop : tie.MeasureT-loop
 μ-loop floats₀ to dimension i₀ floats i = dimension - i
 
 loop-holds : tie.Need-loop-holds Inv-loop μ-loop
-loop-holds c = (omega arith, refl, refl)
+loop-holds c = writing-none _ _ _ _ (length-replicate (c .args .dimension) zero32)
 
 add-floats : tie.Need-add-floats Inv-loop μ-loop
 add-floats c = omega arith
@@ -37,14 +35,13 @@ loop-less c = omega arith
 
 loop-again : tie.Need-loop-again Inv-loop μ-loop
 unfolding zero32
-loop-again c = (omega arith, simp length-set (c .before .loop .inv .1), zero-turn _ _ _ _ _ (c .before .loop .inv .2) (c .loop-test .taken))
+loop-again c = writing-next nan (c .before .loop .inv) (c .loop-test .taken) (sym (getD-replicate _ _ zero32 nan (c .loop-test .taken)))
 
 same-length : tie.Need-same-length Inv-loop μ-loop
-same-length c = c .before .loop .inv .1
+same-length c = c .before .loop .inv .same
 
 returns : tie.Need-returns Inv-loop μ-loop
-returns c =
-    write-end _ _ _ _ _ _ (c .before .loop .inv .2) (length-replicate (c .before .before .args .dimension) zero32) (c .loop-test .left)
+returns c = writing-all (c .before .loop .inv) (c .loop-test .left)
 
 pub zero-spec : {M : Type 1} → statement M
 zero-spec =

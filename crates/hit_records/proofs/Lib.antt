@@ -1,0 +1,2 @@
+-- What only the proof of `curator_hits` needs.
+pub mod Lent
