@@ -72,14 +72,17 @@ after-walked c = c .before .before .before .before
 abbrev after-first-hits : tie.After-slice-known7 → tie.After-first-hits
 after-first-hits c = c .before .before .before .before .before .before
 
-hits-start : (w : tie.After-best-first-walk) → w .before .before .before .before .hits-at .result ≡ hitsAt (entry w .args .shape)
+hits-start : (w : tie.After-best-first-walk) → after-hits-at (after-work-size w) .hits-at .result ≡ hitsAt (entry w .args .shape)
 hits-start w = after-hits-at (after-work-size w) .hits-at .ensures
 
-hits-end : (w : tie.After-best-first-walk) → w .before .before .before .work-size .result ≡ workSize (entry w .args .shape)
+hits-end : (w : tie.After-best-first-walk) → after-work-size w .work-size .result ≡ workSize (entry w .args .shape)
 hits-end w = after-work-size w .work-size .ensures
 
 abbrev lentHits : tie.After-best-first-walk → List ℕ
-lentHits w = take (w .before .before .before .work-size .result - w .before .before .before .before .hits-at .result) (drop (w .before .before .before .before .hits-at .result) (work w))
+lentHits w =
+    let work-size = after-work-size w in
+    let hits-at = after-hits-at work-size in
+    take (work-size .work-size .result - hits-at .hits-at .result) (drop (hits-at .hits-at .result) (work w))
 
 lent-hits : (w : tie.After-best-first-walk) → lentHits w ≡ hitsPart (entry w .args .shape) (work w)
 lent-hits w =
@@ -87,7 +90,7 @@ lent-hits w =
     lent-is (work w) (after-hits-at (after-work-size w) .hits-at .result) (after-work-size w .work-size .result) (hitsAt s) (3 * max (s .vectors) (s .entries)) (hits-start w) (hits-end w)
 
 -- where the numbers of the vectors found stand in it
-from-is : (w : tie.After-best-first-walk) → w .before .before .found-at .result - w .before .before .before .before .hits-at .result ≡ foundIn (entry w .args .shape)
+from-is : (w : tie.After-best-first-walk) → w .before .before .found-at .result - after-hits-at (after-work-size w) .hits-at .result ≡ foundIn (entry w .args .shape)
 from-is w = omega (arith, w .before .before .found-at .ensures, hits-start w)
 
 -- how the walk ended: hits, opened nodes, whole or cut
@@ -115,13 +118,15 @@ back-length t =
 
 abbrev after : tie.After-first-hits → List ℕ
 after t = let w = from (hits t) in
-    take (w .before .before .before .before .hits-at .result) (work w)
-    ++ (back t ++ drop (w .before .before .before .work-size .result - w .before .before .before .before .hits-at .result) (drop (w .before .before .before .before .hits-at .result) (work w)))
+    let work-size = after-work-size w in
+    let hits-at = after-hits-at work-size in
+    take (hits-at .hits-at .result) (work w)
+    ++ (back t ++ drop (work-size .work-size .result - hits-at .hits-at .result) (drop (hits-at .hits-at .result) (work w)))
 
 after-is : (t : tie.After-first-hits) → after t ≡ sets (work (from (hits t))) (hitsAt (entry (from (hits t)) .args .shape)) (back t)
 after-is t =
     let w = from (hits t) in
-    lent-part (work w) (w .before .before .before .before .hits-at .result) (w .before .before .before .work-size .result) (back t)
+    lent-part (work w) (after-hits-at (after-work-size w) .hits-at .result) (after-work-size w .work-size .result) (back t)
     (omega (arith, hits-start w, hits-end w)) (omega (arith, hits-end w, size w)) (omega (arith, back-length t, hits-start w, hits-end w))
     ∙ ap (λ (at : ℕ). sets (work w) at (back t)) (hits-start w)
 

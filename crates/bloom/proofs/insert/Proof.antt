@@ -6,6 +6,14 @@ use borrow.Author.Needs.{needs}
 use Rattle.bloom.proofs.insert.Statement.{statement}
 use Rattle.bloom.proofs.insert.Tie as tie
 
+-- ---- the places, each with the way back to the one before
+
+abbrev start : tie.After-second-bit → tie.Start
+start c = c .before .before .before
+
+abbrev after-set-bit : tie.After-slice-known3 → tie.After-set-bit
+after-set-bit c = c .before .before .before .before .before .before
+
 first-bit-requires : tie.Need-first-bit-requires
 first-bit-requires c κs = search needs
 
@@ -20,14 +28,6 @@ set-bit-requires-2 c κs = search needs
 
 same-length : tie.Need-same-length
 same-length c = search needs
-
--- ---- the places, each with the way back to the one before
-
-abbrev start : tie.After-second-bit → tie.Start
-start c = c .before .before .before
-
-abbrev after-set-bit : tie.After-slice-known3 → tie.After-set-bit
-after-set-bit c = c .before .before .before .before .before .before
 
 returns : tie.Need-returns
 unfolding insertHash

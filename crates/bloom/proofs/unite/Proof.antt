@@ -8,6 +8,11 @@ use borrow.Author.Needs.{needs}
 use Rattle.bloom.proofs.unite.Statement.{statement}
 use Rattle.bloom.proofs.unite.Tie as tie
 
+-- ---- the places, each with the way back to the one before
+
+abbrev start : tie.After-slice-known4 → tie.Start
+start c = c .before .before .before .before
+
 slice-read-filter : tie.Need-slice-read-filter
 slice-read-filter c = search needs
 
@@ -46,11 +51,6 @@ slice-write-filter-4 c = simp length-set (omega arith)
 
 same-length : tie.Need-same-length
 same-length c = search needs
-
--- ---- the places, each with the way back to the one before
-
-abbrev start : tie.After-slice-known4 → tie.Start
-start c = c .before .before .before .before
 
 returns : tie.Need-returns
 returns c =

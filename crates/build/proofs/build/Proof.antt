@@ -23,6 +23,17 @@ fine : (c : tie.After-enum-told)
     → buildChecked (entry c .args .index) (lengthsOf (storeOf (entry c))) (length (now (entry c .args .work))) (now (entry c .args .numbers)) ≡ Fine
 fine c = sym (c .before .before .build-check .ensures) ∙ c .enum-told .given .1
 
+-- ---- the places, each with the way back to the one before
+
+abbrev start : tie.After-build-check → tie.Start
+start c = c .before .before .before .before .before .before
+
+abbrev after-build-check : tie.After-known-told → tie.After-build-check
+after-build-check c = c .before .before .before
+
+abbrev else1 : tie.After-make-index-arg4 → tie.Else1
+else1 c = c .before .before .before .before
+
 build-check-requires : tie.Need-build-check-requires
 build-check-requires c κs = search needs
 
@@ -41,17 +52,6 @@ returns c =
     let store = storeOf s in
     let work = now (s .args .work) in
     builds-built (s .args .index) store work (check-built (s .args .index) store work (fine (c .before)) (c .if1 .taken)) (c .if1 .taken)
-
--- ---- the places, each with the way back to the one before
-
-abbrev start : tie.After-build-check → tie.Start
-start c = c .before .before .before .before .before .before
-
-abbrev after-build-check : tie.After-known-told → tie.After-build-check
-after-build-check c = c .before .before .before
-
-abbrev else1 : tie.After-make-index-arg4 → tie.Else1
-else1 c = c .before .before .before .before
 
 make-index-requires : tie.Need-make-index-requires
 make-index-requires c κs =

@@ -74,11 +74,13 @@ returns c =
 
 make-node-requires : tie.Need-make-node-requires Inv-loop μ-loop
 make-node-requires c κs =
-    let l = at-loop (in-loop (else1 c)) in
+    let left = else1 c in
+    let in-loop₀ = in-loop left in
+    let l = at-loop in-loop₀ in
     let b = after-begin l in
     let a = start′ (after-order-at (after-begin l)) in
-    let more : l .loop .made < a .args .shape .nodes = lt-of-le-ne (l .loop .inv .0) (else1 c .if1 .left) in
-    (loop-lent (a .pre) (b .before .order-at .ensures) (b .begin .ensures) (l .loop .inv .1), loop-waits (a .pre) (b .before .order-at .ensures) (b .begin .ensures) (l .loop .inv .1) (in-loop (else1 c) .loop-test .taken) more)
+    let more : l .loop .made < a .args .shape .nodes = lt-of-le-ne (l .loop .inv .0) (left .if1 .left) in
+    (loop-lent (a .pre) (b .before .order-at .ensures) (b .begin .ensures) (l .loop .inv .1), loop-waits (a .pre) (b .before .order-at .ensures) (b .begin .ensures) (l .loop .inv .1) (in-loop₀ .loop-test .taken) more)
 
 add-made : tie.Need-add-made Inv-loop μ-loop
 add-made c =
@@ -87,19 +89,23 @@ add-made c =
 
 loop-less : tie.Need-loop-less Inv-loop μ-loop
 loop-less c =
-    let l = at-loop (in-loop (else1′ (after-make-node c))) in
-    let more : l .loop .made < start′ (after-order-at (after-begin l)) .args .shape .nodes = lt-of-le-ne (l .loop .inv .0) (else1′ (after-make-node c) .if1 .left) in
+    let left = else1′ (after-make-node c) in
+    let l = at-loop (in-loop left) in
+    let more : l .loop .made < start′ (after-order-at (after-begin l)) .args .shape .nodes = lt-of-le-ne (l .loop .inv .0) (left .if1 .left) in
     omega arith
 
 loop-again : tie.Need-loop-again Inv-loop μ-loop
 loop-again c =
-    let l = at-loop (in-loop (else1′ (after-make-node c))) in
+    let make-node = after-make-node c in
+    let left = else1′ make-node in
+    let in-loop₀ = in-loop left in
+    let l = at-loop in-loop₀ in
     let b = after-begin l in
     let a = start′ (after-order-at (after-begin l)) in
-    let more : l .loop .made < a .args .shape .nodes = lt-of-le-ne (l .loop .inv .0) (else1′ (after-make-node c) .if1 .left) in
-    let m = after-make-node c .make-node in
+    let more : l .loop .made < a .args .shape .nodes = lt-of-le-ne (l .loop .inv .0) (left .if1 .left) in
+    let m = make-node .make-node in
     let kept = m .kept .1 .1 .1 .1 .1 in
-    (omega arith, loop-step (a .pre) (b .before .order-at .ensures) (b .begin .ensures) (l .loop .inv .1) (in-loop (else1′ (after-make-node c)) .loop-test .taken) more (m .ensures) (kept .0) (kept .1 .0) (kept .1 .1 .0))
+    (omega arith, loop-step (a .pre) (b .before .order-at .ensures) (b .begin .ensures) (l .loop .inv .1) (in-loop₀ .loop-test .taken) more (m .ensures) (kept .0) (kept .1 .0) (kept .1 .1 .0))
 
 same-length-4 : tie.Need-same-length-4 Inv-loop μ-loop
 same-length-4 c = c .before .loop .inv .1 .floats-length

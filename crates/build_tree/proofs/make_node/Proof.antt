@@ -6,24 +6,6 @@ use borrow.Author.Needs.{needs}
 use Rattle.build_tree.proofs.make_node.Statement.{statement}
 use Rattle.build_tree.proofs.make_node.Tie as tie
 
-order-at-requires : tie.Need-order-at-requires
-order-at-requires c κs = search needs
-
-add-start : tie.Need-add-start
-add-start c = search needs
-
-nodes-at-requires : tie.Need-nodes-at-requires
-nodes-at-requires c κs = search needs
-
-mul-six-at : tie.Need-mul-six-at
-mul-six-at c = search needs
-
-add-six-at : tie.Need-add-six-at
-add-six-at c = search needs
-
-centroids-at-requires : tie.Need-centroids-at-requires
-centroids-at-requires c κs = search needs
-
 -- ---- the places, each with the way back to the one before
 
 abbrev start : tie.After-order-at → tie.Start
@@ -71,6 +53,24 @@ after-write-six c = c .before .before .before
 abbrev after-split-node : tie.After-slice-known9 → tie.After-split-node
 after-split-node c = c .before .before .before .before .before .before
 
+order-at-requires : tie.Need-order-at-requires
+order-at-requires c κs = search needs
+
+add-start : tie.Need-add-start
+add-start c = search needs
+
+nodes-at-requires : tie.Need-nodes-at-requires
+nodes-at-requires c κs = search needs
+
+mul-six-at : tie.Need-mul-six-at
+mul-six-at c = search needs
+
+add-six-at : tie.Need-add-six-at
+add-six-at c = search needs
+
+centroids-at-requires : tie.Need-centroids-at-requires
+centroids-at-requires c κs = search needs
+
 mul-centroid-at : tie.Need-mul-centroid-at
 mul-centroid-at c =
     let a = start (after-order-at (after-nodes-at (c .before))) in
@@ -99,14 +99,17 @@ part-mean-into-start c = search needs
 part-mean-into-end : tie.Need-part-mean-into-end
 part-mean-into-end c =
     let t = after-take-header c in
-    let a = start (after-order-at (after-nodes-at (after-centroids-at t))) in
-    omega (arith, group-fits (a .pre .0) (a .pre .1) (after-order-at (after-nodes-at (after-centroids-at t)) .order-at .ensures) (t .take-header .ensures))
+    let order-at = after-order-at (after-nodes-at (after-centroids-at t)) in
+    let a = start order-at in
+    omega (arith, group-fits (a .pre .0) (a .pre .1) (order-at .order-at .ensures) (t .take-header .ensures))
 
 mean-into-requires : tie.Need-mean-into-requires
 mean-into-requires c κs =
     let t = after-take-header′ c in
-    let a = start (after-order-at (after-nodes-at (after-centroids-at t))) in
-    mean-room (a .pre .0) (a .pre .1) (after-order-at (after-nodes-at (after-centroids-at t)) .order-at .ensures) (t .take-header .ensures) (after-centroids-at t .centroids-at .ensures)
+    let centroids-at = after-centroids-at t in
+    let order-at = after-order-at (after-nodes-at centroids-at) in
+    let a = start order-at in
+    mean-room (a .pre .0) (a .pre .1) (order-at .order-at .ensures) (t .take-header .ensures) (centroids-at .centroids-at .ensures)
 
 is-leaf-requires : tie.Need-is-leaf-requires
 is-leaf-requires c κs = search needs
@@ -117,8 +120,9 @@ write-six-requires c κs = search needs
 add-result : tie.Need-add-result
 add-result c =
     let t = after-take-header′′ (after-mean-into (after-is-leaf (then1 (after-write-six c)))) in
-    let a = start (after-order-at (after-nodes-at (after-centroids-at t))) in
-    omega (arith, end-fits (a .pre .0) (a .pre .1) (after-order-at (after-nodes-at (after-centroids-at t)) .order-at .ensures) (t .take-header .ensures), a .pre .0 .held, a .pre .0 .limits .vectors-high)
+    let order-at = after-order-at (after-nodes-at (after-centroids-at t)) in
+    let a = start order-at in
+    omega (arith, end-fits (a .pre .0) (a .pre .1) (order-at .order-at .ensures) (t .take-header .ensures), a .pre .0 .held, a .pre .0 .limits .vectors-high)
 
 same-length : tie.Need-same-length
 same-length c = search needs
@@ -128,21 +132,38 @@ same-length-2 c = search needs
 
 returns : tie.Need-returns
 returns c =
-    let t = after-take-header′′ (after-mean-into (after-is-leaf (then1 (after-write-six c)))) in
-    let a = start (after-order-at (after-nodes-at (after-centroids-at t))) in
-    leaf-end (a .pre .0) (a .pre .1) (after-order-at (after-nodes-at (after-centroids-at t)) .order-at .ensures) (t .take-header .ensures) (a .args .leaf-size) (after-centroids-at t .centroids-at .ensures) (after-nodes-at (after-centroids-at t) .nodes-at .ensures) (after-mean-into (after-is-leaf (then1 (after-write-six c))) .mean-into .ensures) (sym (after-is-leaf (then1 (after-write-six c)) .is-leaf .ensures) ∙ then1 (after-write-six c) .if1 .taken) (after-write-six c .write-six .ensures)
+    let write-six = after-write-six c in
+    let taken = then1 write-six in
+    let is-leaf = after-is-leaf taken in
+    let mean-into = after-mean-into is-leaf in
+    let t = after-take-header′′ mean-into in
+    let centroids-at = after-centroids-at t in
+    let nodes-at = after-nodes-at centroids-at in
+    let order-at = after-order-at nodes-at in
+    let a = start order-at in
+    leaf-end (a .pre .0) (a .pre .1) (order-at .order-at .ensures) (t .take-header .ensures) (a .args .leaf-size) (centroids-at .centroids-at .ensures) (nodes-at .nodes-at .ensures) (mean-into .mean-into .ensures) (sym (is-leaf .is-leaf .ensures) ∙ taken .if1 .taken) (write-six .write-six .ensures)
 
 sub-split-node : tie.Need-sub-split-node
 sub-split-node c =
-    let t = after-take-header′′ (after-mean-into (after-is-leaf′ (c .before))) in
-    let a = start (after-order-at (after-nodes-at (after-centroids-at t))) in
-    omega (arith, levels-some (a .pre .0) (a .pre .1) (after-order-at (after-nodes-at (after-centroids-at t)) .order-at .ensures) (t .take-header .ensures) (a .args .leaf-size) (after-centroids-at t .centroids-at .ensures) (after-nodes-at (after-centroids-at t) .nodes-at .ensures) (after-mean-into (after-is-leaf′ (c .before)) .mean-into .ensures) (sym (c .before .before .is-leaf .ensures) ∙ c .before .if1 .left))
+    let mean-into = after-mean-into (after-is-leaf′ (c .before)) in
+    let t = after-take-header′′ mean-into in
+    let centroids-at = after-centroids-at t in
+    let nodes-at = after-nodes-at centroids-at in
+    let order-at = after-order-at nodes-at in
+    let a = start order-at in
+    omega (arith, levels-some (a .pre .0) (a .pre .1) (order-at .order-at .ensures) (t .take-header .ensures) (a .args .leaf-size) (centroids-at .centroids-at .ensures) (nodes-at .nodes-at .ensures) (mean-into .mean-into .ensures) (sym (c .before .before .is-leaf .ensures) ∙ c .before .if1 .left))
 
 split-node-requires : tie.Need-split-node-requires
 split-node-requires c κs =
-    let t = after-take-header′′ (after-mean-into (after-is-leaf′ (else1 c))) in
-    let a = start (after-order-at (after-nodes-at (after-centroids-at t))) in
-    (lent₁ (a .pre .0) (a .pre .1) (after-order-at (after-nodes-at (after-centroids-at t)) .order-at .ensures) (t .take-header .ensures) (a .args .leaf-size) (after-centroids-at t .centroids-at .ensures) (after-nodes-at (after-centroids-at t) .nodes-at .ensures) (after-mean-into (after-is-leaf′ (else1 c)) .mean-into .ensures) (sym (after-is-leaf′ (else1 c) .is-leaf .ensures) ∙ else1 c .if1 .left) (after-mean-into (after-is-leaf′ (else1 c)) .mean-into .kept .0), splits (a .pre .0) (a .pre .1) (after-order-at (after-nodes-at (after-centroids-at t)) .order-at .ensures) (t .take-header .ensures) (a .args .leaf-size) (after-centroids-at t .centroids-at .ensures) (after-nodes-at (after-centroids-at t) .nodes-at .ensures) (after-mean-into (after-is-leaf′ (else1 c)) .mean-into .ensures) (sym (after-is-leaf′ (else1 c) .is-leaf .ensures) ∙ else1 c .if1 .left))
+    let left = else1 c in
+    let is-leaf = after-is-leaf′ left in
+    let mean-into = after-mean-into is-leaf in
+    let t = after-take-header′′ mean-into in
+    let centroids-at = after-centroids-at t in
+    let nodes-at = after-nodes-at centroids-at in
+    let order-at = after-order-at nodes-at in
+    let a = start order-at in
+    (lent₁ (a .pre .0) (a .pre .1) (order-at .order-at .ensures) (t .take-header .ensures) (a .args .leaf-size) (centroids-at .centroids-at .ensures) (nodes-at .nodes-at .ensures) (mean-into .mean-into .ensures) (sym (is-leaf .is-leaf .ensures) ∙ left .if1 .left) (mean-into .mean-into .kept .0), splits (a .pre .0) (a .pre .1) (order-at .order-at .ensures) (t .take-header .ensures) (a .args .leaf-size) (centroids-at .centroids-at .ensures) (nodes-at .nodes-at .ensures) (mean-into .mean-into .ensures) (sym (is-leaf .is-leaf .ensures) ∙ left .if1 .left))
 
 same-length-3 : tie.Need-same-length-3
 same-length-3 c = search needs
@@ -155,9 +176,16 @@ same-length-5 c = search needs
 
 returns-2 : tie.Need-returns-2
 returns-2 c =
-    let t = after-take-header′′ (after-mean-into (after-is-leaf′ (else1′ (after-split-node c)))) in
-    let a = start (after-order-at (after-nodes-at (after-centroids-at t))) in
-    inner-end (a .pre .0) (a .pre .1) (after-order-at (after-nodes-at (after-centroids-at t)) .order-at .ensures) (t .take-header .ensures) (a .args .leaf-size) (after-centroids-at t .centroids-at .ensures) (after-nodes-at (after-centroids-at t) .nodes-at .ensures) (after-mean-into (after-is-leaf′ (else1′ (after-split-node c))) .mean-into .ensures) (sym (after-is-leaf′ (else1′ (after-split-node c)) .is-leaf .ensures) ∙ else1′ (after-split-node c) .if1 .left) (after-split-node c .split-node .ensures)
+    let split-node = after-split-node c in
+    let left = else1′ split-node in
+    let is-leaf = after-is-leaf′ left in
+    let mean-into = after-mean-into is-leaf in
+    let t = after-take-header′′ mean-into in
+    let centroids-at = after-centroids-at t in
+    let nodes-at = after-nodes-at centroids-at in
+    let order-at = after-order-at nodes-at in
+    let a = start order-at in
+    inner-end (a .pre .0) (a .pre .1) (order-at .order-at .ensures) (t .take-header .ensures) (a .args .leaf-size) (centroids-at .centroids-at .ensures) (nodes-at .nodes-at .ensures) (mean-into .mean-into .ensures) (sym (is-leaf .is-leaf .ensures) ∙ left .if1 .left) (split-node .split-node .ensures)
 
 pub make-node-spec : {M : Type 1} → statement M
 make-node-spec =

@@ -38,8 +38,8 @@ abbrev after-wide′ : tie.After-slice-known4 Inv-loop μ-loop → tie.After-wid
 after-wide′ c = c .before .before .before .before .before .before
 
 turn : (c : tie.After-wide Inv-loop μ-loop)
-    → Turn (cells (c .before .before .before .before .before .before .args .at) (c .before .before .before .before .before .before .args .nodes) (c .before .before .before .before .before .before .args .numbers .now)) (c .before .before .before .before .before .before .args .numbers .now) (c .before .before .before .before .before .before .args .work .now)
-    (c .before .before .before .before .before .before .args .nodes) (c .before .before .before .before .before .before .args .links) (c .before .before .before .loop .numbers) (c .before .before .before .loop .work) (c .before .before .before .loop .top) (c .before .before .before .loop .end) (c .before .before .before .loop .i - 1) (c .wide .result)
+    → Turn (cells (start (at-loop′ c) .args .at) (start (at-loop′ c) .args .nodes) (start (at-loop′ c) .args .numbers .now)) (start (at-loop′ c) .args .numbers .now) (start (at-loop′ c) .args .work .now)
+    (start (at-loop′ c) .args .nodes) (start (at-loop′ c) .args .links) (at-loop′ c .loop .numbers) (at-loop′ c .loop .work) (at-loop′ c .loop .top) (at-loop′ c .loop .end) (at-loop′ c .loop .i - 1) (c .wide .result)
 turn c =
     let s = start (at-loop′ c) in
     let args = s .args in
@@ -119,10 +119,12 @@ part-copy-to-end c = let t = turn (c .before .before) in omega arith
 
 copy-to-requires : tie.Need-copy-to-requires Inv-loop μ-loop
 copy-to-requires c κs =
-    let t = turn (after-wide c) in
-    let s = start (at-loop′ (after-wide c)) in
-    let at-loop = at-loop′ (after-wide c) .loop in
-    let w = after-wide c .wide .result in
+    let wide = after-wide c in
+    let at-loop₀ = at-loop′ wide in
+    let t = turn (wide) in
+    let s = start at-loop₀ in
+    let at-loop = at-loop₀ .loop in
+    let w = wide .wide .result in
     let long = ap (λ (r : List ℕ). length r) (lent-run (at-loop .top) w (at-loop .work)) ∙ length-part (at-loop .top) w (at-loop .work) (omega arith) in
     let a = s .pre .1 .0 in
     let n = at-loop .inv .1 in
@@ -145,12 +147,14 @@ loop-less c = omega arith
 
 loop-again : tie.Need-loop-again Inv-loop μ-loop
 loop-again c =
-    let t = turn (after-wide′ c) in
-    let s = start (at-loop′ (after-wide′ c)) in
+    let wide = after-wide′ c in
+    let at-loop₀ = at-loop′ wide in
+    let t = turn (wide) in
+    let s = start at-loop₀ in
     let args = s .args in
-    let at-loop = at-loop′ (after-wide′ c) .loop in
+    let at-loop = at-loop₀ .loop in
     let copy = c .before .before .copy-to in
-    let w = after-wide′ c .wide .result in
+    let w = wide .wide .result in
     let l = args .numbers .now in
     let cs = cells (args .at) (args .nodes) l in
     let n = length-cells (args .at) (args .nodes) l in

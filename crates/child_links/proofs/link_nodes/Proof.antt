@@ -64,10 +64,12 @@ same-length-2 c = search needs
 
 returns : tie.Need-returns
 returns c =
-    let s = start′ (after-set-starts′ (after-link-children c)) in
+    let link-children = after-link-children c in
+    let set-starts = after-set-starts′ link-children in
+    let s = start′ set-starts in
     let args = s .args in
-    let starts = after-set-starts′ (after-link-children c) .set-starts in
-    let link = after-link-children c .link-children in
+    let starts = set-starts .set-starts in
+    let link = link-children .link-children in
     let kept = cells-kept (args .table) (args .nodes) (blockStart (args .table) (args .numbers .now)) (args .numbers .now) (starts .last .0) (starts .ensures) in
     (link .ensures .0 ∙ ap₂ (λ (r cs : List ℕ). sets r (args .links) (linkUp 0 cs .links)) (starts .ensures) kept, link .ensures .1)
 

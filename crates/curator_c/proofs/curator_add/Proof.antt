@@ -5,6 +5,14 @@ use borrow.Author.Needs.{needs}
 use Rattle.curator_c.proofs.curator_add.Statement.{statement}
 use Rattle.curator_c.proofs.curator_add.Tie as tie
 
+-- ---- the places, each with the way back to the one before
+
+abbrev after-index : tie.After-add → tie.After-index
+after-index c = c .before .before .before .before .before
+
+abbrev after-add : tie.After-slice-known8 → tie.After-add
+after-add c = c .before .before .before .before .before .before .before .before .before .before
+
 state-in-requires : tie.Need-state-in-requires
 state-in-requires c κs = search needs
 
@@ -37,14 +45,6 @@ same-length-4 c = search needs
 
 same-length-5 : tie.Need-same-length-5
 same-length-5 c = search needs
-
--- ---- the places, each with the way back to the one before
-
-abbrev after-index : tie.After-add → tie.After-index
-after-index c = c .before .before .before .before .before
-
-abbrev after-add : tie.After-slice-known8 → tie.After-add
-after-add c = c .before .before .before .before .before .before .before .before .before .before
 
 returns-2 : tie.Need-returns-2
 returns-2 c =

@@ -5,6 +5,14 @@ use borrow.Author.Needs.{needs}
 use Rattle.curator_c.proofs.curator_build.Statement.{statement}
 use Rattle.curator_c.proofs.curator_build.Tie as tie
 
+-- ---- the places, each with the way back to the one before
+
+abbrev after-index : tie.After-build → tie.After-index
+after-index c = c .before .before .before .before .before .before
+
+abbrev after-build : tie.After-slice-known10 → tie.After-build
+after-build c = c .before .before .before .before .before .before .before .before .before .before .before .before
+
 state-in-requires : tie.Need-state-in-requires
 state-in-requires c κs = search needs
 
@@ -40,14 +48,6 @@ same-length-5 c = search needs
 
 same-length-6 : tie.Need-same-length-6
 same-length-6 c = search needs
-
--- ---- the places, each with the way back to the one before
-
-abbrev after-index : tie.After-build → tie.After-index
-after-index c = c .before .before .before .before .before .before
-
-abbrev after-build : tie.After-slice-known10 → tie.After-build
-after-build c = c .before .before .before .before .before .before .before .before .before .before .before .before
 
 returns-2 : tie.Need-returns-2
 returns-2 c =

@@ -21,21 +21,6 @@ entry c = c .before .before .before .before .before .before .before .before .bef
 abbrev start : tie.After-search → tie.Start
 start c = entry (c .before .before .before .before .before)
 
-state-in-requires : tie.Need-state-in-requires
-state-in-requires c κs = search needs
-
-enum-told : tie.Need-enum-told
-enum-told c = search needs
-
-enum-known-index : tie.Need-enum-known-index
-enum-known-index c = search needs
-
-hits-asked-requires : tie.Need-hits-asked-requires
-hits-asked-requires c κs = omega (arith, entry c .good)
-
-search-requires : tie.Need-search-requires
-search-requires c κs = search needs
-
 -- ---- the places, each with the way back to the one before
 
 abbrev at-start : tie.After-enum-told → tie.Start
@@ -52,6 +37,21 @@ after-search c = c .before .before .before .before .before .before .before
 
 abbrev after-search′ : tie.After-slice-known8 → tie.After-search
 after-search′ c = c .before .before .before .before .before .before .before .before .before .before
+
+state-in-requires : tie.Need-state-in-requires
+state-in-requires c κs = search needs
+
+enum-told : tie.Need-enum-told
+enum-told c = search needs
+
+enum-known-index : tie.Need-enum-known-index
+enum-known-index c = search needs
+
+hits-asked-requires : tie.Need-hits-asked-requires
+hits-asked-requires c κs = omega (arith, entry c .good)
+
+search-requires : tie.Need-search-requires
+search-requires c κs = search needs
 
 tell-requires : tie.Need-tell-requires
 tell-requires c κs =

@@ -4,6 +4,11 @@ use borrow.Author.Needs.{needs}
 use Rattle.curator_c.proofs.keep.Statement.{statement}
 use Rattle.curator_c.proofs.keep.Tie as tie
 
+-- ---- the places, each with the way back to the one before
+
+abbrev else1 : tie.After-slice-known2 → tie.Else1
+else1 c = c .before .before .before .before
+
 enum-known-answer : tie.Need-enum-known-answer
 enum-known-answer c = search needs
 
@@ -24,11 +29,6 @@ returns-2 c = returns-refused _ _ _ _ (c .before .before .answer .given .1) (c .
 
 same-length : tie.Need-same-length
 same-length c = search needs
-
--- ---- the places, each with the way back to the one before
-
-abbrev else1 : tie.After-slice-known2 → tie.Else1
-else1 c = c .before .before .before .before
 
 returns-3 : tie.Need-returns-3
 returns-3 c =

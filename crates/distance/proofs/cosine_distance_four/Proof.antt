@@ -29,6 +29,23 @@ equal n a b c d t =
 field : (xs ys : List Float) (r s : Float) → length ys ≡ length xs → s ≡ dot xs ys → r ≡ sub binary32 one32 s → r ≡ distance xs ys
 field xs ys r s l e f = f ∙ rw e (sym (distance-alike xs ys (sym l)))
 
+-- ---- the places, each with the way back to the one before
+
+abbrev after-all-equal : tie.Then1 → tie.After-all-equal
+after-all-equal c = c .before
+
+abbrev then1 : tie.After-dot-four → tie.Then1
+then1 c = c .before
+
+abbrev after-dot-four : tie.After-from-one → tie.After-dot-four
+after-dot-four c = c .before
+
+abbrev after-cosine-distance-normalized : tie.After-cosine-distance-normalized4 → tie.After-cosine-distance-normalized
+after-cosine-distance-normalized c = c .before .before .before
+
+abbrev after-from-one : tie.After-from-one4 → tie.After-from-one
+after-from-one c = c .before .before .before
+
 all-equal-requires : tie.Need-all-equal-requires
 all-equal-requires c κs = search needs
 
@@ -47,28 +64,14 @@ from-one-requires-3 c κs = search needs
 from-one-requires-4 : tie.Need-from-one-requires-4
 from-one-requires-4 c κs = search needs
 
--- ---- the places, each with the way back to the one before
-
-abbrev after-all-equal : tie.Then1 → tie.After-all-equal
-after-all-equal c = c .before
-
-abbrev then1 : tie.After-dot-four → tie.Then1
-then1 c = c .before
-
-abbrev after-dot-four : tie.After-from-one → tie.After-dot-four
-after-dot-four c = c .before
-
-abbrev after-cosine-distance-normalized : tie.After-cosine-distance-normalized4 → tie.After-cosine-distance-normalized
-after-cosine-distance-normalized c = c .before .before .before
-
-abbrev after-from-one : tie.After-from-one4 → tie.After-from-one
-after-from-one c = c .before .before .before
-
 returns : tie.Need-returns
 returns c =
-    let same = equal _ _ _ _ _ (subst T (sym (sym (after-all-equal (then1 (after-dot-four (after-from-one c))) .all-equal .ensures) ∙ then1 (after-dot-four (after-from-one c)) .if1 .taken)) tt) in
-    let sums = after-dot-four (after-from-one c) .dot-four .ensures in (
-      field _ _ _ _ (same .0) (sums .0) (after-from-one c .from-one .ensures),
+    let from-one = after-from-one c in
+    let dot-four = after-dot-four from-one in
+    let taken = then1 dot-four in
+    let same = equal _ _ _ _ _ (subst T (sym (sym (after-all-equal taken .all-equal .ensures) ∙ taken .if1 .taken)) tt) in
+    let sums = dot-four .dot-four .ensures in (
+      field _ _ _ _ (same .0) (sums .0) (from-one .from-one .ensures),
       (
         field _ _ _ _ (same .1 .0) (sums .1 .0) (c .before .before .from-one2 .ensures),
         (

@@ -18,6 +18,17 @@ Inv-loop work₀ at numbers owners entries k₀ work k =
 abbrev μ-loop : tie.MeasureT-loop
 μ-loop work₀ at numbers owners entries k₀ work k = entries - k
 
+-- ---- the places, each with the way back to the one before
+
+abbrev entry : tie.At-loop Inv-loop μ-loop → tie.Start Inv-loop μ-loop
+entry c = c .before .before .before
+
+abbrev at-loop′ : tie.After-wide Inv-loop μ-loop → tie.At-loop Inv-loop μ-loop
+at-loop′ c = c .before .before .before
+
+abbrev at-loop′′ : tie.After-slice-known2 Inv-loop μ-loop → tie.At-loop Inv-loop μ-loop
+at-loop′′ c = c .before .before .before .before
+
 loop-holds : tie.Need-loop-holds Inv-loop μ-loop
 loop-holds c = (omega arith, refl, sym (written-none (λ k. c .before .before .args .at + k) (λ k. getD (c .before .before .args .work .now) (getD (c .before .before .args .numbers .now) (c .before .before .args .owners + k) 0) 0) (c .before .before .args .work .now)))
 
@@ -32,17 +43,6 @@ shared-slice-read-wide c = omega arith
 
 wide-requires : tie.Need-wide-requires Inv-loop μ-loop
 wide-requires c κs = search needs
-
--- ---- the places, each with the way back to the one before
-
-abbrev entry : tie.At-loop Inv-loop μ-loop → tie.Start Inv-loop μ-loop
-entry c = c .before .before .before
-
-abbrev at-loop′ : tie.After-wide Inv-loop μ-loop → tie.At-loop Inv-loop μ-loop
-at-loop′ c = c .before .before .before
-
-abbrev at-loop′′ : tie.After-slice-known2 Inv-loop μ-loop → tie.At-loop Inv-loop μ-loop
-at-loop′′ c = c .before .before .before .before
 
 mul-work : tie.Need-mul-work Inv-loop μ-loop
 mul-work c =

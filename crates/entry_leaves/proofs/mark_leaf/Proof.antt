@@ -17,6 +17,14 @@ Inv-loop work₀ ids node k₀ work k =
 abbrev μ-loop : tie.MeasureT-loop
 μ-loop work₀ ids node k₀ work k = length ids - k
 
+-- ---- the places, each with the way back to the one before
+
+abbrev start : tie.At-loop Inv-loop μ-loop → tie.Start Inv-loop μ-loop
+start c = c .before .before .before
+
+abbrev at-loop′ : tie.After-wide Inv-loop μ-loop → tie.At-loop Inv-loop μ-loop
+at-loop′ c = c .before .before .before
+
 loop-holds : tie.Need-loop-holds Inv-loop μ-loop
 loop-holds c = (omega arith, refl, sym (written-none (λ k. getD (c .before .before .args .ids .now) k 0) (λ k. c .before .before .args .node) (c .before .before .args .work .now)))
 
@@ -28,14 +36,6 @@ shared-slice-read-wide c = omega arith
 
 wide-requires : tie.Need-wide-requires Inv-loop μ-loop
 wide-requires c κs = search needs
-
--- ---- the places, each with the way back to the one before
-
-abbrev start : tie.At-loop Inv-loop μ-loop → tie.Start Inv-loop μ-loop
-start c = c .before .before .before
-
-abbrev at-loop′ : tie.After-wide Inv-loop μ-loop → tie.At-loop Inv-loop μ-loop
-at-loop′ c = c .before .before .before
 
 mul-work : tie.Need-mul-work Inv-loop μ-loop
 mul-work c =

@@ -42,7 +42,7 @@ abbrev after-wide : tie.After-slice-known2 Inv-loop μ-loop → tie.After-wide I
 after-wide c = c .before .before .before .before .before
 
 block : (c : tie.After-wide Inv-loop μ-loop)
-    → Block (c .before .before .before .before .before .before .args .order) (cell (c .before .before .before .before .before .before .args .at) (c .before .before .before .before .before .before .args .numbers .now)) (c .before .before .before .before .before .before .args .nodes) (c .before .before .before .loop .i) (c .before .before .before .loop .from) (c .wide .result) (length (c .before .before .before .before .before .before .args .numbers .now))
+    → Block (start (at-loop′ c) .args .order) (cell (start (at-loop′ c) .args .at) (start (at-loop′ c) .args .numbers .now)) (start (at-loop′ c) .args .nodes) (at-loop′ c .loop .i) (at-loop′ c .loop .from) (c .wide .result) (length (start (at-loop′ c) .args .numbers .now))
 block c =
     let s = start (at-loop′ c) in
     let args = s .args in
@@ -121,12 +121,14 @@ loop-less c = omega arith
 
 loop-again : tie.Need-loop-again Inv-loop μ-loop
 loop-again c =
-    let b = block (after-wide c) in
-    let s = start (at-loop′ (after-wide c)) in
+    let wide = after-wide c in
+    let at-loop₀ = at-loop′ wide in
+    let b = block (wide) in
+    let s = start at-loop₀ in
     let l = s .args .numbers .now in
-    let at-loop = at-loop′ (after-wide c) .loop in
+    let at-loop = at-loop₀ .loop in
     let from = at-loop .from in
-    let w = after-wide c .wide .result in
+    let w = wide .wide .result in
     let sum = sumTo (cell (s .args .at) l) (at-loop .i) in
     let mark = c .before .before .mark-leaf in
     let is = lent-run from w l in

@@ -16,14 +16,6 @@ Inv-loop floats₀ ids dimension count centres-at k step i₀ floats i = Writing
 abbrev μ-loop : tie.MeasureT-loop
 μ-loop floats₀ ids dimension count centres-at k step i₀ floats i = k - i
 
-div-step : tie.Need-div-step Inv-loop μ-loop
-div-step c = omega arith
-
-loop-holds : tie.Need-loop-holds Inv-loop μ-loop
-loop-holds c =
-    let room = c .before .before .pre .0 in
-    writing-none _ _ _ _ _ (length-firstCentres _ _ _) (room .within)
-
 -- ---- the places, each with the way back to the one before
 
 abbrev start : tie.At-loop Inv-loop μ-loop → tie.Start Inv-loop μ-loop
@@ -34,6 +26,14 @@ at-loop c = c .before
 
 abbrev in-loop : tie.After-slice-known2 Inv-loop μ-loop → tie.In-loop Inv-loop μ-loop
 in-loop c = c .before .before .before .before .before
+
+div-step : tie.Need-div-step Inv-loop μ-loop
+div-step c = omega arith
+
+loop-holds : tie.Need-loop-holds Inv-loop μ-loop
+loop-holds c =
+    let room = c .before .before .pre .0 in
+    writing-none _ _ _ _ _ (length-firstCentres _ _ _) (room .within)
 
 mul-id : tie.Need-mul-id Inv-loop μ-loop
 mul-id c =
@@ -98,10 +98,12 @@ loop-less c = omega arith
 
 loop-again : tie.Need-loop-again Inv-loop μ-loop
 loop-again c =
-    let a = start (at-loop (in-loop c)) in
-    let i = at-loop (in-loop c) .loop .i in
-    let there = step-below (length (a .args .ids .now)) (a .args .k) i (a .pre .1 .0) (a .pre .1 .1) (in-loop c .loop-test .taken) in
-    first-turn _ _ _ _ _ _ (a .pre .0) _ _ _ (at-loop (in-loop c) .loop .inv) (in-loop c .loop-test .taken) there (c .before .before .copy .ensures)
+    let in-loop₀ = in-loop c in
+    let at-loop₀ = at-loop in-loop₀ in
+    let a = start at-loop₀ in
+    let i = at-loop₀ .loop .i in
+    let there = step-below (length (a .args .ids .now)) (a .args .k) i (a .pre .1 .0) (a .pre .1 .1) (in-loop₀ .loop-test .taken) in
+    first-turn _ _ _ _ _ _ (a .pre .0) _ _ _ (at-loop₀ .loop .inv) (in-loop₀ .loop-test .taken) there (c .before .before .copy .ensures)
 
 same-length : tie.Need-same-length Inv-loop μ-loop
 same-length c = c .before .loop .inv .same

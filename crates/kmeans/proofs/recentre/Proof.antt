@@ -74,10 +74,13 @@ loop-less c = omega arith
 
 loop-again : tie.Need-loop-again Inv-loop μ-loop
 loop-again c =
-    let a = start′ (at-loop (in-loop (after-recentre-cluster c))) in
-    let inv = at-loop (in-loop (after-recentre-cluster c)) .loop .inv in
-    let done = after-recentre-cluster c .recentre-cluster in (
-      recentre-turn _ _ _ _ _ _ _ (a .pre .0) (a .pre .1 .1 .1) _ _ _ _ (inv .0) (inv .1) (in-loop (after-recentre-cluster c) .loop-test .taken) (done .ensures .0),
+    let recentre-cluster = after-recentre-cluster c in
+    let in-loop₀ = in-loop recentre-cluster in
+    let at-loop₀ = at-loop in-loop₀ in
+    let a = start′ at-loop₀ in
+    let inv = at-loop₀ .loop .inv in
+    let done = recentre-cluster .recentre-cluster in (
+      recentre-turn _ _ _ _ _ _ _ (a .pre .0) (a .pre .1 .1 .1) _ _ _ _ (inv .0) (inv .1) (in-loop₀ .loop-test .taken) (done .ensures .0),
       alike-trans _ _ (inv .1) (done .ensures .1),
       done .kept .1 .1 .0 ∙ inv .2,
     )

@@ -55,8 +55,9 @@ part-mean-into-end c =
 
 mean-into-requires : tie.Need-mean-into-requires
 mean-into-requires c κs =
-    let a = start′ (after-gather (then1 c)) in
-    handed-room _ _ _ _ _ _ _ (a .pre .0) (a .pre .1) _ _ (after-gather (then1 c) .gather .ensures .1) (after-gather (then1 c) .gather .ensures .0)
+    let gather = after-gather (then1 c) in
+    let a = start′ gather in
+    handed-room _ _ _ _ _ _ _ (a .pre .0) (a .pre .1) _ _ (gather .gather .ensures .1) (gather .gather .ensures .0)
 
 same-length : tie.Need-same-length
 same-length c = search needs
@@ -66,9 +67,11 @@ same-length-2 c = search needs
 
 returns : tie.Need-returns
 returns c =
-    let a = start′ (after-gather (then1′ c)) in (
-      chosen-mean _ _ _ _ _ _ _ (a .pre .0) (a .pre .1) _ _ _ (after-gather (then1′ c) .gather .ensures .1) (after-gather (then1′ c) .gather .ensures .0) (then1′ c .if1 .taken) (c .before .before .mean-into .ensures),
-      chosen-alike _ _ _ _ _ _ _ (a .pre .0) (a .pre .1) _ (after-gather (then1′ c) .gather .ensures .1),
+    let taken = then1′ c in
+    let gather = after-gather taken in
+    let a = start′ gather in (
+      chosen-mean _ _ _ _ _ _ _ (a .pre .0) (a .pre .1) _ _ _ (gather .gather .ensures .1) (gather .gather .ensures .0) (taken .if1 .taken) (c .before .before .mean-into .ensures),
+      chosen-alike _ _ _ _ _ _ _ (a .pre .0) (a .pre .1) _ (gather .gather .ensures .1),
     )
 
 same-length-3 : tie.Need-same-length-3

@@ -29,9 +29,11 @@ assign-requires c κs =
 
 recentre-requires : tie.Need-recentre-requires
 recentre-requires c κs =
-    let p = start′ (after-assign c) .args in
-    let pre = start′ (after-assign c) .pre in
-    let done = after-assign c .assign in (
+    let assign = after-assign c in
+    let s = start′ assign in
+    let p = s .args in
+    let pre = s .pre in
+    let done = assign .assign in (
       pre .0,
       (
         pre .1 .1 .0,
@@ -47,10 +49,13 @@ same-length-2 c = search needs
 
 returns : tie.Need-returns
 returns c =
-    let p = start′ (after-assign′ (after-recentre c)) .args in
-    let pre = start′ (after-assign′ (after-recentre c)) .pre in
-    let first = after-assign′ (after-recentre c) .assign in
-    let done = after-recentre c .recentre in (
+    let recentre = after-recentre c in
+    let assign = after-assign′ recentre in
+    let s = start′ assign in
+    let p = s .args in
+    let pre = s .pre in
+    let first = assign .assign in
+    let done = recentre .recentre in (
       done .ensures .0,
       round-alike (p .ids .now) (p .work .now) (first .last .1 .1 .0) (done .last .1 .1 .0)
           (assigned-alike (p .floats .now) (p .ids .now) (p .work .now) (first .last .1 .1 .0) (p .dimension) (p .count) (p .centres-at) (p .k) (first .ensures) (pre .1 .1 .1))

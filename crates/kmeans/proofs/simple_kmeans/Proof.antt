@@ -6,9 +6,6 @@ use Rattle.kmeans.proofs.Centring.{room-kept, kmeans-end}
 use Rattle.kmeans.proofs.simple_kmeans.Statement.{statement}
 use Rattle.kmeans.proofs.simple_kmeans.Tie as tie
 
-first-centres-requires : tie.Need-first-centres-requires
-first-centres-requires c κs = search needs
-
 -- ---- the places, each with the way back to the one before
 
 abbrev start : tie.After-first-centres → tie.Start
@@ -32,6 +29,9 @@ after-round2 c = c .before .before .before .before .before .before
 abbrev after-round2′ : tie.After-slice-known8 → tie.After-round2
 after-round2′ c = c .before .before .before .before .before .before .before .before .before
 
+first-centres-requires : tie.Need-first-centres-requires
+first-centres-requires c κs = search needs
+
 round-requires : tie.Need-round-requires
 round-requires c κs =
     let a = start (after-first-centres c) in (
@@ -41,18 +41,23 @@ round-requires c κs =
 
 round-requires-2 : tie.Need-round-requires-2
 round-requires-2 c κs =
-    let a = start (after-first-centres′ (after-round c)) in
-    let one = after-round c .round .kept in (
-      room-kept _ _ _ _ _ _ _ (a .pre .0) (one .0 ∙ after-first-centres′ (after-round c) .first-centres .kept .0),
+    let round = after-round c in
+    let first-centres = after-first-centres′ round in
+    let a = start first-centres in
+    let one = round .round .kept in (
+      room-kept _ _ _ _ _ _ _ (a .pre .0) (one .0 ∙ first-centres .first-centres .kept .0),
       (a .pre .1 .0, (omega (arith, a .pre .0 .few, a .pre .1 .1 .0), omega (arith, one .1 .1 .0, a .pre .1 .1 .1))),
     )
 
 assign-requires : tie.Need-assign-requires
 assign-requires c κs =
-    let a = start (after-first-centres′ (after-round′ (after-round2 c))) in
-    let one = after-round′ (after-round2 c) .round .kept in
-    let two = after-round2 c .round2 .kept in (
-      room-kept _ _ _ _ _ _ _ (a .pre .0) (two .0 ∙ one .0 ∙ after-first-centres′ (after-round′ (after-round2 c)) .first-centres .kept .0),
+    let round2 = after-round2 c in
+    let round = after-round′ round2 in
+    let first-centres = after-first-centres′ round in
+    let a = start first-centres in
+    let one = round .round .kept in
+    let two = round2 .round2 .kept in (
+      room-kept _ _ _ _ _ _ _ (a .pre .0) (two .0 ∙ one .0 ∙ first-centres .first-centres .kept .0),
       (a .pre .1 .0, (omega (arith, a .pre .0 .few, a .pre .1 .1 .0), omega (arith, one .1 .1 .0, two .1 .1 .0, a .pre .1 .1 .1))),
     )
 
@@ -64,11 +69,14 @@ same-length-2 c = search needs
 
 returns : tie.Need-returns
 returns c =
-    let a = start (after-first-centres′ (after-round′ (after-round2′ c))) in
+    let round2 = after-round2′ c in
+    let round = after-round′ round2 in
+    let first-centres = after-first-centres′ round in
+    let a = start first-centres in
     let p = a .args in
-    let first = after-first-centres′ (after-round′ (after-round2′ c)) .first-centres in
-    let one = after-round′ (after-round2′ c) .round in
-    let two = after-round2′ c .round2 in
+    let first = first-centres .first-centres in
+    let one = round .round in
+    let two = round2 .round2 in
     let third = c .before .before .assign in
     kmeans-end (p .dimension) (p .count) (p .centres-at) (p .k) (p .ids .now) (p .floats .now) (first .last .0) (one .last .0) (two .last .0) (p .work .now)
     (one .last .1 .1 .0) (two .last .1 .1 .0) (third .last .1 .1 .0) (a .pre .0 .behind) (a .pre .1 .1 .0)

@@ -28,6 +28,14 @@ finish : (bytes : List ℕ) (hash i : ℕ) → length bytes ≤ i → fnvFrom ha
 unfolding fnvFrom
 finish bytes hash i h = rw drop-of-length-le
 
+-- ---- the places, each with the way back to the one before
+
+abbrev entry : tie.At-loop Inv-loop μ-loop → tie.Start Inv-loop μ-loop
+entry c = c .before .before
+
+abbrev at-loop : tie.After-wrapping-mul Inv-loop μ-loop → tie.At-loop Inv-loop μ-loop
+at-loop c = c .before .before .before .before
+
 loop-holds : tie.Need-loop-holds Inv-loop μ-loop
 loop-holds c = (omega arith, refl)
 
@@ -45,14 +53,6 @@ add-i c = omega arith
 
 loop-less : tie.Need-loop-less Inv-loop μ-loop
 loop-less c = omega arith
-
--- ---- the places, each with the way back to the one before
-
-abbrev entry : tie.At-loop Inv-loop μ-loop → tie.Start Inv-loop μ-loop
-entry c = c .before .before
-
-abbrev at-loop : tie.After-wrapping-mul Inv-loop μ-loop → tie.At-loop Inv-loop μ-loop
-at-loop c = c .before .before .before .before
 
 loop-again : tie.Need-loop-again Inv-loop μ-loop
 unfolding fnvStep

@@ -10,28 +10,6 @@ use borrow.Author.Needs.{needs}
 use Rattle.label_entries.proofs.insert_label_entries.Statement.{statement}
 use Rattle.label_entries.proofs.insert_label_entries.Tie as tie
 
--- what the function is given
-abbrev given : tie.After-places-of → Given
-given c =
-    record {
-      shape = c .before .before .before .before .args .shape;
-      count = c .before .before .before .before .args .vectors;
-      entries = c .before .before .before .before .args .entries;
-      rows = c .before .before .before .before .args .nodes;
-      numbers = c .before .before .before .before .args .numbers .now;
-      hashes = c .before .before .before .before .args .hashes .now;
-      work = c .before .before .before .before .args .work .now;
-      room = c .before .before .before .before .pre .0;
-      places = c .places-of .result;
-      places-are = c .places-of .ensures;
-    }
-
-places-of-requires : tie.Need-places-of-requires
-places-of-requires c κs = search needs
-
-add-end : tie.Need-add-end
-add-end c = search needs
-
 -- ---- the places, each with the way back to the one before
 
 abbrev start : tie.After-places-of → tie.Start
@@ -58,6 +36,28 @@ after-sort-entries c = c .before .before .before .before
 abbrev after-sort-entries′ : tie.After-slice-known8 → tie.After-sort-entries
 after-sort-entries′ c = c .before .before .before .before .before .before .before
 
+-- what the function is given
+abbrev given : tie.After-places-of → Given
+given c =
+    record {
+      shape = start c .args .shape;
+      count = start c .args .vectors;
+      entries = start c .args .entries;
+      rows = start c .args .nodes;
+      numbers = start c .args .numbers .now;
+      hashes = start c .args .hashes .now;
+      work = start c .args .work .now;
+      room = start c .pre .0;
+      places = c .places-of .result;
+      places-are = c .places-of .ensures;
+    }
+
+places-of-requires : tie.Need-places-of-requires
+places-of-requires c κs = search needs
+
+add-end : tie.Need-add-end
+add-end c = search needs
+
 link-nodes-requires : tie.Need-link-nodes-requires
 link-nodes-requires c κs =
     let g = given (c .before .before) in
@@ -70,9 +70,11 @@ add-entry-leaves c = let f = places-fit (given (after-places-of (after-link-node
 
 entry-leaves-requires : tie.Need-entry-leaves-requires
 entry-leaves-requires c κs =
-    let g = given (after-places-of (after-link-nodes c)) in
-    let made = start (after-places-of (after-link-nodes c)) .pre .1 in
-    let link = after-link-nodes c .link-nodes in
+    let link-nodes = after-link-nodes c in
+    let places-of = after-places-of link-nodes in
+    let g = given (places-of) in
+    let made = start places-of .pre .1 in
+    let link = link-nodes .link-nodes in
     leaves-ask g made (link .last .0) (link .last .1 .1 .1 .1 .0) (link .ensures .0) (link .kept .1 .1 .1 .1 .0)
 
 mul-sort-entries : tie.Need-mul-sort-entries
@@ -89,10 +91,13 @@ part-sort-entries-end c = search needs
 
 sort-entries-requires : tie.Need-sort-entries-requires
 sort-entries-requires c κs =
-    let g = given (after-places-of (after-link-nodes′ (after-entry-leaves c))) in
-    let made = start (after-places-of (after-link-nodes′ (after-entry-leaves c))) .pre .1 in
-    let link = after-link-nodes′ (after-entry-leaves c) .link-nodes in
-    let marked = after-entry-leaves c .entry-leaves in
+    let entry-leaves = after-entry-leaves c in
+    let link-nodes = after-link-nodes′ entry-leaves in
+    let places-of = after-places-of link-nodes in
+    let g = given (places-of) in
+    let made = start places-of .pre .1 in
+    let link = link-nodes .link-nodes in
+    let marked = entry-leaves .entry-leaves in
     let part₂ = lent-run (g .shape .vectors) (g .entries) (marked .last .0) in
     let leaves = take (g .shape .vectors + g .entries - g .shape .vectors) (drop (g .shape .vectors) (marked .last .0)) in
     let fit = places-fit g in
@@ -101,13 +106,17 @@ sort-entries-requires c κs =
 
 make-filters-requires : tie.Need-make-filters-requires
 make-filters-requires c κs =
-    let g = given (after-places-of (after-link-nodes′ (after-entry-leaves′ (after-sort-entries c)))) in
-    let made = start (after-places-of (after-link-nodes′ (after-entry-leaves′ (after-sort-entries c)))) .pre .1 in
-    let link = after-link-nodes′ (after-entry-leaves′ (after-sort-entries c)) .link-nodes in
-    let marked = after-entry-leaves′ (after-sort-entries c) .entry-leaves in
+    let sort-entries = after-sort-entries c in
+    let entry-leaves = after-entry-leaves′ sort-entries in
+    let link-nodes = after-link-nodes′ entry-leaves in
+    let places-of = after-places-of link-nodes in
+    let g = given (places-of) in
+    let made = start places-of .pre .1 in
+    let link = link-nodes .link-nodes in
+    let marked = entry-leaves .entry-leaves in
     let part₂ = lent-run (g .shape .vectors) (g .entries) (marked .last .0) in
     let leaves = take (g .shape .vectors + g .entries - g .shape .vectors) (drop (g .shape .vectors) (marked .last .0)) in
-    let sort = after-sort-entries c .sort-entries in
+    let sort = sort-entries .sort-entries in
     let fit = places-fit g in
     (fit .filters-end, (omega (arith, fit .table-links, fit .links-end, link .kept .0, sort .kept .0), rows-ask g made (link .last .0) (link .last .1 .1 .1 .1 .0) (link .ensures .0) (link .kept .1 .1 .1 .1 .0) (marked .last .0) leaves (marked .ensures) part₂ (sort .last .0) (sort .ensures)))
 
@@ -122,13 +131,17 @@ same-length-3 c = search needs
 
 returns : tie.Need-returns
 returns c =
-    let g = given (after-places-of (after-link-nodes′ (after-entry-leaves′ (after-sort-entries′ c)))) in
-    let made = start (after-places-of (after-link-nodes′ (after-entry-leaves′ (after-sort-entries′ c)))) .pre .1 in
-    let link = after-link-nodes′ (after-entry-leaves′ (after-sort-entries′ c)) .link-nodes in
-    let marked = after-entry-leaves′ (after-sort-entries′ c) .entry-leaves in
+    let sort-entries = after-sort-entries′ c in
+    let entry-leaves = after-entry-leaves′ sort-entries in
+    let link-nodes = after-link-nodes′ entry-leaves in
+    let places-of = after-places-of link-nodes in
+    let g = given (places-of) in
+    let made = start places-of .pre .1 in
+    let link = link-nodes .link-nodes in
+    let marked = entry-leaves .entry-leaves in
     let part₂ = lent-run (g .shape .vectors) (g .entries) (marked .last .0) in
     let leaves = take (g .shape .vectors + g .entries - g .shape .vectors) (drop (g .shape .vectors) (marked .last .0)) in
-    let sort = after-sort-entries′ c .sort-entries in
+    let sort = sort-entries .sort-entries in
     let filters = c .before .before .make-filters in
     record {
       numbers-are = λ m. numbers-laid g m (link .last .0) (link .last .1 .1 .1 .1 .0) (link .ensures .0) (link .kept .1 .1 .1 .1 .0) (marked .last .0) leaves (marked .ensures) part₂ (sort .last .0) (sort .ensures);

@@ -74,31 +74,16 @@ further t m r found came =
     (gathers-append (test e) (wants e) (owner e) (e .args .counts .entries) (part (e .args .start) (t .loop .read) numbers) (part (e .args .start + t .loop .read) m numbers) (e .args .before)
     (t .loop .total) (e .args .found .now) (t .loop .found) found r (t .loop .inv .1) came)
 
--- of the next four
-four : (a : tie.After-add-four Inv-loop μ-loop) (r : Added) → a .add-four .result ≡ r → let t = a .before .before .before .before in Due (entry t) (t .loop .read + 4) r (a .add-four .last .1 .1 .1 .0)
-four a r is =
-    let t = a .before .before .before .before in
-    let found : List ℕ = a .add-four .last .1 .1 .1 .0 in
-    subst (λ (r : Added). Due (entry t) (t .loop .read + 4) r found) is (further t 4 (a .add-four .result) found (a .add-four .ensures))
-
--- there are four numbers left, and room for as many hits
-many : (f : Four) → let t = f .before .before in (t .loop .read + 4 ≤ entry t .args .count) × (t .loop .total + 4 ≤ entry t .args .counts .entries)
-many f =
-    let t = f .before .before in
-    let e = entry t in
-    let test = neither (ltb (e .args .count - t .loop .read) 4) (ltb (e .args .counts .entries) (t .loop .total + 4)) (f .if1 .left) in
-    (omega (arith, ltb-false (e .args .count - t .loop .read) 4 (test .0), t .loop .inv .0), omega (arith, ltb-false (e .args .counts .entries) (t .loop .total + 4) (test .1)))
-
 -- ---- the places, each with the way back to the one before
 
 abbrev at-start : tie.After-slice-known Inv-loop μ-loop → tie.Start Inv-loop μ-loop
 at-start c = c .before .before .before
 
-abbrev at-loop′ : tie.Else1 Inv-loop μ-loop → tie.At-loop Inv-loop μ-loop
-at-loop′ c = c .before .before
+abbrev at-loop : tie.Else1 Inv-loop μ-loop → tie.At-loop Inv-loop μ-loop
+at-loop c = c .before .before
 
-abbrev at-loop : tie.After-add-rest-arg Inv-loop μ-loop → tie.At-loop Inv-loop μ-loop
-at-loop c = c .before .before .before
+abbrev at-loop′ : tie.After-add-rest-arg Inv-loop μ-loop → tie.At-loop Inv-loop μ-loop
+at-loop′ c = c .before .before .before
 
 abbrev else1 : tie.After-add-four Inv-loop μ-loop → tie.Else1 Inv-loop μ-loop
 else1 c = c .before .before
@@ -111,6 +96,21 @@ after-add-four′ c = c .before .before .before .before
 
 abbrev after-add-four : tie.After-known-told Inv-loop μ-loop → tie.After-add-four Inv-loop μ-loop
 after-add-four c = c .before .before .before .before .before
+
+-- of the next four
+four : (a : tie.After-add-four Inv-loop μ-loop) (r : Added) → a .add-four .result ≡ r → let t = at-loop (else1 a) in Due (entry t) (t .loop .read + 4) r (a .add-four .last .1 .1 .1 .0)
+four a r is =
+    let t = a .before .before .before .before in
+    let found : List ℕ = a .add-four .last .1 .1 .1 .0 in
+    subst (λ (r : Added). Due (entry t) (t .loop .read + 4) r found) is (further t 4 (a .add-four .result) found (a .add-four .ensures))
+
+-- there are four numbers left, and room for as many hits
+many : (f : Four) → let t = f .before .before in (t .loop .read + 4 ≤ entry t .args .count) × (t .loop .total + 4 ≤ entry t .args .counts .entries)
+many f =
+    let t = f .before .before in
+    let e = entry t in
+    let test = neither (ltb (e .args .count - t .loop .read) 4) (ltb (e .args .counts .entries) (t .loop .total + 4)) (f .if1 .left) in
+    (omega (arith, ltb-false (e .args .count - t .loop .read) 4 (test .0), t .loop .inv .0), omega (arith, ltb-false (e .args .counts .entries) (t .loop .total + 4) (test .1)))
 
 loop-holds : tie.Need-loop-holds Inv-loop μ-loop
 loop-holds c =
@@ -128,7 +128,7 @@ add-if1 c = search needs
 
 add-rest-requires : tie.Need-add-rest-requires Inv-loop μ-loop
 add-rest-requires c κs =
-    let t = at-loop c in
+    let t = at-loop′ c in
     let e = entry t in
     let pre = e .pre .hits in
     record {
@@ -139,7 +139,7 @@ add-rest-requires c κs =
 
 add-four-requires : tie.Need-add-four-requires Inv-loop μ-loop
 add-four-requires c κs =
-    let t = at-loop′ (c .before) in
+    let t = at-loop (c .before) in
     let e = entry t in
     let pre = e .pre .hits in
     let more = many (c .before) in
@@ -160,7 +160,9 @@ enum-known-more : tie.Need-enum-known-more Inv-loop μ-loop
 enum-known-more c = search needs
 
 add-read : tie.Need-add-read Inv-loop μ-loop
-add-read c = let t = at-loop′ (else1 (after-add-four c)) in omega (arith, many (else1 (after-add-four c)) .0, entry t .good)
+add-read c =
+    let left = else1 (after-add-four c) in
+    let t = at-loop left in omega (arith, many (left) .0, entry t .good)
 
 loop-less : tie.Need-loop-less Inv-loop μ-loop
 loop-less c = omega (arith, many (else1 (after-add-four c)) .0)
@@ -169,7 +171,7 @@ loop-again : tie.Need-loop-again Inv-loop μ-loop
 loop-again c =
     let a = after-add-four c in
     let more = c .before .more .given in
-    (many (a .before .before) .0, four a (added.Hits (more .0 .0)) (more .1), a .add-four .kept .1 .1 .1 .0 ∙ at-loop′ (else1 a) .loop .inv .2)
+    (many (a .before .before) .0, four a (added.Hits (more .0 .0)) (more .1), a .add-four .kept .1 .1 .1 .0 ∙ at-loop (else1 a) .loop .inv .2)
 
 same-length : tie.Need-same-length Inv-loop μ-loop
 same-length c = c .before .before .add-rest .kept .1 .1 .1 .0 ∙ at-loop′′ c .loop .inv .2
@@ -184,12 +186,12 @@ returns c =
     subst (λ (n : ℕ). Due e n (rest .result) found) all (further t (e .args .count - t .loop .read) (rest .result) found (rest .ensures))
 
 same-length-2 : tie.Need-same-length-2 Inv-loop μ-loop
-same-length-2 c = after-add-four′ c .add-four .kept .1 .1 .1 .0 ∙ at-loop′ (else1 (after-add-four′ c)) .loop .inv .2
+same-length-2 c = after-add-four′ c .add-four .kept .1 .1 .1 .0 ∙ at-loop (else1 (after-add-four′ c)) .loop .inv .2
 
 returns-2 : tie.Need-returns-2 Inv-loop μ-loop
 returns-2 c =
     let a = after-add-four′ c in
-    let t = at-loop′ (else1 a) in
+    let t = at-loop (else1 a) in
     let e = entry t in
     let read : ℕ = t .loop .read + 4 in
     let left : ℕ = e .args .count - read in

@@ -46,33 +46,6 @@ two w = w .before .before .before .before
 abbrev three : tie.After-write-owner4 → tie.After-write-owner3
 three w = w .before .before .before .before
 
-abbrev first : Numbers → ℕ
-first n = n .before .before .before .before .before .before .before .wide .result
-
-abbrev second : Numbers → ℕ
-second n = n .before .before .before .before .before .wide2 .result
-
-abbrev third : Numbers → ℕ
-third n = n .before .before .before .wide3 .result
-
-abbrev fourth : Numbers → ℕ
-fourth n = n .before .wide4 .result
-
-abbrev owner : tie.Start → ℕ → ℕ
-owner e x = getD (e .args .numbers .now) (e .args .owners-at + x) 0
-
-abbrev wants : tie.Start → ℕ → Bool
-wants e x = eqb (getD (e .args .hashes .now) x 0) (e .args .hash)
-
-abbrev low : tie.Start → ℕ → Bool
-low e x = ltb x (e .args .counts .entries)
-
-abbrev held : tie.Start → ℕ → Bool
-held e x = ltb (owner e x) (e .args .counts .vectors)
-
-abbrev test : tie.Start → ℕ → Bool
-test e x = low e x && held e x
-
 -- ---- the places, each with the way back to the one before
 
 abbrev after-wide : tie.After-wide2 → tie.After-wide
@@ -105,12 +78,41 @@ after-write-owner2 c = c .before .before .before
 abbrev after-write-owner3 : tie.After-write-owner-arg4 → tie.After-write-owner3
 after-write-owner3 c = c .before .before .before
 
+abbrev first : Numbers → ℕ
+first n = after-wide (after-wide2 (after-wide3 n)) .wide .result
+
+abbrev second : Numbers → ℕ
+second n = after-wide2 (after-wide3 n) .wide2 .result
+
+abbrev third : Numbers → ℕ
+third n = after-wide3 n .wide3 .result
+
+abbrev fourth : Numbers → ℕ
+fourth n = n .before .wide4 .result
+
+abbrev owner : tie.Start → ℕ → ℕ
+owner e x = getD (e .args .numbers .now) (e .args .owners-at + x) 0
+
+abbrev wants : tie.Start → ℕ → Bool
+wants e x = eqb (getD (e .args .hashes .now) x 0) (e .args .hash)
+
+abbrev low : tie.Start → ℕ → Bool
+low e x = ltb x (e .args .counts .entries)
+
+abbrev held : tie.Start → ℕ → Bool
+held e x = ltb (owner e x) (e .args .counts .vectors)
+
+abbrev test : tie.Start → ℕ → Bool
+test e x = low e x && held e x
+
 -- the four numbers are the list
 list : (n : Numbers) → first n ∷ second n ∷ third n ∷ fourth n ∷ [] ≡ part (entry n .args .at) 4 (entry n .args .numbers .now)
 list n =
+    let wide3 = after-wide3 n in
+    let wide2 = after-wide2 wide3 in
     let e = entry n in
     four-read (e .args .numbers .now) (e .args .at) (first n) (second n) (third n) (fourth n) (e .pre .entries .hits .block)
-    (after-wide (after-wide2 (after-wide3 n)) .wide .ensures .0) (after-wide2 (after-wide3 n) .wide2 .ensures .0) (after-wide3 n .wide3 .ensures .0) (n .before .wide4 .ensures .0)
+    (after-wide wide2 .wide .ensures .0) (wide2 .wide2 .ensures .0) (wide3 .wide3 .ensures .0) (n .before .wide4 .ensures .0)
 
 -- the entries that passed are held, and so are their owners
 entries : (h : Passed) → let most = entry (read h) .args .counts .entries in (first (read h) < most) × (second (read h) < most) × (third (read h) < most) × (fourth (read h) < most)
@@ -122,7 +124,7 @@ owned : (w : tie.After-write-owner) → let o = owners w in let most = entry (re
     (o .before .before .before .before .wide5 .result < most) × (o .before .before .before .wide6 .result < most) × (o .before .before .wide7 .result < most) × (o .before .wide8 .result < most)
 owned w =
     let o = owners w in
-    all-below (entry (read (passed o)) .args .counts .vectors) (o .before .before .before .before .wide5 .result) (o .before .before .before .wide6 .result) (o .before .before .wide7 .result) (o .before .wide8 .result)
+    all-below (entry (read (passed o)) .args .counts .vectors) (after-wide5 (after-wide6 o) .wide5 .result) (after-wide6 o .wide6 .result) (o .before .before .wide7 .result) (o .before .wide8 .result)
     (o .all-below2 .result) (o .all-below2 .ensures) (w .before .before .if2 .left)
 
 -- an entry held has an owner and a hash
@@ -174,8 +176,8 @@ after-one w =
     let h = passed o in
     let e = start w in
     let got = w .write-owner in
-    step e [] (first (read h)) (o .before .before .before .before .wide5 .result) 0 (e .args .before) (got .result) (e .args .found .now) (got .last .1 .0) (omega arith) (omega arith, refl)
-    (entries h .0) (o .before .before .before .before .wide5 .ensures .0) (owned w .0) (got .ensures .0) (got .ensures .1 .0) (got .ensures .1 .1)
+    step e [] (first (read h)) (after-wide5 (after-wide6 o) .wide5 .result) 0 (e .args .before) (got .result) (e .args .found .now) (got .last .1 .0) (omega arith) (omega arith, refl)
+    (entries h .0) (after-wide5 (after-wide6 o) .wide5 .ensures .0) (owned w .0) (got .ensures .0) (got .ensures .1 .0) (got .ensures .1 .1)
     (gathered-none (test e) (wants e) (owner e) (e .args .counts .entries) (e .args .before) (e .args .found .now) (e .pre .entries .hits .few))
 
 after-two : (w : tie.After-write-owner2) → let n = read (passed (owners (one w))) in
@@ -186,8 +188,8 @@ after-two w =
     let h = passed o in
     let old = v .write-owner in
     let got = w .write-owner2 in
-    step (start v) (first (read h) ∷ []) (second (read h)) (o .before .before .before .wide6 .result) 1 (old .result) (got .result) (old .last .1 .0) (got .last .1 .0) (omega arith) (room-one v)
-    (entries h .1) (o .before .before .before .wide6 .ensures .0) (owned v .1) (got .ensures .0) (got .ensures .1 .0) (got .ensures .1 .1) (after-one v)
+    step (start v) (first (read h) ∷ []) (second (read h)) (after-wide6 o .wide6 .result) 1 (old .result) (got .result) (old .last .1 .0) (got .last .1 .0) (omega arith) (room-one v)
+    (entries h .1) (after-wide6 o .wide6 .ensures .0) (owned v .1) (got .ensures .0) (got .ensures .1 .0) (got .ensures .1 .1) (after-one v)
 
 after-three : (w : tie.After-write-owner3) → let n = read (passed (owners (one (two w)))) in
     After (start (one (two w))) (first n ∷ second n ∷ third n ∷ []) (w .write-owner3 .result) (w .write-owner3 .last .1 .0)

@@ -10,9 +10,6 @@ use borrow.Author.Needs.{needs}
 use Rattle.leaf_hits.proofs.add_hits.Statement.{statement}
 use Rattle.leaf_hits.proofs.add_hits.Tie as tie
 
-enum-told : tie.Need-enum-told
-enum-told c = search needs
-
 -- ---- the places, each with the way back to the one before
 
 abbrev entry : tie.After-enum-told → tie.Start
@@ -29,6 +26,9 @@ after-enum-told c = c .before .before .before .before
 
 abbrev after-owners-at : tie.After-slice-known3 → tie.After-owners-at
 after-owners-at c = c .before .before .before .before
+
+enum-told : tie.Need-enum-told
+enum-told c = search needs
 
 add-vectors-requires : tie.Need-add-vectors-requires
 add-vectors-requires c κs =
@@ -70,14 +70,16 @@ same-length-2 c = search needs
 
 returns-2 : tie.Need-returns-2
 returns-2 c =
-    let given = after-wanted (after-owners-at c) .wanted .given in
-    let a = entry′ (after-wanted (after-owners-at c)) .args in
+    let owners-at = after-owners-at c in
+    let wanted = after-wanted owners-at in
+    let given = wanted .wanted .given in
+    let a = entry′ wanted .args in
     let l = part (a .block .start) (a .block .count) (a .numbers .now) in
     let added = c .before .before .add-entries in
     subst (λ (w : Wanted). AddedHits (a .shape) (a .counts) (a .numbers .now) (a .hashes .now) w l (a .before) (a .found .now) (added .result) (added .last .1 .1 .1 .0))
     (sym (given .1))
     (as-label (a .shape) (a .counts) (a .numbers .now) (a .hashes .now) (given .0 .0) _ l (a .before) (a .found .now) (added .result) (added .last .1 .1 .1 .0)
-    (after-owners-at c .owners-at .ensures) (added .ensures))
+    (owners-at .owners-at .ensures) (added .ensures))
 
 pub add-hits-spec : {M : Type 1} → statement M
 add-hits-spec =

@@ -57,6 +57,14 @@ left r = let a = entry (turn r) .args in block-room (a .numbers .now) (a .start)
 number : (r : Read) → getD (list (entry (turn r))) (turn r .loop .j) 0 ≡ r .wide .result
 number r = let a = entry (turn r) .args in block-at (a .numbers .now) (a .start) (a .count) (turn r .loop .j) (r .wide .result) (more r) (r .wide .ensures .0)
 
+-- ---- the places, each with the way back to the one before
+
+abbrev after-wide : tie.Else3 Inv-loop μ-loop → tie.After-wide Inv-loop μ-loop
+after-wide c = c .before .before .before .before
+
+abbrev after-wide′ : tie.Then3 Inv-loop μ-loop → tie.After-wide Inv-loop μ-loop
+after-wide′ c = c .before .before .before .before
+
 loop-holds : tie.Need-loop-holds Inv-loop μ-loop
 loop-holds c =
     let e = c .before .before in
@@ -76,14 +84,6 @@ wide-requires c κs = search needs
 
 mul-found : tie.Need-mul-found Inv-loop μ-loop
 mul-found c = search needs
-
--- ---- the places, each with the way back to the one before
-
-abbrev after-wide : tie.Else3 Inv-loop μ-loop → tie.After-wide Inv-loop μ-loop
-after-wide c = c .before .before .before .before
-
-abbrev after-wide′ : tie.Then3 Inv-loop μ-loop → tie.After-wide Inv-loop μ-loop
-after-wide′ c = c .before .before .before .before
 
 slice-write-found : tie.Need-slice-write-found Inv-loop μ-loop
 slice-write-found c =

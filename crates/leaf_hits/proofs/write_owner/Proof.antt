@@ -6,6 +6,11 @@ use borrow.Author.Needs.{needs}
 use Rattle.leaf_hits.proofs.write_owner.Statement.{statement}
 use Rattle.leaf_hits.proofs.write_owner.Tie as tie
 
+-- ---- the places, each with the way back to the one before
+
+abbrev start : tie.After-same → tie.Start
+start c = c .before .before .before .before
+
 mul-found : tie.Need-mul-found
 mul-found c = search needs
 
@@ -26,11 +31,6 @@ add-result c = search needs
 
 same-length : tie.Need-same-length
 same-length c = search needs
-
--- ---- the places, each with the way back to the one before
-
-abbrev start : tie.After-same → tie.Start
-start c = c .before .before .before .before
 
 returns : tie.Need-returns
 returns c = (ap (λ (n : ℕ). start c .args .total + n) (c .same .ensures .0), (omega (arith, c .same .ensures .1), refl))

@@ -6,6 +6,11 @@ use borrow.Author.Needs.{needs}
 use Rattle.nearest_centre.proofs.closer_of_four.Statement.{statement}
 use Rattle.nearest_centre.proofs.closer_of_four.Tie as tie
 
+-- ---- the places, each with the way back to the one before
+
+abbrev start : tie.After-closer → tie.Start
+start c = c .before .before .before .before
+
 add-b : tie.Need-add-b
 add-b c = search needs
 
@@ -38,11 +43,6 @@ add-closer-3 c = search needs
 
 closer-requires-4 : tie.Need-closer-requires-4
 closer-requires-4 c κs = search needs
-
--- ---- the places, each with the way back to the one before
-
-abbrev start : tie.After-closer → tie.Start
-start c = c .before .before .before .before
 
 returns : tie.Need-returns
 returns c =

@@ -20,6 +20,11 @@ Inv-loop floats vector centres-at k dimension best₀ c₀ best c =
 abbrev μ-loop : tie.MeasureT-loop
 μ-loop floats vector centres-at k dimension best₀ c₀ best c = k - c
 
+-- ---- the places, each with the way back to the one before
+
+abbrev entry : tie.After-loop Inv-loop μ-loop → tie.Start Inv-loop μ-loop
+entry c = c .before .before .before .before
+
 float-from-bits-t8 : tie.Need-float-from-bits-t8 Inv-loop μ-loop
 unfolding nanBits
 float-from-bits-t8 c = tt
@@ -64,11 +69,6 @@ loop-again c =
       four-turn (p .floats .now) (p .vector .now) (p .centres-at) (p .k) (p .dimension) _ (l .c) (l .best .number) (c .closer-of-four .result .number) (l .best .least)
           (c .closer-of-four .result .least) (l .inv .1) (omega arith) (c .closer-of-four .ensures),
     )
-
--- ---- the places, each with the way back to the one before
-
-abbrev entry : tie.After-loop Inv-loop μ-loop → tie.Start Inv-loop μ-loop
-entry c = c .before .before .before .before
 
 nearest-from-requires : tie.Need-nearest-from-requires Inv-loop μ-loop
 nearest-from-requires c κs = (entry c .pre, omega arith)

@@ -33,6 +33,11 @@ near t =
     let p = start t .args in
     centre-within (p .centres-at) (p .k) (p .dimension) (length (p .floats .now)) (t .before .loop .c) (start t .pre .0) (t .loop-test .taken)
 
+-- ---- the places, each with the way back to the one before
+
+abbrev entry : tie.After-loop Inv-loop μ-loop → tie.Start Inv-loop μ-loop
+entry c = c .before .before .before .before
+
 loop-holds : tie.Need-loop-holds Inv-loop μ-loop
 loop-holds c = (omega arith, refl)
 
@@ -64,11 +69,6 @@ loop-again c =
           (c .closer .result .number) (c .closer .result .least) (l .inv .1) (t .loop-test .taken) (c .before .distance-at .ensures) (c .closer .ensures .0)
           (c .closer .ensures .1),
     )
-
--- ---- the places, each with the way back to the one before
-
-abbrev entry : tie.After-loop Inv-loop μ-loop → tie.Start Inv-loop μ-loop
-entry c = c .before .before .before .before
 
 returns : tie.Need-returns Inv-loop μ-loop
 returns c =

@@ -34,7 +34,7 @@ after-wide c = c .before .before .before .before .before
 
 -- the entry's hash stands before the filter
 before : (c : tie.After-wide Inv-loop μ-loop)
-    → (c .before .before .before .loop .k < length (c .before .before .before .before .before .before .args .entries .now)) × (c .wide .result < c .before .before .before .before .before .before .args .at) × (c .before .before .before .before .before .before .args .at + 4 ≤ length (c .before .before .before .loop .hashes))
+    → (at-loop′ c .loop .k < length (start (at-loop′ c) .args .entries .now)) × (c .wide .result < start (at-loop′ c) .args .at) × (start (at-loop′ c) .args .at + 4 ≤ length (at-loop′ c .loop .hashes))
 before c =
     let s = start (at-loop′ c) in
     let at-loop = at-loop′ c .loop in
@@ -93,16 +93,18 @@ loop-less c = omega arith
 
 loop-again : tie.Need-loop-again Inv-loop μ-loop
 loop-again c =
-    let r = before (after-wide c) in
-    let s = start (at-loop′ (after-wide c)) in
+    let wide = after-wide c in
+    let at-loop₀ = at-loop′ wide in
+    let r = before (wide) in
+    let s = start at-loop₀ in
     let l₀ = s .args .hashes .now in
     let at = s .args .at in
     let entries = s .args .entries .now in
-    let at-loop = at-loop′ (after-wide c) .loop in
+    let at-loop = at-loop₀ .loop in
     let k = at-loop .k in
-    let x = after-wide c .wide .result in
+    let x = wide .wide .result in
     let insert = c .before .before .insert in
-    let next = inserted-next l₀ (at-loop .hashes) (insert .last .0) at entries k x (getD (at-loop .hashes) x 0) (s .pre .0) (r .0) (at-loop .inv .2) (after-wide c .wide .ensures .0) (r .1) refl (insert .ensures) in
+    let next = inserted-next l₀ (at-loop .hashes) (insert .last .0) at entries k x (getD (at-loop .hashes) x 0) (s .pre .0) (r .0) (at-loop .inv .2) (wide .wide .ensures .0) (r .1) refl (insert .ensures) in
     (omega arith, ap (λ (r : List ℕ). length r) next ∙ length-sets l₀ at (inserted l₀ at entries (k + 1)), next)
 
 same-length : tie.Need-same-length Inv-loop μ-loop

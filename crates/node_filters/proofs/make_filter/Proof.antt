@@ -70,6 +70,20 @@ cleared c =
     ap (λ (r : List ℕ). length r) (lent-four h (filterAt b) (c .clear .last .0) (within b) (ap (λ (r : List ℕ). length r) (c .clear .ensures)))
     ∙ length-sets h (filterAt b) (c .clear .last .0)
 
+-- ---- the places, each with the way back to the one before
+
+abbrev after-clear : tie.After-insert-hashes-arg2 → tie.After-clear
+after-clear c = c .before .before .before .before
+
+abbrev after-clear′ : tie.After-insert-hashes → tie.After-clear
+after-clear′ c = c .before .before .before .before .before
+
+abbrev after-insert-hashes : tie.After-unite-children-arg2 → tie.After-insert-hashes
+after-insert-hashes c = c .before .before .before .before
+
+abbrev after-insert-hashes′ : tie.After-unite-children → tie.After-insert-hashes
+after-insert-hashes′ c = c .before .before .before .before .before
+
 add-block-ends : tie.Need-add-block-ends
 add-block-ends c = search needs
 
@@ -144,20 +158,6 @@ part-insert-hashes-start c = search needs
 
 part-insert-hashes-end : tie.Need-part-insert-hashes-end
 part-insert-hashes-end c = search needs
-
--- ---- the places, each with the way back to the one before
-
-abbrev after-clear : tie.After-insert-hashes-arg2 → tie.After-clear
-after-clear c = c .before .before .before .before
-
-abbrev after-clear′ : tie.After-insert-hashes → tie.After-clear
-after-clear′ c = c .before .before .before .before .before
-
-abbrev after-insert-hashes : tie.After-unite-children-arg2 → tie.After-insert-hashes
-after-insert-hashes c = c .before .before .before .before
-
-abbrev after-insert-hashes′ : tie.After-unite-children → tie.After-insert-hashes
-after-insert-hashes′ c = c .before .before .before .before .before
 
 insert-hashes-requires : tie.Need-insert-hashes-requires
 insert-hashes-requires c κs =

@@ -17,12 +17,6 @@ Inv-loop hashes₀ numbers places nodes i₀ hashes i =
 abbrev μ-loop : tie.MeasureT-loop
 μ-loop hashes₀ numbers places nodes i₀ hashes i = i
 
-loop-holds : tie.Need-loop-holds Inv-loop μ-loop
-loop-holds c = (omega arith, refl, refl)
-
-sub-i : tie.Need-sub-i Inv-loop μ-loop
-sub-i c = omega arith
-
 -- ---- the places, each with the way back to the one before
 
 abbrev start : tie.At-loop Inv-loop μ-loop → tie.Start Inv-loop μ-loop
@@ -33,6 +27,12 @@ at-loop′ c = c .before
 
 abbrev in-loop : tie.After-slice-known2 Inv-loop μ-loop → tie.In-loop Inv-loop μ-loop
 in-loop c = c .before .before .before .before
+
+loop-holds : tie.Need-loop-holds Inv-loop μ-loop
+loop-holds c = (omega arith, refl, refl)
+
+sub-i : tie.Need-sub-i Inv-loop μ-loop
+sub-i c = omega arith
 
 make-filter-requires : tie.Need-make-filter-requires Inv-loop μ-loop
 make-filter-requires c κs =
@@ -50,11 +50,13 @@ loop-less c = omega arith
 
 loop-again : tie.Need-loop-again Inv-loop μ-loop
 loop-again c =
-    let s = start (at-loop′ (in-loop c)) in
+    let in-loop₀ = in-loop c in
+    let at-loop₀ = at-loop′ in-loop₀ in
+    let s = start at-loop₀ in
     let args = s .args in
-    let at-loop = at-loop′ (in-loop c) .loop in
+    let at-loop = at-loop₀ .loop in
     let make = c .before .before .make-filter in
-    let t = in-loop c .loop-test .taken in
+    let t = in-loop₀ .loop-test .taken in
     let j : suc (at-loop .i - 1) ≡ at-loop .i = omega arith in (
       omega arith,
       make .kept .0 ∙ at-loop .inv .1,

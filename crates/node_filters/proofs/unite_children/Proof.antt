@@ -38,8 +38,8 @@ after-words c = c .before .before .before .before
 
 -- the child's filter stands after the filter
 behind : (c : tie.After-wide Inv-loop μ-loop)
-    → (c .before .before .before .before .loop .k < length (c .before .before .before .before .before .before .before .args .children .now)) × (c .before .before .before .before .before .before .before .args .at + 4 ≤ c .before .before .before .before .before .before .before .args .filters + 4 * c .wide .result)
-    × (c .before .before .before .before .before .before .before .args .filters + 4 * c .wide .result + 4 ≤ length (c .before .before .before .before .loop .hashes))
+    → (at-loop′ c .loop .k < length (start (at-loop′ c) .args .children .now)) × (start (at-loop′ c) .args .at + 4 ≤ start (at-loop′ c) .args .filters + 4 * c .wide .result)
+    × (start (at-loop′ c) .args .filters + 4 * c .wide .result + 4 ≤ length (at-loop′ c .loop .hashes))
 behind c =
     let s = start (at-loop′ c) in
     let at-loop = at-loop′ c .loop in
@@ -94,9 +94,10 @@ part-unite-end c = let r = behind (c .before) in omega (arith, r .1, r .2)
 
 unite-requires : tie.Need-unite-requires Inv-loop μ-loop
 unite-requires c κs =
+    let at-loop = at-loop′ (after-wide (c .before)) in
     let r = behind (c .before .before) in
-    let at = start (at-loop′ (after-wide (c .before))) .args .at in
-    let l = at-loop′ (after-wide (c .before)) .loop .hashes in
+    let at = start at-loop .args .at in
+    let l = at-loop .loop .hashes in
     ap (λ (r : List ℕ). length r) (lent-run at 4 l) ∙ length-four l at (omega (arith, r .1, r .2))
 
 add-k : tie.Need-add-k Inv-loop μ-loop
@@ -107,19 +108,22 @@ loop-less c = omega arith
 
 loop-again : tie.Need-loop-again Inv-loop μ-loop
 loop-again c =
-    let r = behind (after-wide (after-words c)) in
-    let s = start (at-loop′ (after-wide (after-words c))) in
+    let words₀ = after-words c in
+    let wide = after-wide words₀ in
+    let at-loop₀ = at-loop′ wide in
+    let r = behind (wide) in
+    let s = start at-loop₀ in
     let l₀ = s .args .hashes .now in
     let at = s .args .at in
     let filters = s .args .filters in
     let children = s .args .children .now in
-    let at-loop = at-loop′ (after-wide (after-words c)) .loop in
+    let at-loop = at-loop₀ .loop in
     let k = at-loop .k in
     let unite = c .before .before .unite in
-    let words = after-words c .words in
+    let words = words₀ .words in
     let four = united-four l₀ filters at children k (r .0) (at-loop .inv .3) (s .pre .1 .1 k (r .0)) in
-    let next = united-next l₀ (at-loop .hashes) (unite .last .0) (words .result) filters at children k (after-wide (after-words c) .wide .result) (s .pre .0) (r .0) (at-loop .inv .3) four (at-loop .inv .2)
-    (after-wide (after-words c) .wide .ensures .0) (r .1) (words .ensures) (unite .ensures) in
+    let next = united-next l₀ (at-loop .hashes) (unite .last .0) (words .result) filters at children k (wide .wide .result) (s .pre .0) (r .0) (at-loop .inv .3) four (at-loop .inv .2)
+    (wide .wide .ensures .0) (r .1) (words .ensures) (unite .ensures) in
     (omega arith, ap (λ (r : List ℕ). length r) next ∙ length-sets l₀ at (united l₀ filters at children (k + 1)), next, four)
 
 same-length : tie.Need-same-length Inv-loop μ-loop

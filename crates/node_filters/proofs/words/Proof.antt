@@ -5,6 +5,11 @@ use borrow.Author.Needs.{needs}
 use Rattle.node_filters.proofs.words.Statement.{statement}
 use Rattle.node_filters.proofs.words.Tie as tie
 
+-- ---- the places, each with the way back to the one before
+
+abbrev entry : tie.After-shared-slice-known4 → tie.Start
+entry c = c .before .before .before .before
+
 mul-t3 : tie.Need-mul-t3
 mul-t3 c = search needs
 
@@ -37,11 +42,6 @@ mul-t15 c = search needs
 
 shared-slice-read-t17 : tie.Need-shared-slice-read-t17
 shared-slice-read-t17 c = search needs
-
--- ---- the places, each with the way back to the one before
-
-abbrev entry : tie.After-shared-slice-known4 → tie.Start
-entry c = c .before .before .before .before
 
 returns : tie.Need-returns
 returns c =

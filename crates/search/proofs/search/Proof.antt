@@ -6,6 +6,11 @@ use borrow.Author.Needs.{needs}
 use Rattle.search.proofs.search.Statement.{statement}
 use Rattle.search.proofs.search.Tie as tie
 
+-- ---- the places, each with the way back to the one before
+
+abbrev after-search-wanted : tie.After-slice-known6 → tie.After-search-wanted
+after-search-wanted c = c .before .before .before .before .before .before
+
 search-wanted-requires : tie.Need-search-wanted-requires
 search-wanted-requires c κs = search needs
 
@@ -17,11 +22,6 @@ same-length-2 c = search needs
 
 same-length-3 : tie.Need-same-length-3
 same-length-3 c = search needs
-
--- ---- the places, each with the way back to the one before
-
-abbrev after-search-wanted : tie.After-slice-known6 → tie.After-search-wanted
-after-search-wanted c = c .before .before .before .before .before .before
 
 returns : tie.Need-returns
 unfolding wantedOf

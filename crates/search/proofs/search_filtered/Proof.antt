@@ -8,6 +8,17 @@ use borrow.Author.Needs.{needs}
 use Rattle.search.proofs.search_filtered.Statement.{statement}
 use Rattle.search.proofs.search_filtered.Tie as tie
 
+-- ---- the places, each with the way back to the one before
+
+abbrev start : tie.After-hash-label → tie.Start
+start c = c .before .before .before .before .before .before .before .before .before
+
+abbrev after-hash-label : tie.After-search-wanted → tie.After-hash-label
+after-hash-label c = c .before .before .before .before
+
+abbrev after-search-wanted : tie.After-slice-known6 → tie.After-search-wanted
+after-search-wanted c = c .before .before .before .before .before .before
+
 hash-label-requires : tie.Need-hash-label-requires
 hash-label-requires c κs = search needs
 
@@ -23,23 +34,14 @@ same-length-2 c = search needs
 same-length-3 : tie.Need-same-length-3
 same-length-3 c = search needs
 
--- ---- the places, each with the way back to the one before
-
-abbrev start : tie.After-hash-label → tie.Start
-start c = c .before .before .before .before .before .before .before .before .before
-
-abbrev after-hash-label : tie.After-search-wanted → tie.After-hash-label
-after-hash-label c = c .before .before .before .before
-
-abbrev after-search-wanted : tie.After-slice-known6 → tie.After-search-wanted
-after-search-wanted c = c .before .before .before .before .before .before
-
 returns : tie.Need-returns
 unfolding wantedOf
 returns c =
-    let hashed = after-hash-label (after-search-wanted c) in
-    after-search-wanted c .search-wanted .ensures
-    (labelled (now (start (after-hash-label (after-search-wanted c)) .args .label)))
+    let search-wanted = after-search-wanted c in
+    let hash-label = after-hash-label search-wanted in
+    let hashed = hash-label in
+    search-wanted .search-wanted .ensures
+    (labelled (now (start hash-label .args .label)))
     (ap Label (sym (hashed .hash-label .ensures)))
 
 pub search-filtered-spec : {M : Type 1} → statement M

@@ -26,15 +26,6 @@ fine : (c : tie.After-enum-told) (asked : Asked)
 unfolding searchCheck
 fine c asked = sym (c .before .before .search-check .ensures) ∙ c .enum-told .given .1
 
-search-check-requires : tie.Need-search-check-requires
-search-check-requires c κs = search needs
-
-enum-known-check : tie.Need-enum-known-check
-enum-known-check c = search needs
-
-enum-told : tie.Need-enum-told
-enum-told c = search needs
-
 -- ---- the places, each with the way back to the one before
 
 abbrev after-search-check : tie.After-known-told → tie.After-search-check
@@ -48,6 +39,15 @@ after-enum-told′ c = c .before .before .before .before
 
 abbrev after-walk-from : tie.After-slice-known6 → tie.After-walk-from
 after-walk-from c = c .before .before .before .before .before .before
+
+search-check-requires : tie.Need-search-check-requires
+search-check-requires c κs = search needs
+
+enum-known-check : tie.Need-enum-known-check
+enum-known-check c = search needs
+
+enum-told : tie.Need-enum-told
+enum-told c = search needs
 
 walk-from-requires : tie.Need-walk-from-requires
 walk-from-requires c κs = ready _ _ _ (callOf (entry (after-enum-told c)) everything) (fine (after-enum-told c) everything)

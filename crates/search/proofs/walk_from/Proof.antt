@@ -10,6 +10,26 @@ use borrow.Author.Needs.{needs}
 use Rattle.search.proofs.walk_from.Statement.{statement}
 use Rattle.search.proofs.walk_from.Tie as tie
 
+-- ---- the places, each with the way back to the one before
+
+abbrev entry : tie.After-dot → tie.Start
+entry c = c .before .before .before .before .before .before .before .before
+
+abbrev after-dot : tie.After-normalize → tie.After-dot
+after-dot c = c .before .before
+
+abbrev after-normalize : tie.After-shape-of → tie.After-normalize
+after-normalize c = c .before .before .before
+
+abbrev after-shape-of : tie.After-best-first-search-arg4 → tie.After-shape-of
+after-shape-of c = c .before .before .before .before .before
+
+abbrev after-shape-of′ : tie.After-best-first-search → tie.After-shape-of
+after-shape-of′ c = c .before .before .before .before .before .before
+
+abbrev after-best-first-search : tie.After-found → tie.After-best-first-search
+after-best-first-search c = c .before .before .before .before .before .before .before
+
 dot-requires : tie.Need-dot-requires
 dot-requires c κs = search needs
 
@@ -40,26 +60,6 @@ sub-best-first-search c = search needs
 part-best-first-search-start : tie.Need-part-best-first-search-start
 part-best-first-search-start c = search needs
 
--- ---- the places, each with the way back to the one before
-
-abbrev entry : tie.After-dot → tie.Start
-entry c = c .before .before .before .before .before .before .before .before
-
-abbrev after-dot : tie.After-normalize → tie.After-dot
-after-dot c = c .before .before
-
-abbrev after-normalize : tie.After-shape-of → tie.After-normalize
-after-normalize c = c .before .before .before
-
-abbrev after-shape-of : tie.After-best-first-search-arg4 → tie.After-shape-of
-after-shape-of c = c .before .before .before .before .before
-
-abbrev after-shape-of′ : tie.After-best-first-search → tie.After-shape-of
-after-shape-of′ c = c .before .before .before .before .before .before
-
-abbrev after-best-first-search : tie.After-found → tie.After-best-first-search
-after-best-first-search c = c .before .before .before .before .before .before .before
-
 part-best-first-search-end : tie.Need-part-best-first-search-end
 part-best-first-search-end c =
     let normalized = after-normalize (c .before .before) .normalize in
@@ -82,18 +82,22 @@ same-length-3 c = search needs
 
 returns : tie.Need-returns
 returns c =
-    let start = entry (after-dot (after-normalize (after-shape-of′ (after-best-first-search c)))) in
-    let normalized = after-normalize (after-shape-of′ (after-best-first-search c)) .normalize in
+    let best-first-search = after-best-first-search c in
+    let shape-of = after-shape-of′ best-first-search in
+    let normalize = after-normalize shape-of in
+    let dot = after-dot normalize in
+    let start = entry dot in
+    let normalized = normalize .normalize in
     let stored = normalized .last .1 .1 .0 in
     let n = length (now (start .args .query)) in
-    λ asked e. walked-of _ _ _ _ _ _ _ _ stored _ _ (after-shape-of′ (after-best-first-search c) .shape-of .ensures)
+    λ asked e. walked-of _ _ _ _ _ _ _ _ stored _ _ (shape-of .shape-of .ensures)
     (front-back _ stored n (n - 0) (length-stored (normalized .ensures)) (omega arith))
     e
-    (after-dot (after-normalize (after-shape-of′ (after-best-first-search c))) .dot .ensures)
+    (dot .dot .ensures)
     (normalized .ensures)
     (start .pre .lent .work-size)
     (c .found .ensures)
-    (after-best-first-search c .best-first-search .ensures)
+    (best-first-search .best-first-search .ensures)
 
 pub walk-from-spec : {M : Type 1} → statement M
 walk-from-spec =

@@ -17,6 +17,17 @@ use Rattle.square_root.proofs.sqrt.Tie as tie
 held : (c : tie.Start) → T (fits binary32 (c .args .x))
 held c = subst T (sym (c .good .0 .1)) tt
 
+-- ---- the places, each with the way back to the one before
+
+abbrev entry : tie.After-quiet-nan2 → tie.Start
+entry c = c .before .before .before .before
+
+abbrev entry′ : tie.Then4 → tie.Start
+entry′ c = c .before .before .before .before
+
+abbrev entry′′ : tie.After-root-pattern → tie.Start
+entry′′ c = c .before .before .before .before .before
+
 quiet-nan-requires : tie.Need-quiet-nan-requires
 quiet-nan-requires c κs = search needs
 
@@ -31,17 +42,6 @@ returns-2 c = root-of-zero (c .before .before .args .x) (held (c .before .before
 
 quiet-nan-requires-2 : tie.Need-quiet-nan-requires-2
 quiet-nan-requires-2 c κs = search needs
-
--- ---- the places, each with the way back to the one before
-
-abbrev entry : tie.After-quiet-nan2 → tie.Start
-entry c = c .before .before .before .before
-
-abbrev entry′ : tie.Then4 → tie.Start
-entry′ c = c .before .before .before .before
-
-abbrev entry′′ : tie.After-root-pattern → tie.Start
-entry′′ c = c .before .before .before .before .before
 
 returns-3 : tie.Need-returns-3
 returns-3 c =

@@ -7,9 +7,6 @@ use Rattle.text.specs.LinesLaws.{length-closingWord, written-then}
 use Rattle.text.proofs.write_closing.Statement.{statement}
 use Rattle.text.proofs.write_closing.Tie as tie
 
-write-closing-word-requires : tie.Need-write-closing-word-requires
-write-closing-word-requires c κs = search needs
-
 -- ---- the places, each with the way back to the one before
 
 abbrev start : tie.After-write-closing-word → tie.Start
@@ -20,6 +17,9 @@ after-write-closing-word c = c .before .before .before
 
 abbrev after-write-closing-word′ : tie.After-slice-known3 → tie.After-write-closing-word
 after-write-closing-word′ c = c .before .before .before .before .before .before
+
+write-closing-word-requires : tie.Need-write-closing-word-requires
+write-closing-word-requires c κs = search needs
 
 write-number-requires : tie.Need-write-number-requires
 write-number-requires c κs =

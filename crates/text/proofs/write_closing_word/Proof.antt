@@ -14,6 +14,14 @@ start-1 t = t .before .before
 abbrev start-2 : tie.Else1 → tie.Start
 start-2 t = t .before .before
 
+-- ---- the places, each with the way back to the one before
+
+abbrev then1 : tie.After-slice-known2 → tie.Then1
+then1 c = c .before .before .before .before .before
+
+abbrev else1 : tie.After-slice-known3 → tie.Else1
+else1 c = c .before .before .before .before .before
+
 slice-aggregate-write-bytes : tie.Need-slice-aggregate-write-bytes
 slice-aggregate-write-bytes c = search needs
 
@@ -22,14 +30,6 @@ write-bytes-requires c κs = search needs
 
 same-length : tie.Need-same-length
 same-length c = search needs
-
--- ---- the places, each with the way back to the one before
-
-abbrev then1 : tie.After-slice-known2 → tie.Then1
-then1 c = c .before .before .before .before .before
-
-abbrev else1 : tie.After-slice-known3 → tie.Else1
-else1 c = c .before .before .before .before .before
 
 returns : tie.Need-returns
 unfolding closingWord codes

@@ -15,12 +15,6 @@ start c = c .before .before .before
 abbrev id-written : tie.After-slice-known3 → tie.After-write-decimal
 id-written c = c .before .before .before .before .before .before
 
-write-decimal-requires : tie.Need-write-decimal-requires
-write-decimal-requires c κs = omega (arith, decimal-le-10 (c .before .before .args .id) (omega arith))
-
-slice-write-out : tie.Need-slice-write-out
-slice-write-out c = omega (arith, decimal-le-10 (start (c .before .before) .args .id) (omega arith))
-
 -- ---- the places, each with the way back to the one before
 
 abbrev after-write-decimal : tie.After-slice-known2 → tie.After-write-decimal
@@ -28,6 +22,12 @@ after-write-decimal c = c .before .before
 
 abbrev after-slice-known2 : tie.After-slice-known3 → tie.After-slice-known2
 after-slice-known2 c = c .before .before .before .before
+
+write-decimal-requires : tie.Need-write-decimal-requires
+write-decimal-requires c κs = omega (arith, decimal-le-10 (c .before .before .args .id) (omega arith))
+
+slice-write-out : tie.Need-slice-write-out
+slice-write-out c = omega (arith, decimal-le-10 (start (c .before .before) .args .id) (omega arith))
 
 add-write-hex : tie.Need-add-write-hex
 add-write-hex c = omega (arith, decimal-le-10 (start (after-write-decimal (c .before)) .args .id) (omega arith))

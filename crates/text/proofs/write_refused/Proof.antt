@@ -7,12 +7,6 @@ use Rattle.text.specs.LinesLaws.{written-then}
 use Rattle.text.proofs.write_refused.Statement.{statement}
 use Rattle.text.proofs.write_refused.Tie as tie
 
-slice-aggregate-write-bytes : tie.Need-slice-aggregate-write-bytes
-slice-aggregate-write-bytes c = search needs
-
-write-bytes-requires : tie.Need-write-bytes-requires
-write-bytes-requires c κs = search needs
-
 -- ---- the places, each with the way back to the one before
 
 abbrev start : tie.After-write-bytes → tie.Start
@@ -23,6 +17,12 @@ after-write-bytes c = c .before .before .before
 
 abbrev after-write-bytes′ : tie.After-slice-known3 → tie.After-write-bytes
 after-write-bytes′ c = c .before .before .before .before .before .before
+
+slice-aggregate-write-bytes : tie.Need-slice-aggregate-write-bytes
+slice-aggregate-write-bytes c = search needs
+
+write-bytes-requires : tie.Need-write-bytes-requires
+write-bytes-requires c κs = search needs
 
 write-number-requires : tie.Need-write-number-requires
 write-number-requires c κs = omega (arith, decimal-le-10 (start (after-write-bytes c) .args .number) (omega arith))

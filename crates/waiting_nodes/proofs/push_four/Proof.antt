@@ -22,18 +22,6 @@ Read = tie.After-wide4
 abbrev entry : Read → tie.Start
 entry r = r .before .before .before .before .before .before .before .before .before .before .before .before
 
-abbrev a : Read → ℕ
-a r = r .before .before .before .before .before .before .wide .result
-
-abbrev b : Read → ℕ
-b r = r .before .before .before .before .wide2 .result
-
-abbrev c′ : Read → ℕ
-c′ r = r .before .before .wide3 .result
-
-abbrev d : Read → ℕ
-d r = r .wide4 .result
-
 -- ---- the places, each with the way back to the one before
 
 abbrev after-wide : tie.After-wide2 → tie.After-wide
@@ -42,8 +30,11 @@ after-wide c = c .before .before
 abbrev after-wide2 : tie.After-wide4 → tie.After-wide2
 after-wide2 c = c .before .before .before .before
 
-abbrev after-wide4 : tie.After-key → tie.After-wide4
-after-wide4 c = c .before .before .before
+abbrev after-wide4 : tie.After-distances-at → tie.After-wide4
+after-wide4 c = c .before
+
+abbrev after-distances-at : tie.After-push-node → tie.After-distances-at
+after-distances-at c = c .before .before .before
 
 abbrev after-push-node : tie.After-key2 → tie.After-push-node
 after-push-node c = c .before .before .before .before
@@ -62,6 +53,18 @@ after-push-node3′ c = c .before .before .before .before
 
 abbrev after-key4 : tie.After-slice-known5 → tie.After-key4
 after-key4 c = c .before .before .before
+
+abbrev a : Read → ℕ
+a r = after-wide (after-wide2 r) .wide .result
+
+abbrev b : Read → ℕ
+b r = after-wide2 r .wide2 .result
+
+abbrev c′ : Read → ℕ
+c′ r = r .before .before .wide3 .result
+
+abbrev d : Read → ℕ
+d r = r .wide4 .result
 
 low-a : (r : Read) → a r < entry r .args .shape .nodes
 low-a r =
@@ -214,7 +217,7 @@ key-requires c κs = search needs
 
 push-node-requires : tie.Need-push-node-requires
 push-node-requires c κs =
-    let r = after-wide4 c in
+    let r = after-wide4 (c .before .before) in
     let w = entry r .pre .nodes in
     record { nodes = record { size = w .size; limits = w .limits; room = omega (arith, w .room); queue = w .queue }; below = low-a r }
 
@@ -262,15 +265,15 @@ returns c =
     let e = entry r in
     let s = e .args .shape in
     let f = nodeFor s (e .args .floats .now) (e .args .query .now) in
-    let at = one .before .before .before .distances-at .ensures in
+    let at = after-distances-at one .distances-at .ensures in
     let node = node-is s (e .args .floats .now) (e .args .query .now) in
     let first-two = pushed-append s (e .args .work .now) (one .push-node .last .1 .0) (two .push-node2 .last .1 .0) (e .args .waiting) (e .args .waiting + 1) (_ ∷ []) (_ ∷ []) refl (one .push-node .ensures) (two .push-node2 .ensures) in
     let first-three = pushed-append s (e .args .work .now) (two .push-node2 .last .1 .0) (three .push-node3 .last .1 .0) (e .args .waiting) (e .args .waiting + 2) (_ ∷ _ ∷ []) (_ ∷ []) refl first-two (three .push-node3 .ensures) in
     let all = pushed-append s (e .args .work .now) (three .push-node3 .last .1 .0) (last .last .1 .0) (e .args .waiting) (e .args .waiting + 3) (_ ∷ _ ∷ _ ∷ []) (_ ∷ []) refl first-three (last .ensures) in
     subst (λ (l : List ℕ). PushedNodes s (e .args .work .now) (e .args .waiting) l (last .last .1 .0))
     (four-mapped f (e .args .numbers .now) (e .args .at) 0 _ _ _ _ (e .pre .children .inside)
-    (node _ (a r) _ _ (one .before .key .ensures ∙ ap keyOf (at .0)) refl (r .before .before .before .before .before .before .wide .ensures .0))
-    (node _ (b r) _ _ (two .before .key2 .ensures ∙ ap keyOf (at .1 .0)) refl (r .before .before .before .before .wide2 .ensures .0))
+    (node _ (a r) _ _ (one .before .key .ensures ∙ ap keyOf (at .0)) refl (after-wide (after-wide2 r) .wide .ensures .0))
+    (node _ (b r) _ _ (two .before .key2 .ensures ∙ ap keyOf (at .1 .0)) refl (after-wide2 r .wide2 .ensures .0))
     (node _ (c′ r) _ _ (three .before .key3 .ensures ∙ ap keyOf (at .1 .1 .0)) refl (r .before .before .wide3 .ensures .0))
     (node _ (d r) _ _ (after-key4 c .key4 .ensures ∙ ap keyOf (at .1 .1 .1)) refl (r .wide4 .ensures .0)))
     all

@@ -5,16 +5,16 @@ use borrow.Author.Needs.{needs}
 use Rattle.waiting_nodes.proofs.push_node.Statement.{statement}
 use Rattle.waiting_nodes.proofs.push_node.Tie as tie
 
+-- ---- the places, each with the way back to the one before
+
+abbrev start : tie.After-slice-known2 → tie.Start
+start c = c .before .before .before .before .before
+
 push-requires : tie.Need-push-requires
 push-requires c κs = search needs
 
 same-length : tie.Need-same-length
 same-length c = search needs
-
--- ---- the places, each with the way back to the one before
-
-abbrev start : tie.After-slice-known2 → tie.Start
-start c = c .before .before .before .before .before
 
 returns : tie.Need-returns
 returns c =

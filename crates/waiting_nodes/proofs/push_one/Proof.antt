@@ -20,6 +20,14 @@ low r =
     let e = entry r in
     child-held (e .args .shape) (e .args .numbers .now) (e .args .at) 1 0 (e .args .at) (r .wide .result) (e .pre .children) (omega arith) (omega arith) (r .wide .ensures .0)
 
+-- ---- the places, each with the way back to the one before
+
+abbrev after-wide : tie.After-distance-key → tie.After-wide
+after-wide c = c .before .before
+
+abbrev after-distance-key : tie.After-slice-known2 → tie.After-distance-key
+after-distance-key c = c .before .before .before .before
+
 mul-wide : tie.Need-mul-wide
 mul-wide c = search needs
 
@@ -38,14 +46,6 @@ distance-key-requires c κs =
     let e = entry r in
     vector-within (e .args .shape) (e .args .floats .now) (e .args .shape .vectors + r .wide .result) (e .args .shape .vectors + e .args .shape .nodes) (e .pre .nodes .limits) (e .pre .floats-size)
     (omega (arith, low r)) (omega arith)
-
--- ---- the places, each with the way back to the one before
-
-abbrev after-wide : tie.After-distance-key → tie.After-wide
-after-wide c = c .before .before
-
-abbrev after-distance-key : tie.After-slice-known2 → tie.After-distance-key
-after-distance-key c = c .before .before .before .before
 
 push-node-requires : tie.Need-push-node-requires
 push-node-requires c κs =

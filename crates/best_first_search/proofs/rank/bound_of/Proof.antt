@@ -27,11 +27,6 @@ entry t = t .before .before
 abbrev turn : Least → Turn
 turn p = p .before .before .before .before
 
-loop-holds : tie.Need-loop-holds Inv-loop μ-loop
-loop-holds c =
-    let a = c .before .args in
-    popping-start (a .heap .now) (a .count) (a .k) (c .before .pre .queue)
-
 -- ---- the places, each with the way back to the one before
 
 abbrev start : tie.At-loop Inv-loop μ-loop → tie.Start Inv-loop μ-loop
@@ -48,6 +43,11 @@ after-pop c = c .before .before .before .before
 
 abbrev after-pop′ : tie.Else3 Inv-loop μ-loop → tie.After-pop Inv-loop μ-loop
 after-pop′ c = c .before .before .before .before
+
+loop-holds : tie.Need-loop-holds Inv-loop μ-loop
+loop-holds c =
+    let a = c .before .args in
+    popping-start (a .heap .now) (a .count) (a .k) (c .before .pre .queue)
 
 pop-requires : tie.Need-pop-requires Inv-loop μ-loop
 pop-requires c κs =

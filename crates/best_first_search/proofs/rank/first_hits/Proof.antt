@@ -4,6 +4,14 @@ use borrow.Author.Needs.{needs}
 use Rattle.best_first_search.proofs.rank.first_hits.Statement.{statement}
 use Rattle.best_first_search.proofs.rank.first_hits.Tie as tie
 
+-- ---- the places, each with the way back to the one before
+
+abbrev after-rank : tie.After-take-hits → tie.After-rank
+after-rank c = c .before .before .before .before .before .before
+
+abbrev after-take-hits : tie.After-slice-known7 → tie.After-take-hits
+after-take-hits c = c .before .before .before .before .before .before
+
 rank-requires : tie.Need-rank-requires
 rank-requires c κs = search needs
 
@@ -18,14 +26,6 @@ same-length-2 c = search needs
 
 same-length-3 : tie.Need-same-length-3
 same-length-3 c = search needs
-
--- ---- the places, each with the way back to the one before
-
-abbrev after-rank : tie.After-take-hits → tie.After-rank
-after-rank c = c .before .before .before .before .before .before
-
-abbrev after-take-hits : tie.After-slice-known7 → tie.After-take-hits
-after-take-hits c = c .before .before .before .before .before .before
 
 returns : tie.Need-returns
 returns c =

@@ -12,9 +12,6 @@ hit e = hitAt (e .args .shape) (e .args .floats .now) (e .args .numbers .now) (e
 abbrev entry : tie.After-sample-bound → tie.Start
 entry s = s .before .before .before .before .before .before
 
-sample-bound-requires : tie.Need-sample-bound-requires
-sample-bound-requires c κs = search needs
-
 -- ---- the places, each with the way back to the one before
 
 abbrev after-sample-bound : tie.After-measure-arg → tie.After-sample-bound
@@ -22,6 +19,9 @@ after-sample-bound c = c .before .before .before
 
 abbrev after-sample-bound′ : tie.After-slice-known3 → tie.After-sample-bound
 after-sample-bound′ c = c .before .before .before .before .before .before
+
+sample-bound-requires : tie.Need-sample-bound-requires
+sample-bound-requires c κs = search needs
 
 measure-requires : tie.Need-measure-requires
 measure-requires c κs =

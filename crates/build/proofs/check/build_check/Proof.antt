@@ -145,7 +145,8 @@ returns-4 c =
 
 owners-at-requires : tie.Need-owners-at-requires
 owners-at-requires c κs =
-    subst (λ (s : Shape). Limits s) (sym (after-shape-of (else2 (else3 c)) .shape-of .ensures)) (sound (else1 (after-shape-of (else2 (else3 c)))) .limits)
+    let shape-of = after-shape-of (else2 (else3 c)) in
+    subst (λ (s : Shape). Limits s) (sym (shape-of .shape-of .ensures)) (sound (else1 shape-of) .limits)
 
 owners-sound-requires : tie.Need-owners-sound-requires
 owners-sound-requires c κs =

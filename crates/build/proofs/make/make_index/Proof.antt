@@ -18,9 +18,6 @@ storeOf s = lent (s .args .floats) (s .args .numbers) (s .args .hashes)
 abbrev shaped : tie.After-build-tree → tie.After-shape-of
 shaped c = c .before .before .before .before .before
 
-shape-of-requires : tie.Need-shape-of-requires
-shape-of-requires c κs = search needs
-
 -- ---- the places, each with the way back to the one before
 
 abbrev after-shape-of : tie.After-build-tree-arg3 → tie.After-shape-of
@@ -40,6 +37,9 @@ after-made′ c = c .before .before .before .before .before
 
 abbrev after-insert-label-entries : tie.After-built-with → tie.After-insert-label-entries
 after-insert-label-entries c = c .before .before .before .before .before .before .before
+
+shape-of-requires : tie.Need-shape-of-requires
+shape-of-requires c κs = search needs
 
 build-tree-requires : tie.Need-build-tree-requires
 build-tree-requires c κs =

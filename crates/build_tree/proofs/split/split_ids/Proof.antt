@@ -7,12 +7,6 @@ use borrow.Author.Needs.{needs}
 use Rattle.build_tree.proofs.split.split_ids.Statement.{statement}
 use Rattle.build_tree.proofs.split.split_ids.Tie as tie
 
-smaller-requires : tie.Need-smaller-requires
-smaller-requires c κs = search needs
-
-centres-at-requires : tie.Need-centres-at-requires
-centres-at-requires c κs = search needs
-
 -- ---- the places, each with the way back to the one before
 
 abbrev start : tie.After-smaller → tie.Start
@@ -30,11 +24,19 @@ after-simple-kmeans c = c .before .before .before .before .before
 abbrev after-simple-kmeans′ : tie.After-slice-known5 → tie.After-simple-kmeans
 after-simple-kmeans′ c = c .before .before .before .before .before .before .before .before
 
+smaller-requires : tie.Need-smaller-requires
+smaller-requires c κs = search needs
+
+centres-at-requires : tie.Need-centres-at-requires
+centres-at-requires c κs = search needs
+
 simple-kmeans-requires : tie.Need-simple-kmeans-requires
 simple-kmeans-requires c κs =
-    let a = start (after-smaller c) .args in
-    let p = start (after-smaller c) .pre in
-    let k = after-smaller c .smaller in
+    let smaller = after-smaller c in
+    let s = start smaller in
+    let a = s .args in
+    let p = s .pre in
+    let k = smaller .smaller in
     let e = k .ensures in
     let b = p .0 .branching-low in
     let room = room-smaller (a .shape .branching) {k = k .result} (p .1 .0) (omega arith) in
@@ -42,10 +44,12 @@ simple-kmeans-requires c κs =
 
 sort-by-mark-requires : tie.Need-sort-by-mark-requires
 sort-by-mark-requires c κs =
-    let p = start (after-smaller (after-centres-at (after-simple-kmeans c))) .pre in
-    let e = after-smaller (after-centres-at (after-simple-kmeans c)) .smaller .ensures in
+    let simple-kmeans = after-simple-kmeans c in
+    let smaller = after-smaller (after-centres-at simple-kmeans) in
+    let p = start smaller .pre in
+    let e = smaller .smaller .ensures in
     let b = p .0 .branching-high in
-    let w = after-simple-kmeans c .simple-kmeans .kept .1 .1 .0 in
+    let w = simple-kmeans .simple-kmeans .kept .1 .1 .0 in
     (omega (arith, w, p .1 .1 .1 .1 .1 .0), (p .1 .1 .1 .1 .0, (λ i h. let k = p .1 .0 .below i h in omega (arith, k, p .1 .1 .0), (omega arith, p .1 .1 .1 .1 .1 .1))))
 
 same-length : tie.Need-same-length
@@ -56,11 +60,15 @@ same-length-2 c = search needs
 
 returns : tie.Need-returns
 returns c =
-    let a = start (after-smaller (after-centres-at (after-simple-kmeans′ c))) .args in
-    let p = start (after-smaller (after-centres-at (after-simple-kmeans′ c))) .pre in
-    let w = after-simple-kmeans′ c .simple-kmeans .kept .1 .1 .0 in
-    let room : 2 * length (a .ids .now) ≤ length (after-simple-kmeans′ c .simple-kmeans .last .1 .1 .0) = omega (arith, w, p .1 .1 .1 .1 .1 .0) in
-    clustering-end (p .0) (after-centres-at (after-simple-kmeans′ c) .centres-at .ensures) (after-smaller (after-centres-at (after-simple-kmeans′ c)) .smaller .ensures) room (after-simple-kmeans′ c .simple-kmeans .ensures) (c .before .before .sort-by-mark .ensures .0) (c .before .before .sort-by-mark .ensures .1)
+    let simple-kmeans = after-simple-kmeans′ c in
+    let centres-at = after-centres-at simple-kmeans in
+    let smaller = after-smaller centres-at in
+    let s = start smaller in
+    let a = s .args in
+    let p = s .pre in
+    let w = simple-kmeans .simple-kmeans .kept .1 .1 .0 in
+    let room : 2 * length (a .ids .now) ≤ length (simple-kmeans .simple-kmeans .last .1 .1 .0) = omega (arith, w, p .1 .1 .1 .1 .1 .0) in
+    clustering-end (p .0) (centres-at .centres-at .ensures) (smaller .smaller .ensures) room (simple-kmeans .simple-kmeans .ensures) (c .before .before .sort-by-mark .ensures .0) (c .before .before .sort-by-mark .ensures .1)
 
 pub split-ids-spec : {M : Type 1} → statement M
 split-ids-spec =

@@ -5,6 +5,23 @@ use borrow.Author.Needs.{needs}
 use Rattle.build_tree.proofs.split.split_node.Statement.{statement}
 use Rattle.build_tree.proofs.split.split_node.Tie as tie
 
+-- ---- the places, each with the way back to the one before
+
+abbrev start : tie.After-split-ids-arg3 → tie.Start
+start c = c .before .before .before .before .before .before .before
+
+abbrev start′ : tie.After-split-ids → tie.Start
+start′ c = c .before .before .before .before .before .before .before .before
+
+abbrev after-split-ids : tie.After-copy-to → tie.After-split-ids
+after-split-ids c = c .before .before .before .before .before .before .before .before
+
+abbrev after-copy-to : tie.After-write-six-arg → tie.After-copy-to
+after-copy-to c = c .before .before .before
+
+abbrev after-copy-to′ : tie.After-slice-known7 → tie.After-copy-to
+after-copy-to′ c = c .before .before .before .before .before .before
+
 add-end : tie.Need-add-end
 add-end c = search needs
 
@@ -22,23 +39,6 @@ part-split-ids-start c = search needs
 
 part-split-ids-end : tie.Need-part-split-ids-end
 part-split-ids-end c = search needs
-
--- ---- the places, each with the way back to the one before
-
-abbrev start : tie.After-split-ids-arg3 → tie.Start
-start c = c .before .before .before .before .before .before .before
-
-abbrev start′ : tie.After-split-ids → tie.Start
-start′ c = c .before .before .before .before .before .before .before .before
-
-abbrev after-split-ids : tie.After-copy-to → tie.After-split-ids
-after-split-ids c = c .before .before .before .before .before .before .before .before
-
-abbrev after-copy-to : tie.After-write-six-arg → tie.After-copy-to
-after-copy-to c = c .before .before .before
-
-abbrev after-copy-to′ : tie.After-slice-known7 → tie.After-copy-to
-after-copy-to′ c = c .before .before .before .before .before .before
 
 split-ids-requires : tie.Need-split-ids-requires
 split-ids-requires c κs =
@@ -68,11 +68,14 @@ copy-to-requires c κs = search needs
 
 write-six-requires : tie.Need-write-six-requires
 write-six-requires c κs =
-    let a = start′ (after-split-ids (after-copy-to c)) .args in
-    let p = start′ (after-split-ids (after-copy-to c)) .pre in
-    let d = after-split-ids (after-copy-to c) .split-ids in
+    let copy-to = after-copy-to c in
+    let split-ids = after-split-ids copy-to in
+    let s = start′ split-ids in
+    let a = s .args in
+    let p = s .pre in
+    let d = split-ids .split-ids in
     let few = split-few (p .0) (p .1) (d .ensures) in
-    (omega (arith, p .1 .room, after-copy-to c .copy-to .kept .0), (few, (omega arith, omega arith)))
+    (omega (arith, p .1 .room, copy-to .copy-to .kept .0), (few, (omega arith, omega arith)))
 
 same-length : tie.Need-same-length
 same-length c = search needs
@@ -85,10 +88,13 @@ same-length-3 c = search needs
 
 returns : tie.Need-returns
 returns c =
-    let a = start′ (after-split-ids (after-copy-to′ c)) .args in
-    let p = start′ (after-split-ids (after-copy-to′ c)) .pre in
-    let d = after-split-ids (after-copy-to′ c) .split-ids in
-    divided (p .0) (p .1) (d .ensures) (after-copy-to′ c .copy-to .ensures) (c .before .before .write-six .ensures)
+    let copy-to = after-copy-to′ c in
+    let split-ids = after-split-ids copy-to in
+    let s = start′ split-ids in
+    let a = s .args in
+    let p = s .pre in
+    let d = split-ids .split-ids in
+    divided (p .0) (p .1) (d .ensures) (copy-to .copy-to .ensures) (c .before .before .write-six .ensures)
 
 pub split-node-spec : {M : Type 1} → statement M
 split-node-spec =

@@ -31,15 +31,6 @@ fine c = sym (c .before .before .add-check .ensures) ∙ c .enum-told .given .1
 facts : (c : tie.After-enum-told) → Accepted (entry c .args .self) (storeOf (entry c)) (callOf (entry c))
 facts c = add-facts _ _ _ (fine c)
 
-add-check-requires : tie.Need-add-check-requires
-add-check-requires c κs = search needs
-
-enum-known-check : tie.Need-enum-known-check
-enum-known-check c = search needs
-
-enum-told : tie.Need-enum-told
-enum-told c = search needs
-
 -- ---- the places, each with the way back to the one before
 
 abbrev after-add-check : tie.After-known-told → tie.After-add-check
@@ -56,6 +47,15 @@ after-write-add c = c .before .before .before .before .before .before
 
 abbrev after-write-add′ : tie.After-grown → tie.After-write-add
 after-write-add′ c = c .before .before .before .before .before .before .before
+
+add-check-requires : tie.Need-add-check-requires
+add-check-requires c κs = search needs
+
+enum-known-check : tie.Need-enum-known-check
+enum-known-check c = search needs
+
+enum-told : tie.Need-enum-told
+enum-told c = search needs
 
 write-add-requires : tie.Need-write-add-requires
 write-add-requires c κs = facts (after-enum-told c) .room

@@ -25,9 +25,6 @@ started : {after : List ℕ} (numbers : List ℕ) (vector document held count : 
     → after ≡ sets (set numbers vector document) (b + held) (replicate count vector)
 started numbers vector document held count h e = h ∙ ap (λ (o : ℕ). sets (set numbers vector document) (o + held) (replicate count vector)) e
 
-shape-of-requires : tie.Need-shape-of-requires
-shape-of-requires c κs = search needs
-
 -- ---- the places, each with the way back to the one before
 
 abbrev at-start : tie.After-shape-of → tie.Start
@@ -50,6 +47,9 @@ after-write-numbers c = c .before .before .before
 
 abbrev after-write-numbers′ : tie.After-slice-known6 → tie.After-write-numbers
 after-write-numbers′ c = c .before .before .before .before .before .before
+
+shape-of-requires : tie.Need-shape-of-requires
+shape-of-requires c κs = search needs
 
 owners-at-requires : tie.Need-owners-at-requires
 owners-at-requires c κs =

@@ -21,16 +21,27 @@ Inv-loop hashes₀ place lengths bytes start₀ i₀ hashes start i =
 abbrev μ-loop : tie.MeasureT-loop
 μ-loop hashes₀ place lengths bytes start₀ i₀ hashes start i = length lengths - i
 
+-- ---- the places, each with the way back to the one before
+
+abbrev entry′ : tie.After-shared-slice-known2 Inv-loop μ-loop → tie.Start Inv-loop μ-loop
+entry′ c = c .before .before .before
+
+abbrev entry : tie.In-loop Inv-loop μ-loop → tie.Start Inv-loop μ-loop
+entry c = c .before .before .before .before .before
+
+abbrev in-loop : tie.After-label-hash Inv-loop μ-loop → tie.In-loop Inv-loop μ-loop
+in-loop c = c .before .before .before
+
 -- the labels left are the next one and those after it
 labels-left : (c : tie.In-loop Inv-loop μ-loop)
-    → total (drop (c .before .loop .i) (c .before .before .before .before .before .args .lengths .now))
-    ≡ getD (c .before .before .before .before .before .args .lengths .now) (c .before .loop .i) 0
-    + total (drop (suc (c .before .loop .i)) (c .before .before .before .before .before .args .lengths .now))
+    → total (drop (c .before .loop .i) (entry c .args .lengths .now))
+    ≡ getD (entry c .args .lengths .now) (c .before .loop .i) 0
+    + total (drop (suc (c .before .loop .i)) (entry c .args .lengths .now))
 labels-left c = total-drop _ (c .before .loop .i) (c .loop-test .taken)
 
 loop-holds : tie.Need-loop-holds Inv-loop μ-loop
 loop-holds c =
-    let start = c .before .before .before in
+    let start = entry′ c in
     let e : start .args .place + 0 ≡ start .args .place = omega arith in
     (omega arith, refl, omega arith, rw e)
 
@@ -67,7 +78,7 @@ loop-less c = omega arith
 
 loop-again : tie.Need-loop-again Inv-loop μ-loop
 loop-again c =
-    let turn = c .before .before .before in
+    let turn = in-loop c in
     let state = turn .before .loop in
     let left = labels-left turn in
     let end = ap (λ (n : ℕ). state .start + n) (c .before .wide .ensures) in (

@@ -5,6 +5,11 @@ use borrow.Author.Needs.{needs}
 use Rattle.curator.proofs.add.write_numbers.Statement.{statement}
 use Rattle.curator.proofs.add.write_numbers.Tie as tie
 
+-- ---- the places, each with the way back to the one before
+
+abbrev start : tie.After-slice-known2 → tie.Start
+start c = c .before .before .before .before .before
+
 cast-owner : tie.Need-cast-owner
 cast-owner c = search needs
 
@@ -16,11 +21,6 @@ slice-write-numbers c = search needs
 
 write-all-requires : tie.Need-write-all-requires
 write-all-requires c κs = search needs
-
--- ---- the places, each with the way back to the one before
-
-abbrev start : tie.After-slice-known2 → tie.Start
-start c = c .before .before .before .before .before
 
 same-length : tie.Need-same-length
 same-length c =

@@ -11,6 +11,14 @@ use borrow.Author.Needs.{needs}
 use Rattle.curator.proofs.add.write_vector.Statement.{statement}
 use Rattle.curator.proofs.add.write_vector.Tie as tie
 
+-- ---- the places, each with the way back to the one before
+
+abbrev start : tie.After-dot → tie.Start
+start c = c .before .before .before
+
+abbrev after-dot : tie.After-slice-known2 → tie.After-dot
+after-dot c = c .before .before .before .before
+
 add-end : tie.Need-add-end
 add-end c = search needs
 
@@ -34,14 +42,6 @@ normalize-requires c κs = search needs
 
 same-length : tie.Need-same-length
 same-length c = search needs
-
--- ---- the places, each with the way back to the one before
-
-abbrev start : tie.After-dot → tie.Start
-start c = c .before .before .before
-
-abbrev after-dot : tie.After-slice-known2 → tie.After-dot
-after-dot c = c .before .before .before .before
 
 returns : tie.Need-returns
 returns c =

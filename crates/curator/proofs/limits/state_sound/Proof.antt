@@ -14,6 +14,17 @@ joined : (index : CuratorIndex) (d p c h b : Bool) → d ≡ dimensionAllowed (i
 unfolding stateSound
 joined index d p c h b i j k l m = rw (i, j, k, l, m) (simp and-true)
 
+-- ---- the places, each with the way back to the one before
+
+abbrev start : tie.After-dimension-allowed → tie.Start
+start c = c .before .before .before .before
+
+abbrev after-dimension-allowed : tie.After-params-allowed → tie.After-dimension-allowed
+after-dimension-allowed c = c .before
+
+abbrev after-params-allowed : tie.After-built-allowed → tie.After-params-allowed
+after-params-allowed c = c .before .before .before
+
 dimension-allowed-requires : tie.Need-dimension-allowed-requires
 dimension-allowed-requires c κs = search needs
 
@@ -29,27 +40,19 @@ counts-allowed-requires c κs = search needs
 built-allowed-requires : tie.Need-built-allowed-requires
 built-allowed-requires c κs = search needs
 
--- ---- the places, each with the way back to the one before
-
-abbrev start : tie.After-dimension-allowed → tie.Start
-start c = c .before .before .before .before
-
-abbrev after-dimension-allowed : tie.After-params-allowed → tie.After-dimension-allowed
-after-dimension-allowed c = c .before
-
-abbrev after-params-allowed : tie.After-built-allowed → tie.After-params-allowed
-after-params-allowed c = c .before .before .before
-
 returns : tie.Need-returns
-returns c = joined
-    (start (after-dimension-allowed (after-params-allowed c)) .args .index)
+returns c =
+    let params-allowed = after-params-allowed c in
+    let dimension-allowed = after-dimension-allowed params-allowed in
+    joined
+    (start dimension-allowed .args .index)
     _
     _
     _
     _
     _
-    (after-dimension-allowed (after-params-allowed c) .dimension-allowed .ensures)
-    (after-params-allowed c .params-allowed .ensures)
+    (dimension-allowed .dimension-allowed .ensures)
+    (params-allowed .params-allowed .ensures)
     (c .before .before .capacities-allowed .ensures)
     (c .before .counts-allowed .ensures)
     (c .built-allowed .ensures)

@@ -6,6 +6,11 @@ use borrow.Author.Needs.{needs}
 use Rattle.distance.proofs.places.distance_at.Statement.{statement}
 use Rattle.distance.proofs.places.distance_at.Tie as tie
 
+-- ---- the places, each with the way back to the one before
+
+abbrev start : tie.After-cosine-distance-normalized → tie.Start
+start c = c .before .before .before .before
+
 add-end : tie.Need-add-end
 add-end c = search needs
 
@@ -23,11 +28,6 @@ part-cosine-distance-normalized-end c = search needs
 
 cosine-distance-normalized-requires : tie.Need-cosine-distance-normalized-requires
 cosine-distance-normalized-requires c κs = search needs
-
--- ---- the places, each with the way back to the one before
-
-abbrev start : tie.After-cosine-distance-normalized → tie.Start
-start c = c .before .before .before .before
 
 returns : tie.Need-returns
 returns c =

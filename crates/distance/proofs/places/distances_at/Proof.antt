@@ -6,6 +6,11 @@ use borrow.Author.Needs.{needs}
 use Rattle.distance.proofs.places.distances_at.Statement.{statement}
 use Rattle.distance.proofs.places.distances_at.Tie as tie
 
+-- ---- the places, each with the way back to the one before
+
+abbrev start : tie.After-cosine-distance-four → tie.Start
+start c = c .before .before .before .before .before .before .before
+
 add-a-end : tie.Need-add-a-end
 add-a-end c = search needs
 
@@ -68,11 +73,6 @@ part-cosine-distance-four-end-4 c = search needs
 
 cosine-distance-four-requires : tie.Need-cosine-distance-four-requires
 cosine-distance-four-requires c κs = search needs
-
--- ---- the places, each with the way back to the one before
-
-abbrev start : tie.After-cosine-distance-four → tie.Start
-start c = c .before .before .before .before .before .before .before
 
 returns : tie.Need-returns
 returns c =

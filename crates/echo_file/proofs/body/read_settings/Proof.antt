@@ -74,10 +74,12 @@ u32-at-requires-5 c κs = omega (arith, five (after-known-told (after-u32-at (c 
 
 returns-2 : tie.Need-returns-2
 returns-2 c known =
-    let after = after-known-told (after-u32-at (after-u32-at2 c)) in
+    let u32-at2 = after-u32-at2 c in
+    let u32-at = after-u32-at u32-at2 in
+    let after = after-known-told u32-at in
     let args = start after .args in
-    settings-shows known (args .file .now) (args .at) (five after) (after-u32-at (after-u32-at2 c) .u32-at .ensures)
-    (after-u32-at2 c .u32-at2 .ensures) (c .before .before .u32-at3 .ensures) (c .before .u32-at4 .ensures) (c .u32-at5 .ensures)
+    settings-shows known (args .file .now) (args .at) (five after) (u32-at .u32-at .ensures)
+    (u32-at2 .u32-at2 .ensures) (c .before .before .u32-at3 .ensures) (c .before .u32-at4 .ensures) (c .u32-at5 .ensures)
 
 pub read-settings-spec : {M : Type 1} → statement M
 read-settings-spec =

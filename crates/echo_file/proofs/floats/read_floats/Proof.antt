@@ -14,6 +14,14 @@ Inv-loop file at out₀ i₀ out i = (i ≤ length out₀) × (length out ≡ le
 abbrev μ-loop : tie.MeasureT-loop
 μ-loop file at out₀ i₀ out i = length out₀ - i
 
+-- ---- the places, each with the way back to the one before
+
+abbrev start′ : tie.After-loop Inv-loop μ-loop → tie.Start Inv-loop μ-loop
+start′ c = c .before .before .before .before
+
+abbrev start : tie.After-float-at Inv-loop μ-loop → tie.Start Inv-loop μ-loop
+start c = c .before .before .before .before .before
+
 loop-holds : tie.Need-loop-holds Inv-loop μ-loop
 loop-holds c =
     let a = c .before .before .args in
@@ -39,14 +47,6 @@ add-i c = omega arith
 
 loop-less : tie.Need-loop-less Inv-loop μ-loop
 loop-less c = omega arith
-
--- ---- the places, each with the way back to the one before
-
-abbrev start′ : tie.After-loop Inv-loop μ-loop → tie.Start Inv-loop μ-loop
-start′ c = c .before .before .before .before
-
-abbrev start : tie.After-float-at Inv-loop μ-loop → tie.Start Inv-loop μ-loop
-start c = c .before .before .before .before .before
 
 loop-again : tie.Need-loop-again Inv-loop μ-loop
 loop-again c =

@@ -18,6 +18,14 @@ Inv-loop lengths sum₀ i₀ sum i = (i ≤ length lengths) × (total (drop i le
 abbrev μ-loop : tie.MeasureT-loop
 μ-loop lengths sum₀ i₀ sum i = length lengths - i
 
+-- ---- the places, each with the way back to the one before
+
+abbrev start : tie.At-loop Inv-loop μ-loop → tie.Start Inv-loop μ-loop
+start c = c .before .before
+
+abbrev at-loop : tie.After-wide Inv-loop μ-loop → tie.At-loop Inv-loop μ-loop
+at-loop c = c .before .before .before
+
 loop-holds : tie.Need-loop-holds Inv-loop μ-loop
 loop-holds c = (omega arith, add-zero _, omega arith)
 
@@ -27,17 +35,9 @@ shared-slice-read-wide c = search needs
 wide-requires : tie.Need-wide-requires Inv-loop μ-loop
 wide-requires c κs = search needs
 
--- ---- the places, each with the way back to the one before
-
-abbrev start : tie.At-loop Inv-loop μ-loop → tie.Start Inv-loop μ-loop
-start c = c .before .before
-
-abbrev at-loop : tie.After-wide Inv-loop μ-loop → tie.At-loop Inv-loop μ-loop
-at-loop c = c .before .before .before
-
 -- a length is a byte
 byte : (c : tie.After-wide Inv-loop μ-loop)
-    → (c .wide .result ≡ getD (c .before .before .before .before .before .args .lengths .now) (c .before .before .before .loop .i) 0) × (c .wide .result < 256)
+    → (c .wide .result ≡ getD (start (at-loop c) .args .lengths .now) (at-loop c .loop .i) 0) × (c .wide .result < 256)
 byte c = let known = c .before .shared-slice-known2 .given (at-loop c .loop .i) in let e = c .wide .ensures in (e, omega arith)
 
 add-sum : tie.Need-add-sum Inv-loop μ-loop

@@ -28,6 +28,17 @@ entry t = t .before .before
 abbrev turn : Least → Turn
 turn p = p .before .before .before
 
+-- ---- the places, each with the way back to the one before
+
+abbrev start : tie.After-loop Inv-loop μ-loop → tie.Start Inv-loop μ-loop
+start c = c .before .before .before
+
+abbrev after-pop : tie.Then1 Inv-loop μ-loop → tie.After-pop Inv-loop μ-loop
+after-pop c = c .before .before .before .before
+
+abbrev after-pop′ : tie.Else1 Inv-loop μ-loop → tie.After-pop Inv-loop μ-loop
+after-pop′ c = c .before .before .before .before
+
 loop-holds : tie.Need-loop-holds Inv-loop μ-loop
 loop-holds c =
     let a = c .before .args in
@@ -47,17 +58,6 @@ pop-requires c κs =
 
 sub-left : tie.Need-sub-left Inv-loop μ-loop
 sub-left c = search needs
-
--- ---- the places, each with the way back to the one before
-
-abbrev start : tie.After-loop Inv-loop μ-loop → tie.Start Inv-loop μ-loop
-start c = c .before .before .before
-
-abbrev after-pop : tie.Then1 Inv-loop μ-loop → tie.After-pop Inv-loop μ-loop
-after-pop c = c .before .before .before .before
-
-abbrev after-pop′ : tie.Else1 Inv-loop μ-loop → tie.After-pop Inv-loop μ-loop
-after-pop′ c = c .before .before .before .before
 
 add-total : tie.Need-add-total Inv-loop μ-loop
 add-total c =

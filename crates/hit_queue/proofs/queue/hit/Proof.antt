@@ -6,6 +6,11 @@ use borrow.Author.Needs.{needs}
 use Rattle.hit_queue.proofs.queue.hit.Statement.{statement}
 use Rattle.hit_queue.proofs.queue.hit.Tie as tie
 
+-- ---- the places, each with the way back to the one before
+
+abbrev start : tie.After-key → tie.Start
+start c = c .before .before .before .before
+
 mul-wide : tie.Need-mul-wide
 mul-wide c = search needs
 
@@ -23,11 +28,6 @@ mul-t9 c = search needs
 
 add-t11 : tie.Need-add-t11
 add-t11 c = search needs
-
--- ---- the places, each with the way back to the one before
-
-abbrev start : tie.After-key → tie.Start
-start c = c .before .before .before .before
 
 returns : tie.Need-returns
 returns c =

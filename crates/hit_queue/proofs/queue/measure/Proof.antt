@@ -104,9 +104,11 @@ loop-less c = search needs
 
 loop-again : tie.Need-loop-again Inv-loop μ-loop
 loop-again c =
+    let taken = then1 c in
+    let at-loop₀ = at-loop (in-loop taken) in
     let four = c .before .before .measure-four in
-    let more : at-loop (in-loop (then1 c)) .loop .j + 4 ≤ entry (at-loop (in-loop (then1 c))) .args .found = omega (arith, then1 c .if1 .taken) in
-    (more, grown (at-loop (in-loop (then1 c))) 4 (four .result) _ more (four .ensures))
+    let more : at-loop₀ .loop .j + 4 ≤ entry (at-loop₀) .args .found = omega (arith, taken .if1 .taken) in
+    (more, grown (at-loop₀) 4 (four .result) _ more (four .ensures))
 
 measure-one-requires : tie.Need-measure-one-requires Inv-loop μ-loop
 measure-one-requires c κs =
@@ -121,10 +123,12 @@ loop-less-2 c = search needs
 
 loop-again-2 : tie.Need-loop-again-2 Inv-loop μ-loop
 loop-again-2 c =
+    let in-loop₀ = in-loop′ c in
+    let at-loop₀ = at-loop in-loop₀ in
     let one = c .before .before .measure-one in
-    let more : at-loop (in-loop′ c) .loop .j + 1 ≤ entry (at-loop (in-loop′ c)) .args .found =
-    omega (arith, in-loop′ c .loop-test .taken) in
-    (more, grown (at-loop (in-loop′ c)) 1 (one .result) _ more (one .ensures))
+    let more : at-loop₀ .loop .j + 1 ≤ entry (at-loop₀) .args .found =
+    omega (arith, in-loop₀ .loop-test .taken) in
+    (more, grown (at-loop₀) 1 (one .result) _ more (one .ensures))
 
 same-length : tie.Need-same-length Inv-loop μ-loop
 same-length c = c .before .loop .inv .1 .size

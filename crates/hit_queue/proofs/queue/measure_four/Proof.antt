@@ -20,24 +20,6 @@ Numbers = tie.After-wide4
 abbrev entry : Numbers → tie.Start
 entry w = w .before .before .before .before .before .before .before .before .before .before .before .before
 
-abbrev first : Numbers → ℕ
-first w = w .before .before .before .before .before .before .wide .result
-
-abbrev second : Numbers → ℕ
-second w = w .before .before .before .before .wide2 .result
-
-abbrev third : Numbers → ℕ
-third w = w .before .before .wide3 .result
-
-abbrev fourth : Numbers → ℕ
-fourth w = w .wide4 .result
-
--- a number of the four is that of a vector held
-held : (w : Numbers) (i v : ℕ) → i < 4 → v ≡ getD (entry w .args .heap .now) (entry w .args .at + i) 0 → v < entry w .args .counts .vectors
-held w i v low is =
-    let a = entry w .args in
-    number-held (a .counts) (a .heap .now) (a .count) (a .at) 4 (entry w .pre .measure) i (a .at + i) v low refl is
-
 -- ---- the places, each with the way back to the one before
 
 abbrev after-wide : tie.After-wide2 → tie.After-wide
@@ -57,6 +39,24 @@ after-wide4′′ c = c .before .before .before .before .before
 
 abbrev after-hit4 : tie.After-slice-known6 → tie.After-hit4
 after-hit4 c = c .before .before .before .before
+
+abbrev first : Numbers → ℕ
+first w = after-wide (after-wide2 w) .wide .result
+
+abbrev second : Numbers → ℕ
+second w = after-wide2 w .wide2 .result
+
+abbrev third : Numbers → ℕ
+third w = w .before .before .wide3 .result
+
+abbrev fourth : Numbers → ℕ
+fourth w = w .wide4 .result
+
+-- a number of the four is that of a vector held
+held : (w : Numbers) (i v : ℕ) → i < 4 → v ≡ getD (entry w .args .heap .now) (entry w .args .at + i) 0 → v < entry w .args .counts .vectors
+held w i v low is =
+    let a = entry w .args in
+    number-held (a .counts) (a .heap .now) (a .count) (a .at) 4 (entry w .pre .measure) i (a .at + i) v low refl is
 
 held-first : (w : Numbers) → first w < entry w .args .counts .vectors
 held-first w =

@@ -29,6 +29,11 @@ inside w =
     let e = entry w in
     vector-within (e .args .shape) (e .args .floats .now) (number w) (e .args .counts .vectors) (e .pre .lent .within .limits) (e .pre .lent .floats-size) (held w) (omega (arith, e .pre .lent .within .vectors))
 
+-- ---- the places, each with the way back to the one before
+
+abbrev after-hit : tie.After-slice-known3 → tie.After-hit
+after-hit c = c .before .before .before .before
+
 mul-wide : tie.Need-mul-wide
 mul-wide c = search needs
 
@@ -55,11 +60,6 @@ push-within-requires c κs = search needs
 
 same-length : tie.Need-same-length
 same-length c = search needs
-
--- ---- the places, each with the way back to the one before
-
-abbrev after-hit : tie.After-slice-known3 → tie.After-hit
-after-hit c = c .before .before .before .before
 
 returns : tie.Need-returns
 returns c =

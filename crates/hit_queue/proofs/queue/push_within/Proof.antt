@@ -5,15 +5,6 @@ use borrow.Author.Needs.{needs}
 use Rattle.hit_queue.proofs.queue.push_within.Statement.{statement}
 use Rattle.hit_queue.proofs.queue.push_within.Tie as tie
 
-push-requires : tie.Need-push-requires
-push-requires c κs = search needs
-
-add-total : tie.Need-add-total
-add-total c = search needs
-
-same-length : tie.Need-same-length
-same-length c = search needs
-
 -- ---- the places, each with the way back to the one before
 
 abbrev start : tie.Then1 → tie.Start
@@ -24,6 +15,15 @@ start′ c = c .before .before .before
 
 abbrev then1 : tie.After-slice-known2 → tie.Then1
 then1 c = c .before .before .before .before
+
+push-requires : tie.Need-push-requires
+push-requires c κs = search needs
+
+add-total : tie.Need-add-total
+add-total c = search needs
+
+same-length : tie.Need-same-length
+same-length c = search needs
 
 returns : tie.Need-returns
 returns c =

@@ -22,6 +22,11 @@ Inv-loop floats ids work₀ dimension count centres-at k i₀ work i =
 abbrev μ-loop : tie.MeasureT-loop
 μ-loop floats ids work₀ dimension count centres-at k i₀ work i = length ids - i
 
+-- ---- the places, each with the way back to the one before
+
+abbrev entry : tie.After-loop Inv-loop μ-loop → tie.Start Inv-loop μ-loop
+entry c = c .before .before .before .before .before
+
 loop-holds : tie.Need-loop-holds Inv-loop μ-loop
 loop-holds c = (omega arith, refl, refl)
 
@@ -102,11 +107,6 @@ loop-again c =
 
 same-length : tie.Need-same-length Inv-loop μ-loop
 same-length c = c .before .loop .inv .1
-
--- ---- the places, each with the way back to the one before
-
-abbrev entry : tie.After-loop Inv-loop μ-loop → tie.Start Inv-loop μ-loop
-entry c = c .before .before .before .before .before
 
 returns : tie.Need-returns Inv-loop μ-loop
 returns c = assign-end _ _ _ _ _ _ _ (entry c .pre .0) _ _ (c .before .loop .inv .2) (c .loop-test .left)

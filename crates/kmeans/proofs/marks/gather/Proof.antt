@@ -12,6 +12,17 @@ Inv-loop ids work₀ j at found₀ i₀ work found i = Gathered j ids work₀ at
 abbrev μ-loop : tie.MeasureT-loop
 μ-loop ids work₀ j at found₀ i₀ work found i = length ids - i
 
+-- ---- the places, each with the way back to the one before
+
+abbrev start : tie.At-loop Inv-loop μ-loop → tie.Start Inv-loop μ-loop
+start c = c .before
+
+abbrev at-loop : tie.In-loop Inv-loop μ-loop → tie.At-loop Inv-loop μ-loop
+at-loop c = c .before
+
+abbrev in-loop : tie.After-shared-slice-known Inv-loop μ-loop → tie.In-loop Inv-loop μ-loop
+in-loop c = c .before .before .before
+
 loop-holds : tie.Need-loop-holds Inv-loop μ-loop
 loop-holds c = gather-none _ _ _ _ (c .pre .0) (c .pre .1)
 
@@ -27,39 +38,36 @@ mul-work c = omega arith
 shared-slice-read-work : tie.Need-shared-slice-read-work Inv-loop μ-loop
 shared-slice-read-work c = omega arith
 
--- ---- the places, each with the way back to the one before
-
-abbrev start : tie.At-loop Inv-loop μ-loop → tie.Start Inv-loop μ-loop
-start c = c .before
-
-abbrev at-loop : tie.In-loop Inv-loop μ-loop → tie.At-loop Inv-loop μ-loop
-at-loop c = c .before
-
-abbrev in-loop : tie.After-shared-slice-known Inv-loop μ-loop → tie.In-loop Inv-loop μ-loop
-in-loop c = c .before .before .before
-
 add-work : tie.Need-add-work Inv-loop μ-loop
 add-work c =
-    let at = start (at-loop (in-loop c)) in
-    let free = gather-room _ _ _ _ (at .pre .0) (at .pre .1) (at-loop (in-loop c) .loop .work) (at-loop (in-loop c) .loop .found) (at-loop (in-loop c) .loop .i) (at-loop (in-loop c) .loop .inv) (in-loop c .loop-test .taken) (c .before .if1 .taken) in
+    let in-loop₀ = in-loop c in
+    let at-loop₀ = at-loop in-loop₀ in
+    let at = start at-loop₀ in
+    let free = gather-room _ _ _ _ (at .pre .0) (at .pre .1) (at-loop₀ .loop .work) (at-loop₀ .loop .found) (at-loop₀ .loop .i) (at-loop₀ .loop .inv) (in-loop₀ .loop-test .taken) (c .before .if1 .taken) in
     omega (arith, free, at .good)
 
 mul-work-2 : tie.Need-mul-work-2 Inv-loop μ-loop
 mul-work-2 c =
-    let at = start (at-loop (in-loop c)) in
-    let free = gather-room _ _ _ _ (at .pre .0) (at .pre .1) (at-loop (in-loop c) .loop .work) (at-loop (in-loop c) .loop .found) (at-loop (in-loop c) .loop .i) (at-loop (in-loop c) .loop .inv) (in-loop c .loop-test .taken) (c .before .if1 .taken) in
+    let in-loop₀ = in-loop c in
+    let at-loop₀ = at-loop in-loop₀ in
+    let at = start at-loop₀ in
+    let free = gather-room _ _ _ _ (at .pre .0) (at .pre .1) (at-loop₀ .loop .work) (at-loop₀ .loop .found) (at-loop₀ .loop .i) (at-loop₀ .loop .inv) (in-loop₀ .loop-test .taken) (c .before .if1 .taken) in
     omega (arith, free, at .good)
 
 slice-write-work : tie.Need-slice-write-work Inv-loop μ-loop
 slice-write-work c =
-    let at = start (at-loop (in-loop c)) in
-    let free = gather-room _ _ _ _ (at .pre .0) (at .pre .1) (at-loop (in-loop c) .loop .work) (at-loop (in-loop c) .loop .found) (at-loop (in-loop c) .loop .i) (at-loop (in-loop c) .loop .inv) (in-loop c .loop-test .taken) (c .before .if1 .taken) in
+    let in-loop₀ = in-loop c in
+    let at-loop₀ = at-loop in-loop₀ in
+    let at = start at-loop₀ in
+    let free = gather-room _ _ _ _ (at .pre .0) (at .pre .1) (at-loop₀ .loop .work) (at-loop₀ .loop .found) (at-loop₀ .loop .i) (at-loop₀ .loop .inv) (in-loop₀ .loop-test .taken) (c .before .if1 .taken) in
     omega (arith, free, at .good)
 
 add-found : tie.Need-add-found Inv-loop μ-loop
 add-found c =
-    let at = start (at-loop (in-loop c)) in
-    let free = gather-room _ _ _ _ (at .pre .0) (at .pre .1) (at-loop (in-loop c) .loop .work) (at-loop (in-loop c) .loop .found) (at-loop (in-loop c) .loop .i) (at-loop (in-loop c) .loop .inv) (in-loop c .loop-test .taken) (c .before .if1 .taken) in
+    let in-loop₀ = in-loop c in
+    let at-loop₀ = at-loop in-loop₀ in
+    let at = start at-loop₀ in
+    let free = gather-room _ _ _ _ (at .pre .0) (at .pre .1) (at-loop₀ .loop .work) (at-loop₀ .loop .found) (at-loop₀ .loop .i) (at-loop₀ .loop .inv) (in-loop₀ .loop-test .taken) (c .before .if1 .taken) in
     omega (arith, free, at .good)
 
 add-i : tie.Need-add-i Inv-loop μ-loop
@@ -69,7 +77,11 @@ loop-less : tie.Need-loop-less Inv-loop μ-loop
 loop-less c = omega arith
 
 loop-again : tie.Need-loop-again Inv-loop μ-loop
-loop-again c = gather-hit _ _ _ _ (start (at-loop (in-loop c)) .pre .0) (start (at-loop (in-loop c)) .pre .1) _ _ _ (at-loop (in-loop c) .loop .inv) (in-loop c .loop-test .taken) (c .before .if1 .taken)
+loop-again c =
+    let in-loop₀ = in-loop c in
+    let at-loop₀ = at-loop in-loop₀ in
+    let s = start at-loop₀ in
+    gather-hit _ _ _ _ (s .pre .0) (s .pre .1) _ _ _ (at-loop₀ .loop .inv) (in-loop₀ .loop-test .taken) (c .before .if1 .taken)
 
 add-i-2 : tie.Need-add-i-2 Inv-loop μ-loop
 add-i-2 c = omega arith
@@ -78,7 +90,10 @@ loop-less-2 : tie.Need-loop-less-2 Inv-loop μ-loop
 loop-less-2 c = omega arith
 
 loop-again-2 : tie.Need-loop-again-2 Inv-loop μ-loop
-loop-again-2 c = gather-miss _ _ _ _ (start (at-loop (c .before .before)) .pre .0) (start (at-loop (c .before .before)) .pre .1) _ _ _ (at-loop (c .before .before) .loop .inv) (c .before .before .loop-test .taken) (c .if1 .left)
+loop-again-2 c =
+    let at-loop₀ = at-loop (c .before .before) in
+    let s = start at-loop₀ in
+    gather-miss _ _ _ _ (s .pre .0) (s .pre .1) _ _ _ (at-loop₀ .loop .inv) (c .before .before .loop-test .taken) (c .if1 .left)
 
 same-length : tie.Need-same-length Inv-loop μ-loop
 same-length c = c .before .loop .inv .same

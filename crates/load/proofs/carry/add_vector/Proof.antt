@@ -19,6 +19,11 @@ start c = c .before .before .before .before .before
 abbrev read : tie.After-components → tie.After-floats-at
 read c = c .before .before .before .before .before .before
 
+-- ---- the places, each with the way back to the one before
+
+abbrev after-add : tie.After-added → tie.After-add
+after-add c = c .before .before .before .before .before .before .before
+
 floats-at-requires : tie.Need-floats-at-requires
 floats-at-requires c κs = search needs
 
@@ -62,11 +67,6 @@ same-length-2 c = search needs
 
 same-length-3 : tie.Need-same-length-3
 same-length-3 c = search needs
-
--- ---- the places, each with the way back to the one before
-
-abbrev after-add : tie.After-added → tie.After-add
-after-add c = c .before .before .before .before .before .before .before
 
 returns : tie.Need-returns
 returns c =

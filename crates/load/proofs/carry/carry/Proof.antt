@@ -44,6 +44,17 @@ to-add c = c .before .before .before
 abbrev to-find : tie.After-look-up-arg6 → tie.After-known-told3
 to-find c = c .before .before .before .before .before .before
 
+-- ---- the places, each with the way back to the one before
+
+abbrev after-task-at : tie.After-known-told → tie.After-task-at
+after-task-at c = c .before .before .before
+
+abbrev after-add-vector : tie.After-slice-known9 → tie.After-add-vector
+after-add-vector c = c .before .before .before .before .before .before
+
+abbrev after-look-up : tie.After-slice-known15 → tie.After-look-up
+after-look-up c = c .before .before .before .before .before .before .before .before .before .before .before .before
+
 task-at-requires : tie.Need-task-at-requires
 task-at-requires c κs = search needs
 
@@ -61,17 +72,6 @@ enum-known-task-3 c = search needs
 
 look-up-requires : tie.Need-look-up-requires
 look-up-requires c κs = finding (to-find c) .stands
-
--- ---- the places, each with the way back to the one before
-
-abbrev after-task-at : tie.After-known-told → tie.After-task-at
-after-task-at c = c .before .before .before
-
-abbrev after-add-vector : tie.After-slice-known9 → tie.After-add-vector
-after-add-vector c = c .before .before .before .before .before .before
-
-abbrev after-look-up : tie.After-slice-known15 → tie.After-look-up
-after-look-up c = c .before .before .before .before .before .before .before .before .before .before .before .before
 
 returns : tie.Need-returns
 returns c =

@@ -39,6 +39,20 @@ finds-as s end {q} {query} {a} {asked} e k h = subst (λ (x : List Float). Finds
 abbrev label : tie.Start → Bool → Asked
 label s filtered = let q = s .args .query in asking filtered (between (q .«label_at») (q .«floats_at») (s .args .file .now))
 
+-- ---- the places, each with the way back to the one before
+
+abbrev after-components2 : tie.After-search → tie.After-components2
+after-components2 c = c .before .before .before
+
+abbrev after-components : tie.After-search-filtered → tie.After-components
+after-components c = c .before .before .before
+
+abbrev after-search : tie.After-slice-known9 → tie.After-search
+after-search c = c .before .before .before .before .before .before
+
+abbrev after-search-filtered : tie.After-slice-known6 → tie.After-search-filtered
+after-search-filtered c = c .before .before .before .before .before .before
+
 floats-at-requires : tie.Need-floats-at-requires
 floats-at-requires c κs = search needs
 
@@ -69,20 +83,6 @@ same-length-2 c = search needs
 
 same-length-3 : tie.Need-same-length-3
 same-length-3 c = search needs
-
--- ---- the places, each with the way back to the one before
-
-abbrev after-components2 : tie.After-search → tie.After-components2
-after-components2 c = c .before .before .before
-
-abbrev after-components : tie.After-search-filtered → tie.After-components
-after-components c = c .before .before .before
-
-abbrev after-search : tie.After-slice-known9 → tie.After-search
-after-search c = c .before .before .before .before .before .before
-
-abbrev after-search-filtered : tie.After-slice-known6 → tie.After-search-filtered
-after-search-filtered c = c .before .before .before .before .before .before
 
 returns : tie.Need-returns
 returns c =

@@ -14,6 +14,11 @@ use Rattle.load.proofs.carry.floats_at.Tie as tie
 abbrev sixteen : List Float
 sixteen = replicate 16 (ofBits binary32 0)
 
+-- ---- the places, each with the way back to the one before
+
+abbrev start : tie.After-values2 → tie.Start
+start c = c .before .before .before .before
+
 array-borrow-prefix-values : tie.Need-array-borrow-prefix-values
 array-borrow-prefix-values c = search needs
 
@@ -26,11 +31,6 @@ read-floats-requires c κs =
     let s = c .before .before in
     let front = length-take-le (s .args .count) sixteen (omega (arith, s .pre .0)) in
     omega (arith, front, s .pre .1)
-
--- ---- the places, each with the way back to the one before
-
-abbrev start : tie.After-values2 → tie.Start
-start c = c .before .before .before .before
 
 returns : tie.Need-returns
 returns c =

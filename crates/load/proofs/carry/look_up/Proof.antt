@@ -29,6 +29,11 @@ ready c = c .before .before .before .before .before .before .before .before .bef
 abbrev known : tie.After-find-arg6 → tie.After-known-told2
 known c = c .before .before .before .before .before .before
 
+-- ---- the places, each with the way back to the one before
+
+abbrev after-find : tie.After-found → tie.After-find
+after-find c = c .before .before .before .before .before .before .before
+
 build-requires : tie.Need-build-requires
 build-requires c κs = search needs
 
@@ -79,11 +84,6 @@ same-length-9 c = search needs
 
 same-length-10 : tie.Need-same-length-10
 same-length-10 c = search needs
-
--- ---- the places, each with the way back to the one before
-
-abbrev after-find : tie.After-found → tie.After-find
-after-find c = c .before .before .before .before .before .before .before
 
 returns-2 : tie.Need-returns-2
 returns-2 c =

@@ -45,6 +45,20 @@ fit c = subst (λ (x : Carried). HitsFit x (found c .args .ids .now) (found c .a
 abbrev hits : tie.After-write-hits → tie.After-carried2
 hits c = c .before .before .before
 
+-- ---- the places, each with the way back to the one before
+
+abbrev after-shared-slice-known : tie.After-carried2 → tie.After-shared-slice-known
+after-shared-slice-known c = c .before .before .before
+
+abbrev after-carried : tie.After-write-refused → tie.After-carried
+after-carried c = c .before .before .before .before
+
+abbrev after-write-hits : tie.After-write-closing-arg → tie.After-write-hits
+after-write-hits c = c .before .before .before
+
+abbrev after-write-hits′ : tie.After-write-closing → tie.After-write-hits
+after-write-hits′ c = c .before .before .before .before
+
 enum-told : tie.Need-enum-told
 enum-told c = search needs
 
@@ -68,20 +82,6 @@ write-hits-requires c κs =
     let k = c .before .before in
     let f = fit k in
     (omega (arith, f .0, found k .pre .1), f)
-
--- ---- the places, each with the way back to the one before
-
-abbrev after-shared-slice-known : tie.After-carried2 → tie.After-shared-slice-known
-after-shared-slice-known c = c .before .before .before
-
-abbrev after-carried : tie.After-write-refused → tie.After-carried
-after-carried c = c .before .before .before .before
-
-abbrev after-write-hits : tie.After-write-closing-arg → tie.After-write-hits
-after-write-hits c = c .before .before .before
-
-abbrev after-write-hits′ : tie.After-write-closing → tie.After-write-hits
-after-write-hits′ c = c .before .before .before .before
 
 write-closing-requires : tie.Need-write-closing-requires
 write-closing-requires c κs =

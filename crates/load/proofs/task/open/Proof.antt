@@ -12,6 +12,17 @@ use borrow.Author.Needs.{needs}
 use Rattle.load.proofs.task.open.Statement.{statement}
 use Rattle.load.proofs.task.open.Tie as tie
 
+-- ---- the places, each with the way back to the one before
+
+abbrev after-new′ : tie.After-known-told → tie.After-new
+after-new′ c = c .before .before .before
+
+abbrev after-new : tie.Then1 → tie.After-new
+after-new c = c .before .before .before .before
+
+abbrev after-new′′ : tie.Else1 → tie.After-new
+after-new′′ c = c .before .before .before .before
+
 new-requires : tie.Need-new-requires
 new-requires c κs = search needs
 
@@ -25,17 +36,6 @@ enum-known-answer-2 c = search needs
 opens : {dimension next : ℕ} {params : CuratorParams} {carried : Carried} (answer : Changed) → Creates dimension params capacities answer
     → carried ≡ openedBy answer dimension next → Opens dimension params next carried
 opens answer creates comes = record { answer = answer; creates = creates; comes = comes }
-
--- ---- the places, each with the way back to the one before
-
-abbrev after-new′ : tie.After-known-told → tie.After-new
-after-new′ c = c .before .before .before
-
-abbrev after-new : tie.Then1 → tie.After-new
-after-new c = c .before .before .before .before
-
-abbrev after-new′′ : tie.Else1 → tie.After-new
-after-new′′ c = c .before .before .before .before
 
 returns : tie.Need-returns
 returns c =

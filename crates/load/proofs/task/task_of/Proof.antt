@@ -6,6 +6,17 @@ use borrow.Author.Needs.{needs}
 use Rattle.load.proofs.task.task_of.Statement.{statement}
 use Rattle.load.proofs.task.task_of.Tie as tie
 
+-- ---- the places, each with the way back to the one before
+
+abbrev start : tie.After-known-told → tie.Start
+start c = c .before .before .before
+
+abbrev start′ : tie.After-query-of → tie.Start
+start′ c = c .before .before .before .before
+
+abbrev start′′ : tie.After-query-of2 → tie.Start
+start′′ c = c .before .before .before .before
+
 enum-told : tie.Need-enum-told
 enum-told c = search needs
 
@@ -20,17 +31,6 @@ enum-known-located-3 c = search needs
 
 returns : tie.Need-returns
 returns c = ap (taskOf (c .before .before .args .index)) (sym (c .enum-told .given .1))
-
--- ---- the places, each with the way back to the one before
-
-abbrev start : tie.After-known-told → tie.Start
-start c = c .before .before .before
-
-abbrev start′ : tie.After-query-of → tie.Start
-start′ c = c .before .before .before .before
-
-abbrev start′′ : tie.After-query-of2 → tie.Start
-start′′ c = c .before .before .before .before
 
 returns-2 : tie.Need-returns-2
 returns-2 c = ap (taskOf (start c .args .index)) (sym (c .before .located .given .1))

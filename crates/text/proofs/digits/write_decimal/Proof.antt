@@ -10,9 +10,6 @@ use Rattle.text.specs.Lines.{Written}
 use Rattle.text.proofs.digits.write_decimal.Statement.{statement}
 use Rattle.text.proofs.digits.write_decimal.Tie as tie
 
-decimal-places-requires : tie.Need-decimal-places-requires
-decimal-places-requires c κs = search needs
-
 -- ---- the places, each with the way back to the one before
 
 abbrev start : tie.After-decimal-places → tie.Start
@@ -20,6 +17,9 @@ start c = c .before .before .before
 
 abbrev after-decimal-places : tie.After-slice-known2 → tie.After-decimal-places
 after-decimal-places c = c .before .before .before
+
+decimal-places-requires : tie.Need-decimal-places-requires
+decimal-places-requires c κs = search needs
 
 write-digits-requires : tie.Need-write-digits-requires
 write-digits-requires c κs = omega (arith, length-decimalOf (start c .args .n))

@@ -17,15 +17,6 @@ Inv-loop out₀ at base count n i₀ rest₀ out i rest =
 abbrev μ-loop : tie.MeasureT-loop
 μ-loop out₀ at base count n i₀ rest₀ out i rest = i
 
-loop-holds : tie.Need-loop-holds Inv-loop μ-loop
-loop-holds c = (omega arith, refl, refl)
-
-sub-i : tie.Need-sub-i Inv-loop μ-loop
-sub-i c = omega arith
-
-rem-digit-char : tie.Need-rem-digit-char Inv-loop μ-loop
-rem-digit-char c = omega arith
-
 -- ---- the places, each with the way back to the one before
 
 abbrev start : tie.In-loop Inv-loop μ-loop → tie.Start Inv-loop μ-loop
@@ -36,6 +27,15 @@ start′′ c = c .before .before .before
 
 abbrev start′ : tie.After-digit-char Inv-loop μ-loop → tie.Start Inv-loop μ-loop
 start′ c = c .before .before .before .before
+
+loop-holds : tie.Need-loop-holds Inv-loop μ-loop
+loop-holds c = (omega arith, refl, refl)
+
+sub-i : tie.Need-sub-i Inv-loop μ-loop
+sub-i c = omega arith
+
+rem-digit-char : tie.Need-rem-digit-char Inv-loop μ-loop
+rem-digit-char c = omega arith
 
 digit-char-requires : tie.Need-digit-char-requires Inv-loop μ-loop
 digit-char-requires c κs = omega (arith, mod-lt (c .before .loop .rest) {m = start c .args .base} (omega arith))

@@ -9,6 +9,23 @@ use borrow.Author.Needs.{needs}
 use Rattle.walk.proofs.look.block_at.Statement.{statement}
 use Rattle.walk.proofs.look.block_at.Tie as tie
 
+-- ---- the places, each with the way back to the one before
+
+abbrev entry : tie.After-wide → tie.Start
+entry c = c .before .before .before
+
+abbrev after-wide : tie.Then1 → tie.After-wide
+after-wide c = c .before .before .before
+
+abbrev after-wide′ : tie.Else1 → tie.After-wide
+after-wide′ c = c .before .before .before
+
+abbrev after-wide′′ : tie.Then2 → tie.After-wide
+after-wide′′ c = c .before .before .before .before
+
+abbrev after-wide′′′ : tie.Else2 → tie.After-wide
+after-wide′′′ c = c .before .before .before .before
+
 mul-wide : tie.Need-mul-wide
 mul-wide c = search needs
 
@@ -29,23 +46,6 @@ shared-slice-read-wide-2 c = search needs
 
 wide-requires-2 : tie.Need-wide-requires-2
 wide-requires-2 c κs = search needs
-
--- ---- the places, each with the way back to the one before
-
-abbrev entry : tie.After-wide → tie.Start
-entry c = c .before .before .before
-
-abbrev after-wide : tie.Then1 → tie.After-wide
-after-wide c = c .before .before .before
-
-abbrev after-wide′ : tie.Else1 → tie.After-wide
-after-wide′ c = c .before .before .before
-
-abbrev after-wide′′ : tie.Then2 → tie.After-wide
-after-wide′′ c = c .before .before .before .before
-
-abbrev after-wide′′′ : tie.Else2 → tie.After-wide
-after-wide′′′ c = c .before .before .before .before
 
 returns : tie.Need-returns
 returns c =
@@ -70,12 +70,14 @@ add-t10 c = search needs
 
 returns-3 : tie.Need-returns-3
 returns-3 c =
-    let a = entry (after-wide′′′ c) .args in
-    let room = entry (after-wide′′′ c) .pre .room in
-    let start = after-wide′′′ c .wide .ensures .0 in
+    let wide = after-wide′′′ c in
+    let s = entry wide in
+    let a = s .args in
+    let room = s .pre .room in
+    let start = wide .wide .ensures .0 in
     let count = c .before .before .wide2 .ensures .0 in
     rw (← start, ← count) (
-      block-in (after-wide′′′ c .wide .result) (c .before .before .wide2 .result) (a .held) (c .if2 .left),
+      block-in (wide .wide .result) (c .before .before .wide2 .result) (a .held) (c .if2 .left),
       record { is = refl; room = omega (arith, room, c .if2 .left) },
     )
 

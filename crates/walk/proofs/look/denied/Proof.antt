@@ -11,6 +11,17 @@ use borrow.Author.Needs.{needs}
 use Rattle.walk.proofs.look.denied.Statement.{statement}
 use Rattle.walk.proofs.look.denied.Tie as tie
 
+-- ---- the places, each with the way back to the one before
+
+abbrev entry : tie.After-enum-told → tie.Start
+entry c = c .before .before .before
+
+abbrev entry′ : tie.After-wanted → tie.Start
+entry′ c = c .before .before .before
+
+abbrev after-wanted : tie.After-may-contain → tie.After-wanted
+after-wanted c = c .before .before .before .before
+
 enum-told : tie.Need-enum-told
 enum-told c = search needs
 
@@ -43,17 +54,6 @@ part-may-contain-end c = search needs
 
 may-contain-requires : tie.Need-may-contain-requires
 may-contain-requires c κs = search needs
-
--- ---- the places, each with the way back to the one before
-
-abbrev entry : tie.After-enum-told → tie.Start
-entry c = c .before .before .before
-
-abbrev entry′ : tie.After-wanted → tie.Start
-entry′ c = c .before .before .before
-
-abbrev after-wanted : tie.After-may-contain → tie.After-wanted
-after-wanted c = c .before .before .before .before
 
 returns : tie.Need-returns
 unfolding denies

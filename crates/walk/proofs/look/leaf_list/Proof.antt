@@ -6,6 +6,14 @@ use borrow.Author.Needs.{needs}
 use Rattle.walk.proofs.look.leaf_list.Statement.{statement}
 use Rattle.walk.proofs.look.leaf_list.Tie as tie
 
+-- ---- the places, each with the way back to the one before
+
+abbrev start : tie.After-block-at → tie.Start
+start c = c .before .before .before .before .before
+
+abbrev start′ : tie.After-block-at2 → tie.Start
+start′ c = c .before .before .before .before .before
+
 enum-told : tie.Need-enum-told
 enum-told c = search needs
 
@@ -29,14 +37,6 @@ entry-order-at-requires c κs = search needs
 
 block-at-requires-2 : tie.Need-block-at-requires-2
 block-at-requires-2 c κs = search needs
-
--- ---- the places, each with the way back to the one before
-
-abbrev start : tie.After-block-at → tie.Start
-start c = c .before .before .before .before .before
-
-abbrev start′ : tie.After-block-at2 → tie.Start
-start′ c = c .before .before .before .before .before
 
 returns : tie.Need-returns
 returns c =
