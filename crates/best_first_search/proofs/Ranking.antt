@@ -25,7 +25,7 @@ use Rattle.lists.specs.Tests.{allPass}
 use Rattle.hit_queue.specs.declared.answer.Taken.{Taken}
 use Rattle.hit_queue.specs.Contracts.{within, Measure, Measured, Takes}
 use Rattle.hit_queue.specs.QueueLaws.{document-popped, key-is}
-use Rattle.best_first_search.specs.Ranks.{firstOf, Enough, Bounds, Sampled, Ranked, Firsts}
+use Rattle.best_first_search.specs.Ranks.{firstHits, Enough, Bounds, Sampled, Ranked, Firsts}
 use Rattle.best_first_search.proofs.Runs.{lastOf, after-append, runs-more, sort-keep, first-within, sorted-before, runs-within}
 
 -- ---- hits are popped until there are k documents
@@ -193,7 +193,7 @@ module _ (c : Counts) (h : ℕ → ℕ) (k from found : ℕ) (heap : List ℕ) (
       many : length (map h (part from found heap₁)) ≡ found
       many = length-map (part from found heap₁) h ∙ length-part from found heap₁ (let t : from + found ≤ length heap₁ = omega (arith, w .inside, b .size) in t)
 
-      go : Enough k bound (sort hits) → take k (dropRepeats (sort (keep (within bound) hits))) ≡ firstOf k hits
+      go : Enough k bound (sort hits) → take k (dropRepeats (sort (keep (within bound) hits))) ≡ firstHits k hits
       go (inl e) = ap (λ (l : List ℕ). take k (dropRepeats (sort l))) (ap (λ (l : List ℕ). keep (within bound) (map h l)) (sym (b .numbers)) ∙ m .all e ∙ ap (map h) (b .numbers))
       go (inr n) = first-within bound k hits (subst (λ (l : List ℕ). k ≤ length (dropRepeats l)) (sym (sort-keep (within bound) hits)) n)
 

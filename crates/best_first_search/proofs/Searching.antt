@@ -25,7 +25,7 @@ use Rattle.walk.specs.Wanted as Wanted′
 use Rattle.walk.specs.Contracts.{VectorsLent}
 use Rattle.best_first_walk.specs.Walks.{hitsPart, foundIn, foundAt, foundPart, EndsAs, WalkEnds}
 use Rattle.best_first_walk.specs.WalksLaws.{few-hits}
-use Rattle.best_first_search.specs.Ranks.{firstOf, FirstHits, Firsts}
+use Rattle.best_first_search.specs.Ranks.{firstHits, FirstHits, Firsts}
 use Rattle.best_first_walk.specs.declared.Walked.the-variants as walked
 use Rattle.walk.specs.declared.Searched.the-variants as searched
 
@@ -40,7 +40,7 @@ module _ (s : Shape) (c : Counts) (hit : ℕ → ℕ) where
       → Answers (answer k p) (searched.Found r opened complete) ids ids′ distances distances′
   unfolding answer
   answered p k found opened complete work ids ids′ distances distances′ r e q =
-      let same : firstOf k (map hit (take found (foundPart s work))) ≡ take k (ranked p) = ap (λ (l : List ℕ). take k (dropRepeats l)) (e .finds .are) ∙ ap (take k) (sym (ranked-is p)) in
+      let same : firstHits k (map hit (take found (foundPart s work))) ≡ take k (ranked p) = ap (λ (l : List ℕ). take k (dropRepeats l)) (e .finds .are) ∙ ap (take k) (sym (ranked-is p)) in
       let count : r ≡ length (map documentOf (take k (ranked p))) = q .count-is ∙ ap length same ∙ sym (length-map (take k (ranked p)) documentOf) in
       record {
         is = cc (count, e .nodes, e .all);

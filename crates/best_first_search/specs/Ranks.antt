@@ -17,8 +17,8 @@ use Rattle.hit_queue.specs.Contracts.{within, MeasureLent, rankedQueue}
 use Rattle.walk.specs.Contracts.{StoreLent}
 
 -- the first k of hits
-abbrev pub firstOf : ℕ → List ℕ → List ℕ
-firstOf k hits = take k (dropRepeats (sort hits))
+abbrev pub firstHits : ℕ → List ℕ → List ℕ
+firstHits k hits = take k (dropRepeats (sort hits))
 
 -- a bound within which there are k of the hits, or the highest of all keys
 abbrev pub Enough : ℕ → ℕ → List ℕ → Type 0
@@ -40,7 +40,7 @@ pub record Sampled (hits : List ℕ) (k bound from found : ℕ) (heap heap′ : 
 pub record Ranked (hits : List ℕ) (k total : ℕ) (heap : List ℕ) : Type 0 where
   pub room : total * 3 ≤ length heap
   pub queue : Heap (records 3 total heap)
-  pub first : take k (rankedQueue total heap) ≡ firstOf k hits
+  pub first : take k (rankedQueue total heap) ≡ firstHits k hits
 
 -- `first_hits` wants the numbers of vectors as `measure` does, and answer lists of at least k places
 pub record FirstHits (s : Shape) (c : Counts) (floats : List Float) (numbers heap : List ℕ) (from found k : ℕ) (ids : List ℕ) (distances : List Float) : Type 0 where
@@ -50,9 +50,9 @@ pub record FirstHits (s : Shape) (c : Counts) (floats : List Float) (numbers hea
 
 -- and writes the ids and distances of the first k from the front
 pub record Firsts (hits : List ℕ) (k : ℕ) (ids : List ℕ) (distances : List Float) (r : ℕ) (ids′ : List ℕ) (distances′ : List Float) : Type 0 where
-  pub count-is : r ≡ length (firstOf k hits)
-  pub ids-are : ids′ ≡ sets ids 0 (map documentOf (firstOf k hits))
-  pub distances-are : distances′ ≡ sets distances 0 (map distanceOf (firstOf k hits))
+  pub count-is : r ≡ length (firstHits k hits)
+  pub ids-are : ids′ ≡ sets ids 0 (map documentOf (firstHits k hits))
+  pub distances-are : distances′ ≡ sets distances 0 (map distanceOf (firstHits k hits))
 
 -- `best_first_search` wants a store, the work list, and answer lists of at least k places
 pub record SearchLent (s : Shape) (c : Counts) (store : Store) (work : List ℕ) (k : ℕ) (ids : List ℕ) (distances : List Float) : Type 0 where

@@ -29,13 +29,13 @@ use Rattle.lists.specs.Tests.{allPass, allPass-nil, allPass-append}
 use Rattle.walk.specs.declared.Wanted.{Wanted}
 use Rattle.store.specs.declared.Counts.{Counts}
 use Rattle.walk.specs.Walk.{View, waitingNode, nodeNumber, Progress}
-use Rattle.walk.specs.WalkLaws.{openedOne, withHits}
-use Rattle.walk.specs.DifferentLaws.{Once, numbersOf}
+use Rattle.walk.specs.WalkLaws.{openedOne, addedHits}
+use Rattle.walk.specs.DifferentLaws.{Once, nodeNumbers}
 use Rattle.store.specs.Lent.{storeOf}
 use Rattle.walk.specs.Contracts.{Works}
 use Rattle.waiting_nodes.specs.Contracts.{insertEach, PushedNodes}
 use Rattle.waiting_nodes.specs.PushLaws.{insertEach-one}
-use Rattle.best_first_walk.specs.Walks.{foundAt, foundPart, Finds, Represents, Begins}
+use Rattle.best_first_walk.specs.Walks.{foundAt, foundPart, FindsVectors, Represents, BeginsWalk}
 use Rattle.walk.specs.LentLaws.{works-trans, works-sets, works-front}
 
 -- ---- a node is marked, and nodes are pushed
@@ -45,8 +45,8 @@ mark-one : (i c : ℕ) (l : List ℕ) → i ≡ c → _≡_ {A = ℕ} (cond (isI
 mark-one i c l e = ap {B = ℕ} (λ (b : Bool). cond b 1 0) (ap (λ (j : ℕ). isIn j (c ∷ l)) e ∙ isIn-here c l)
 
 -- the vectors found stand where they stood
-finds-same : (s : Shape) (c : Counts) (hit : ℕ → ℕ) (new work work′ : List ℕ) (found : ℕ) → foundPart s work′ ≡ foundPart s work → Finds s c hit new work found
-    → Finds s c hit new work′ found
+finds-same : (s : Shape) (c : Counts) (hit : ℕ → ℕ) (new work work′ : List ℕ) (found : ℕ) → foundPart s work′ ≡ foundPart s work → FindsVectors s c hit new work found
+    → FindsVectors s c hit new work′ found
 finds-same s c hit new work work′ found e f = record {
   count = f .count;
   held = ap (λ (l : List ℕ). allPass (λ x. ltb x (c .vectors)) (take found l)) e ∙ f .held;
@@ -100,8 +100,8 @@ module _ (s : Shape) (c : Counts) (hit : ℕ → ℕ) (nodes : c .nodes ≤ s .n
 -- as many wait as there are nodes at most, and one fewer where another can be pushed
 pub waiting-length : (p : Progress) (n : ℕ) → Once n p → length (p .waiting) + length (p .opened) ≡ length (p .pushed)
 waiting-length p n o =
-    let all = perm-length (count-perm (p .opened ++ numbersOf (p .waiting)) (p .pushed) (λ x. count-append x (p .opened) (numbersOf (p .waiting)) ∙ o .counted x)) in
-    omega (arith, all, length-append (p .opened) (numbersOf (p .waiting)), length-map (p .waiting) nodeNumber)
+    let all = perm-length (count-perm (p .opened ++ nodeNumbers (p .waiting)) (p .pushed) (λ x. count-append x (p .opened) (nodeNumbers (p .waiting)) ∙ o .counted x)) in
+    omega (arith, all, length-append (p .opened) (nodeNumbers (p .waiting)), length-map (p .waiting) nodeNumber)
 
 module _ (s : Shape) (c : Counts) (hit : ℕ → ℕ) (p : Progress) (work : List ℕ) (waiting found : ℕ) (r : Represents s c hit p work waiting found) where
   pub represents-length : length (p .waiting) ≡ waiting
@@ -132,7 +132,7 @@ popped-number least h = ap nodeNumber (value-is least) ∙ (let t : (least .key 
 pub least-below : (p : Progress) (n least : ℕ) (rest : List ℕ) → Once n p → p .waiting ≡ least ∷ rest → nodeNumber least < n
 least-below p n least rest o e =
     let i = nodeNumber least in
-    let waits : count i (numbersOf (p .waiting)) ≡ hit i i + count i (numbersOf rest) = ap (λ (l : List ℕ). count i (numbersOf l)) e ∙ count-cons i i (numbersOf rest) in
+    let waits : count i (nodeNumbers (p .waiting)) ≡ hit i i + count i (nodeNumbers rest) = ap (λ (l : List ℕ). count i (nodeNumbers l)) e ∙ count-cons i i (nodeNumbers rest) in
     o .below i (count-Memᴰ i (p .pushed) (omega (arith, o .counted i, waits, hit-same i i refl)))
 
 -- ---- vectors are found
@@ -148,7 +148,7 @@ module _ (s : Shape) (c : Counts) (hit : ℕ → ℕ) (p : Progress) (work ys : 
 
   pub represents-hits : (new : List ℕ) (total : ℕ) → c .nodes ≤ s .nodes → waiting ≤ s .nodes → allPass (λ x. ltb x (c .vectors)) new ≡ true
       → total ≡ length new + found → take total ys ≡ take found (foundPart s work) ++ new
-      → Represents s c hit (withHits (map hit new) p) (sets work (foundAt s) ys) waiting total
+      → Represents s c hit (addedHits (map hit new) p) (sets work (foundAt s) ys) waiting total
   represents-hits new total nodes few held count is =
       let front : records 2 waiting (sets work (foundAt s) ys) ≡ records 2 waiting work =
       records-same 2 waiting (sets work (foundAt s) ys) work (le-refl 2) (take-sets (waiting * 2) work (foundAt s) ys (let t : waiting * 2 ≤ foundAt s = omega arith in t)) in
@@ -197,7 +197,7 @@ cleared s c hit work nodes size =
     }
 
 pub begins : (s : Shape) (c : Counts) (hit : ℕ → ℕ) (view : View) (work work′ : List ℕ) → c .nodes ≤ s .nodes → 1 ≤ c .nodes → workSize s ≤ length work
-    → PushedNodes s (set (sets work (marksAt s) (replicate (c .nodes) 0)) (marksAt s) 1) 0 (waitingNode view 0 ∷ []) work′ → Begins s c hit view work work′
+    → PushedNodes s (set (sets work (marksAt s) (replicate (c .nodes) 0)) (marksAt s) 1) 0 (waitingNode view 0 ∷ []) work′ → BeginsWalk s c hit view work work′
 begins s c hit view work work′ nodes some size q =
     let w : List ℕ = sets work (marksAt s) (replicate (c .nodes) 0) in
     let n : length {A = ℕ} (replicate (c .nodes) 0) ≡ c .nodes = length-replicate (c .nodes) 0 in

@@ -19,12 +19,12 @@ use Rattle.store.specs.declared.Shape.{Shape}
 use Rattle.store.specs.Store.{Limits}
 use Rattle.store.specs.declared.Counts.{Counts}
 use Rattle.walk.specs.Walk.{View, Progress, State, damaged, going, walk, walkFrom, Shown, shown, give, hits, damage, none, whole}
-use Rattle.walk.specs.WalkLaws.{openedOne, withHits, startProgress, walk-is, walk-suc, walk-zero, step-open, some-waiting, nil-waiting, give-damage, give-hits, give-over}
+use Rattle.walk.specs.WalkLaws.{openedOne, addedHits, startProgress, walk-is, walk-suc, walk-zero, step-open, some-waiting, nil-waiting, give-damage, give-hits, give-over}
 use Rattle.walk.specs.BudgetLaws.{none-stays, damaged-stays}
 use Rattle.walk.specs.DifferentLaws.{Once, ChildrenBelow, once-kept, once-start, different-below}
 use Rattle.walk.specs.Contracts.{Works}
 use Rattle.leaf_hits.specs.Contracts.{Gathered, GatherDamage}
-use Rattle.best_first_walk.specs.Walks.{foundAt, foundPart, Represents, Begins, WalkEnds}
+use Rattle.best_first_walk.specs.Walks.{foundAt, foundPart, Represents, BeginsWalk, WalkEnds}
 use Rattle.best_first_walk.proofs.Steps.{waiting-length, represents-length, popped-waits, represents-opened, represents-hits, popped-number, least-below, works-popped}
 use Rattle.walk.specs.LentLaws.{works-refl, works-trans, works-sets}
 use Rattle.best_first_walk.specs.declared.Walked.the-variants as walked
@@ -69,7 +69,7 @@ module _ (s : Shape) (c : Counts) (hit : ℕ → ℕ) (view : View) (ef : ℕ) (
   fits : c .nodes ≤ 2 ^ 64
   fits = nodes-fit s c limits within
 
-  pub waits-start : (entry : List ℕ) → Begins s c hit view entry work₀ → Waits s c hit view ef work₀ work₀ 1 0 0
+  pub waits-start : (entry : List ℕ) → BeginsWalk s c hit view entry work₀ → Waits s c hit view ef work₀ work₀ 1 0 0
   waits-start entry b = (
     startProgress view,
     record { holds = b .start; once = once-start view (c .nodes) fits below some; few = omega arith; nodes = refl; budget = omega arith; works = works-refl s work₀ },
@@ -147,7 +147,7 @@ module _ (s : Shape) (c : Counts) (hit : ℕ → ℕ) (view : View) (ef : ℕ) (
   leaf-hits node work ys waiting found opened total sound vectors few held (p, w, e) sh long g =
       let new : List ℕ = map hit vectors in
       let room : length new + length (p .found) ≤ view .most = omega (arith, w .holds .finds .count, g .count, g .few, length-map vectors hit) in (
-        withHits new p,
+        addedHits new p,
         record {
           holds = represents-hits s c hit p work ys waiting found (w .holds) limits long vectors total within few (held (g .pass)) (g .count) (g .vectors);
           once = once-kept view (c .nodes) fits below .adds p new room (w .once);

@@ -37,7 +37,7 @@ abbrev pub foundPart : Shape → List ℕ → List ℕ
 foundPart s work = part (foundAt s) (max (s .vectors) (s .entries) + 1) work
 
 -- the numbers of the vectors found so far are below n, and the hits are theirs
-pub record Finds (s : Shape) (c : Counts) (hit : ℕ → ℕ) (hits work : List ℕ) (found : ℕ) : Type 0 where
+pub record FindsVectors (s : Shape) (c : Counts) (hit : ℕ → ℕ) (hits work : List ℕ) (found : ℕ) : Type 0 where
   pub count : found ≡ length hits
   pub held : allPass (λ x. ltb x (c .vectors)) (take found (foundPart s work)) ≡ true
   pub are : sort (map hit (take found (foundPart s work))) ≡ sort hits
@@ -48,7 +48,7 @@ pub record Represents (s : Shape) (c : Counts) (hit : ℕ → ℕ) (p : Progress
   pub queue : Heap (records 2 waiting work)
   pub waits : sort (records 2 waiting work) ≡ p .waiting
   pub marks : (i : ℕ) → i < c .nodes → getD work (marksAt s + i) 0 ≡ cond (isIn i (p .pushed)) 1 0
-  pub finds : Finds s c hit (p .found) work found
+  pub finds : FindsVectors s c hit (p .found) work found
 
 -- to begin a walk: a store with a node, its floats, and the work list
 pub record BeginLent (s : Shape) (c : Counts) (floats : List Float) (work : List ℕ) : Type 0 where
@@ -58,13 +58,13 @@ pub record BeginLent (s : Shape) (c : Counts) (floats : List Float) (work : List
   pub work-size : workSize s ≤ length work
 
 -- a walk has begun
-pub record Begins (s : Shape) (c : Counts) (hit : ℕ → ℕ) (view : View) (work work′ : List ℕ) : Type 0 where
+pub record BeginsWalk (s : Shape) (c : Counts) (hit : ℕ → ℕ) (view : View) (work work′ : List ℕ) : Type 0 where
   pub start : Represents s c hit (startProgress view) work′ 1 0
   pub works : Works s work work′
 
 -- how a walk ended
 pub record EndsAs (s : Shape) (c : Counts) (hit : ℕ → ℕ) (p : Progress) (found opened : ℕ) (complete : Bool) (work : List ℕ) : Type 0 where
-  pub finds : Finds s c hit (p .found) work found
+  pub finds : FindsVectors s c hit (p .found) work found
   pub nodes : opened ≡ length (p .opened)
   pub all : complete ≡ whole p
 
@@ -83,4 +83,4 @@ pub record Walks (s : Shape) (c : Counts) (ef : ℕ) (store : Store) (query : Li
 -- a walk from a query has begun, whatever numbers and hashes the store has
 abbrev pub BeginsAny : Shape → Counts → List Float → List Float → List ℕ → List ℕ → Type 0
 BeginsAny s c floats query work work′ =
-    (hit : ℕ → ℕ) (numbers hashes : List ℕ) (wanted : Wanted) → Begins s c hit (storeView s c (storeOf floats numbers hashes) query wanted) work work′
+    (hit : ℕ → ℕ) (numbers hashes : List ℕ) (wanted : Wanted) → BeginsWalk s c hit (storeView s c (storeOf floats numbers hashes) query wanted) work work′

@@ -32,7 +32,7 @@ buildChecked index lent work numbers =
     firstOf (stateRow (stateSound index) ∷ buildRows (factsOf index) lent work (ownersBad index numbers) false)
 
 -- What the making of the tree relies on, as plain facts: the index is not built, and no row's case but perhaps row 13's holds.
-pub record Ready (index : CuratorIndex) (store : Store) (work : List ℕ) : Type 0 where
+pub record BuildReady (index : CuratorIndex) (store : Store) (work : List ℕ) : Type 0 where
   pub passed : buildChecked index (lengthsOf store) (length work) (store .numbers) ≡ Fine
   pub unbuilt : index .built ≡ false
   pub sound : Sound index

@@ -30,7 +30,7 @@ use Rattle.curator.specs.RowLaws.{FirstAt, refusalAt, refused-first, fine-none,
 use Rattle.curator.specs.StateLaws.{sound-facts}
 use Rattle.curator.specs.Calls.{heldEntries}
 use Rattle.curator.specs.Changes.{freeOf, Left, ownersDamaged, tooManyNodes, buildCheck}
-use Rattle.build.specs.Asked.{ownersBad, buildChecked, Ready}
+use Rattle.build.specs.Asked.{ownersBad, buildChecked, BuildReady}
 use Rattle.store.specs.LentLaws.{lists-long}
 
 -- ---- rows with another last one
@@ -61,8 +61,8 @@ last-decides rows last other f = by (firstOf rows) refl
 -- ---- the rows of a build
 
 -- those before row 13
-abbrev pub earlyRows : CuratorIndex → Lengths → ℕ → List ℕ → List Row
-earlyRows index lent work numbers =
+abbrev pub earlyBuildRows : CuratorIndex → Lengths → ℕ → List ℕ → List Row
+earlyBuildRows index lent work numbers =
     stateRow (stateSound index) ∷ row (listsShort (indexShape index) lent work) (Refusal′.Store ListTooShort)
     ∷ row (not (index .built) && eqb (index .counts .vectors) 0) (Refusal′.State EmptyIndex)
     ∷ row (not (index .built) && ownersBad index numbers) (Refusal′.Store Damaged)
@@ -72,13 +72,13 @@ abbrev pub fullRow : CuratorIndex → Bool → Row
 fullRow index tooMany = row (not (index .built) && tooMany) (Refusal′.Store NodesFull)
 
 pub checked-rows : (index : CuratorIndex) (lent : Lengths) (work : ℕ) (numbers : List ℕ)
-    → buildChecked index lent work numbers ≡ firstOf (earlyRows index lent work numbers ++ (fullRow index false ∷ []))
+    → buildChecked index lent work numbers ≡ firstOf (earlyBuildRows index lent work numbers ++ (fullRow index false ∷ []))
 unfolding buildChecked buildRows
 checked-rows index lent work numbers = refl
 
 pub check-rows : (index : CuratorIndex) (store : Store) (work : List ℕ)
     → buildCheck index store work
-    ≡ firstOf (earlyRows index (lengthsOf store) (length work) (store .numbers) ++ (fullRow index (tooManyNodes index store) ∷ []))
+    ≡ firstOf (earlyBuildRows index (lengthsOf store) (length work) (store .numbers) ++ (fullRow index (tooManyNodes index store) ∷ []))
 unfolding buildCheck buildRows ownersDamaged ownersBad heldEntries
 check-rows index store work = refl
 
@@ -87,7 +87,7 @@ pub check-refused : (index : CuratorIndex) (store : Store) (work : List ℕ) (r 
     → buildChecked index (lengthsOf store) (length work) (store .numbers) ≡ Refused r → buildCheck index store work ≡ Refused r
 check-refused index store work r f =
     check-rows index store work
-    ∙ earlier-refused (earlyRows index (lengthsOf store) (length work) (store .numbers)) (fullRow index false) (fullRow index (tooManyNodes index store)) r
+    ∙ earlier-refused (earlyBuildRows index (lengthsOf store) (length work) (store .numbers)) (fullRow index false) (fullRow index (tooManyNodes index store)) r
     (and-false (not (index .built)))
     (sym (checked-rows index (lengthsOf store) (length work) (store .numbers)) ∙ f)
 
@@ -96,7 +96,7 @@ decided : (index : CuratorIndex) (store : Store) (work : List ℕ) → buildChec
     → buildCheck index store work ≡ firstOf (fullRow index (tooManyNodes index store) ∷ [])
 decided index store work f =
     check-rows index store work
-    ∙ last-decides (earlyRows index (lengthsOf store) (length work) (store .numbers)) (fullRow index false) (fullRow index (tooManyNodes index store))
+    ∙ last-decides (earlyBuildRows index (lengthsOf store) (length work) (store .numbers)) (fullRow index false) (fullRow index (tooManyNodes index store))
     (sym (checked-rows index (lengthsOf store) (length work) (store .numbers)) ∙ f)
 
 pub check-built : (index : CuratorIndex) (store : Store) (work : List ℕ) → buildChecked index (lengthsOf store) (length work) (store .numbers) ≡ Fine
@@ -171,11 +171,11 @@ owners-below index numbers h room k b =
 
 -- the check passes and the index is not built
 pub ready : (index : CuratorIndex) (store : Store) (work : List ℕ) → buildChecked index (lengthsOf store) (length work) (store .numbers) ≡ Fine
-    → index .built ≡ false → Ready index store work
+    → index .built ≡ false → BuildReady index store work
 ready index store work f b =
     let lent = lengthsOf store in
     let (sound, (short, (empty, (damaged, _)))) =
-    fine-none (earlyRows index lent (length work) (store .numbers) ++ (fullRow index false ∷ [])) (sym (checked-rows index lent (length work) (store .numbers)) ∙ f) in
+    fine-none (earlyBuildRows index lent (length work) (store .numbers) ++ (fullRow index false ∷ [])) (sym (checked-rows index lent (length work) (store .numbers)) ∙ f) in
     let s = sound-facts index (not-false _ sound) in
     let long = lists-long (indexShape index) lent (length work) short in
     let unempty = eqb-false (index .counts .vectors) 0 (ap (λ (t : Bool). not t && eqb (index .counts .vectors) 0) (sym b) ∙ empty) in
@@ -211,10 +211,10 @@ same-refusal e = cc
 pub left-alone : (index : CuratorIndex) (store : Store) (work : List ℕ) (r : Refusal)
     → buildChecked index (lengthsOf store) (length work) (store .numbers) ≡ Refused r → Left (indexShape index) r store work store work
 left-alone index store work r f =
-    by (refused-first (earlyRows index (lengthsOf store) (length work) (store .numbers) ++ (fullRow index false ∷ [])) r (sym (checked-rows index (lengthsOf store) (length work) (store .numbers)) ∙ f))
+    by (refused-first (earlyBuildRows index (lengthsOf store) (length work) (store .numbers) ++ (fullRow index false ∷ [])) r (sym (checked-rows index (lengthsOf store) (length work) (store .numbers)) ∙ f))
   where
-    by : (i : ℕ) × FirstAt (earlyRows index (lengthsOf store) (length work) (store .numbers) ++ (fullRow index false ∷ [])) i
-        × (refusalAt (earlyRows index (lengthsOf store) (length work) (store .numbers) ++ (fullRow index false ∷ [])) i ≡ Refused r)
+    by : (i : ℕ) × FirstAt (earlyBuildRows index (lengthsOf store) (length work) (store .numbers) ++ (fullRow index false ∷ [])) i
+        × (refusalAt (earlyBuildRows index (lengthsOf store) (length work) (store .numbers) ++ (fullRow index false ∷ [])) i ≡ Refused r)
         → Left (indexShape index) r store work store work
     by (zero, h, e) = subst (λ (q : Refusal). Left (indexShape index) q store work store work) (same-refusal e) (left-state (indexShape index) InvalidState store work)
     by (suc zero, h, e) = subst (λ (q : Refusal). Left (indexShape index) q store work store work) (same-refusal e) (left-short (indexShape index) store work)

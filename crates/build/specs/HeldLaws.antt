@@ -37,21 +37,21 @@ use Rattle.curator.specs.Changes.{ownersDamaged, tooManyNodes, buildCheck, held
 use Rattle.curator.specs.Limits.{stateSound, indexShape}
 use Rattle.curator.specs.RowLaws.{none-fine, fine-none}
 use Rattle.curator.specs.Rows.{row, firstOf, stateRow, buildRows}
-use Rattle.build.specs.Asked.{Ready}
-use Rattle.build.specs.CheckLaws.{earlyRows, fullRow, check-rows, checked-rows, ready}
+use Rattle.build.specs.Asked.{BuildReady}
+use Rattle.build.specs.CheckLaws.{earlyBuildRows, fullRow, check-rows, checked-rows, ready}
 use Rattle.build.specs.BuildLaws.{builds-accepted}
 use Rattle.build.specs.WrittenLaws.{held-vectors}
 use Rattle.curator.specs.OutcomeLaws.{carried-is, refused-is}
 
 -- What a build reads is the same: whether a list is too short, the vectors held, and the owners and hashes of the entries held. Document ids are not
 -- read.
-pub record SameRead (index : CuratorIndex) (s : Store) (work : List ℕ) (t : Store) (other : List ℕ) : Type 0 where
+pub record SameBuilt (index : CuratorIndex) (s : Store) (work : List ℕ) (t : Store) (other : List ℕ) : Type 0 where
   pub short : listsShort (indexShape index) (lengthsOf s) (length work) ≡ listsShort (indexShape index) (lengthsOf t) (length other)
   pub vectors : heldVectors index s ≡ heldVectors index t
   pub entries : heldEntries index s ≡ heldEntries index t
 
 -- a store with nodes laid out, and else as it was; the cluster centres are free
-pub record Laid (s : Shape) (nodes : List Node) (before after : Store) : Type 0 where
+pub record LaidBy (s : Shape) (nodes : List Node) (before after : Store) : Type 0 where
   pub centres : List Float
   pub centres-length : length centres ≡ s .dimension * s .branching
   pub floats : after .floats ≡ floatsOf s nodes centres (before .floats)
@@ -61,8 +61,8 @@ pub record Laid (s : Shape) (nodes : List Node) (before after : Store) : Type 0 
 -- What is written is the same: one list of nodes is laid out in both stores.
 pub record SameWritten (s : Shape) (a b a′ b′ : Store) : Type 0 where
   pub nodes : List Node
-  pub first : Laid s nodes a a′
-  pub second : Laid s nodes b b′
+  pub first : LaidBy s nodes a a′
+  pub second : LaidBy s nodes b b′
 
 -- Two stores agree on their nodes: centroids; leaf order of vectors, the six of each node, child links, leaf order of entries; filters.
 pub record SameNodes (s : Shape) (c : Counts) (a b : Store) : Type 0 where
@@ -91,7 +91,7 @@ check-by : (index : CuratorIndex) (store : Store) (work : List ℕ)
 unfolding buildCheck buildRows rowsBy
 check-by index store work = refl
 
-module _ (index : CuratorIndex) (s : Store) (work : List ℕ) (t : Store) (other : List ℕ) (same : SameRead index s work t other) where
+module _ (index : CuratorIndex) (s : Store) (work : List ℕ) (t : Store) (other : List ℕ) (same : SameBuilt index s work t other) where
   owners-same : ownersDamaged index s ≡ ownersDamaged index t
   unfolding ownersDamaged
   owners-same = ap (λ (e : Entries). not (allPass (λ owner. ltb owner (index .counts .vectors)) (e .owners))) (same .entries)
@@ -138,7 +138,7 @@ answer-is index store work a store′ work′ h = by (buildCheck index store wor
 -- ---- what is written
 
 laid-of : (index : CuratorIndex) (store : Store) (work : List ℕ) (store′ : Store) (work′ : List ℕ) (nodes : List Node)
-    → heldNodes index store ≡ nodes → LaidOut index store work store′ work′ → Laid (indexShape index) nodes store store′
+    → heldNodes index store ≡ nodes → LaidOut index store work store′ work′ → LaidBy (indexShape index) nodes store store′
 laid-of index store work store′ work′ nodes e l =
     let s = indexShape index in
     record {
@@ -150,9 +150,9 @@ laid-of index store work store′ work′ nodes e l =
     }
 
 -- an accepted build of an unbuilt index was ready
-fine-ready : (index : CuratorIndex) (store : Store) (work : List ℕ) → buildCheck index store work ≡ Fine → index .built ≡ false → Ready index store work
+fine-ready : (index : CuratorIndex) (store : Store) (work : List ℕ) → buildCheck index store work ≡ Fine → index .built ≡ false → BuildReady index store work
 fine-ready index store work f u =
-    let early = earlyRows index (lengthsOf store) (length work) (store .numbers) in
+    let early = earlyBuildRows index (lengthsOf store) (length work) (store .numbers) in
     let (a, (b, (c, (d, _)))) = fine-none (early ++ (fullRow index (tooManyNodes index store) ∷ [])) (sym (check-rows index store work) ∙ f) in
     ready index store work
     (checked-rows index (lengthsOf store) (length work) (store .numbers)
@@ -172,8 +172,8 @@ record Standing (s : Shape) (c : Counts) (nodes : List Node) (store : Store) : T
 part-of : {A : Type 0} (at n : ℕ) (xs list list′ : List A) → length xs ≡ n → list′ ≡ list → part at (length xs) list ≡ xs → part at n list′ ≡ xs
 part-of at n xs list list′ e f h = ap₂ (λ (k : ℕ) (l : List _). part at k l) (sym e) f ∙ h
 
-module _ (index : CuratorIndex) (store : Store) (work : List ℕ) (r : Ready index store work) (full : tooManyNodes index store ≡ false)
-    (store′ : Store) (laid : Laid (indexShape index) (heldNodes index store) store store′) where
+module _ (index : CuratorIndex) (store : Store) (work : List ℕ) (r : BuildReady index store work) (full : tooManyNodes index store ≡ false)
+    (store′ : Store) (laid : LaidBy (indexShape index) (heldNodes index store) store store′) where
   splitting : Splitting
   splitting = splittingOf (index .dimension) (index .params)
 
@@ -259,14 +259,14 @@ same-standing s c nodes a b x y =
 fine-few : (index : CuratorIndex) (store : Store) (work : List ℕ) → buildCheck index store work ≡ Fine → index .built ≡ false
     → tooManyNodes index store ≡ false
 fine-few index store work f u =
-    let early = earlyRows index (lengthsOf store) (length work) (store .numbers) in
+    let early = earlyBuildRows index (lengthsOf store) (length work) (store .numbers) in
     let (_, (_, (_, (_, (full, _))))) = fine-none (early ++ (fullRow index (tooManyNodes index store) ∷ [])) (sym (check-rows index store work) ∙ f) in
     ap (λ (t : Bool). not t && tooManyNodes index store) (sym u) ∙ full
 
 -- Stores that agree on what a build reads give the same answer; where it makes an unbuilt index built, the same nodes are laid out in both, and they
 -- agree on these nodes afterwards.
 pub builds-same : (index : CuratorIndex) (s t : Store) (work other : List ℕ) (a b : Changed) (s′ t′ : Store) (work′ other′ : List ℕ)
-    → SameRead index s work t other → Builds index s work a s′ work′ → Builds index t other b t′ other′
+    → SameBuilt index s work t other → Builds index s work a s′ work′ → Builds index t other b t′ other′
     → (a ≡ b)
     × ((index′ : CuratorIndex) → a ≡ Changed′.Index index′ → index .built ≡ false
     → SameWritten (indexShape index) s t s′ t′ × SameNodes (indexShape index) (index′ .counts) s′ t′)

@@ -12,7 +12,7 @@ use Rattle.store.specs.declared.Shape.{Shape}
 use Rattle.store.specs.Store.{Store}
 use Rattle.build_tree.specs.declared.Made.{Made}
 use Rattle.build_tree.specs.declared.Made.the-variants as Made′
-use Rattle.build_tree.specs.Contracts.{Lent, Whole, Built}
+use Rattle.build_tree.specs.Contracts.{TreeLent, Whole, Built}
 use Rattle.label_entries.specs.Contracts as finish
 use Rattle.label_entries.specs.Contracts.{held, AllMade, Finished}
 use Rattle.settings.specs.declared.Check.{Check}
@@ -27,7 +27,7 @@ use Rattle.curator.specs.Limits.{indexShape}
 use Rattle.curator.specs.Calls.{builtWith}
 use Rattle.store.specs.Lent.{lengthsOf}
 use Rattle.curator.specs.Changes.{buildCheck, heldNodes, LaidOut, BuildsFine, BuildsBy, Builds}
-use Rattle.build.specs.Asked.{buildChecked, Ready}
+use Rattle.build.specs.Asked.{buildChecked, BuildReady}
 use Rattle.build.specs.CheckLaws.{left-alone, check-refused, check-full, check-fine}
 use Rattle.curator.specs.Outcome.{Carried}
 use Rattle.curator.specs.OutcomeLaws.{is-carried, is-refused}
@@ -82,7 +82,7 @@ made-all index store work floats′ numbers′ work′ made nodes b e = by (ltb 
         record { whole = w; count = cc; fits = ltb-false _ _ h }
 
 pub builds-whole : (index : CuratorIndex) (store : Store) (work : List ℕ) (floats′ : List Float) (numbers′ work′ : List ℕ) (made : Made) (nodes : ℕ)
-    → Ready index store work → AllOf index store work floats′ numbers′ work′ made nodes → (numbers″ hashes″ work″ : List ℕ)
+    → BuildReady index store work → AllOf index store work floats′ numbers′ work′ made nodes → (numbers″ hashes″ work″ : List ℕ)
     → Finished (indexShape index) (index .counts .vectors) (index .counts .entries) nodes numbers′ (store .hashes) work′ numbers″ hashes″ work″
     → Builds index store work (Changed′.Index (builtWith index nodes)) (record { floats = floats′; numbers = numbers″; hashes = hashes″ }) work″
 unfolding BuildsBy
@@ -97,7 +97,7 @@ builds-whole index store work floats′ numbers′ work′ made nodes r a number
     builds-by index store work _ _ _ Fine check (unbuilt-fine index store work _ _ _ (r .unbuilt) laid)
 
 pub builds-full : (index : CuratorIndex) (store : Store) (work : List ℕ) (floats′ : List Float) (numbers′ work′ : List ℕ) (made : Made)
-    → Ready index store work → TreeMade index store work floats′ numbers′ work′ made → made ≡ Made′.TooMany
+    → BuildReady index store work → TreeMade index store work floats′ numbers′ work′ made → made ≡ Made′.TooMany
     → Builds index store work (Changed′.Refused (Refusal′.Store NodesFull)) (record { floats = floats′; numbers = numbers′; hashes = store .hashes }) work′
 unfolding BuildsBy
 builds-full index store work floats′ numbers′ work′ made r b e = by (ltb (index .capacities .nodes) (treeSize index (store .floats))) refl
@@ -129,10 +129,10 @@ builds-refused index store work q f =
 
 -- ---- the same for a shape that is the index's
 
-pub tree-asked : (index : CuratorIndex) (store : Store) (work : List ℕ) {s : Shape} → s ≡ indexShape index → Ready index store work
-    → Lent s (index .counts .vectors) (store .floats) (store .numbers) work
+pub tree-asked : (index : CuratorIndex) (store : Store) (work : List ℕ) {s : Shape} → s ≡ indexShape index → BuildReady index store work
+    → TreeLent s (index .counts .vectors) (store .floats) (store .numbers) work
 tree-asked index store work e r =
-    subst (λ (s : Shape). Lent s (index .counts .vectors) (store .floats) (store .numbers) work) (sym e)
+    subst (λ (s : Shape). TreeLent s (index .counts .vectors) (store .floats) (store .numbers) work) (sym e)
     (record {
       limits = r .sound .limits;
       some = r .some;
@@ -159,21 +159,21 @@ pub tree-whole : (index : CuratorIndex) (store : Store) (work : List ℕ) {s : S
 tree-whole index store work e b told = made-all index store work _ _ _ _ _ (tree-by index store work e b) told
 
 pub tree-full : (index : CuratorIndex) (store : Store) (work : List ℕ) {s : Shape} {floats′ : List Float} {numbers′ work′ : List ℕ} {made : Made}
-    → s ≡ indexShape index → Ready index store work
+    → s ≡ indexShape index → BuildReady index store work
     → Built s (index .params .«max_leaf_size») (index .counts .vectors) (store .floats) floats′ (store .numbers) numbers′ work work′ made
     → made ≡ Made′.TooMany
     → Builds index store work (Changed′.Refused (Refusal′.Store NodesFull)) (record { floats = floats′; numbers = numbers′; hashes = store .hashes }) work′
 tree-full index store work e r b told = builds-full index store work _ _ _ _ r (tree-by index store work e b) told
 
 pub finish-room : (index : CuratorIndex) (store : Store) (work : List ℕ) {s : Shape} {floats′ : List Float} {numbers′ work′ : List ℕ} {made : Made} {nodes : ℕ}
-    → s ≡ indexShape index → Ready index store work → AllOf index store work floats′ numbers′ work′ made nodes
+    → s ≡ indexShape index → BuildReady index store work → AllOf index store work floats′ numbers′ work′ made nodes
     → finish.Room s (index .counts .vectors) (index .counts .entries) nodes numbers′ (store .hashes) work′
 finish-room index store work {floats′ = floats′} {numbers′ = numbers′} {work′ = work′} {made = made} {nodes = nodes} e r a =
     subst (λ (s : Shape). finish.Room s (index .counts .vectors) (index .counts .entries) nodes numbers′ (store .hashes) work′) (sym e)
     (room index store work floats′ numbers′ work′ made r (a .whole) nodes (a .count) (a .fits))
 
 pub finish-made : (index : CuratorIndex) (store : Store) (work : List ℕ) {s : Shape} {floats′ : List Float} {numbers′ work′ : List ℕ} {made : Made} {nodes : ℕ}
-    → s ≡ indexShape index → Ready index store work → AllOf index store work floats′ numbers′ work′ made nodes
+    → s ≡ indexShape index → BuildReady index store work → AllOf index store work floats′ numbers′ work′ made nodes
     → AllMade s (index .counts .vectors) (index .counts .entries) nodes numbers′ (store .hashes)
 finish-made index store work {floats′ = floats′} {numbers′ = numbers′} {work′ = work′} {made = made} {nodes = nodes} e r a =
     subst (λ (s : Shape). AllMade s (index .counts .vectors) (index .counts .entries) nodes numbers′ (store .hashes)) (sym e)
@@ -181,7 +181,7 @@ finish-made index store work {floats′ = floats′} {numbers′ = numbers′} {
 
 pub finish-builds : (index : CuratorIndex) (store : Store) (work : List ℕ) {s : Shape} {floats′ : List Float} {numbers′ work′ : List ℕ} {made : Made} {nodes : ℕ}
     {numbers″ hashes″ work″ : List ℕ} {answer : CuratorIndex}
-    → s ≡ indexShape index → Ready index store work → AllOf index store work floats′ numbers′ work′ made nodes
+    → s ≡ indexShape index → BuildReady index store work → AllOf index store work floats′ numbers′ work′ made nodes
     → Finished s (index .counts .vectors) (index .counts .entries) nodes numbers′ (store .hashes) work′ numbers″ hashes″ work″
     → answer ≡ builtWith index nodes
     → Builds index store work (Changed′.Index answer) (record { floats = floats′; numbers = numbers″; hashes = hashes″ }) work″

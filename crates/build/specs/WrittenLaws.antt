@@ -31,7 +31,7 @@ use Rattle.settings.specs.declared.refusal.StoreRefusal.the-variants.{NodesFull
 use Rattle.curator.specs.Limits.{indexShape}
 use Rattle.curator.specs.Calls.{heldVectors, heldEntries, splittingOf}
 use Rattle.curator.specs.Changes.{freeOf, Left, tooManyNodes, heldNodes, LaidOut}
-use Rattle.build.specs.Asked.{Ready}
+use Rattle.build.specs.Asked.{BuildReady}
 
 -- ---- what is held, in the words of the crates below
 
@@ -71,7 +71,7 @@ length-held index store = ap length (held-nodes index store) ∙ length-nodesOf 
 
 -- the parts that no tree was written to are as they were
 pub left-full : (index : CuratorIndex) (store : Store) (work numbers′ : List ℕ) (floats′ : List Float) (work′ : List ℕ) (made : Made)
-    → Ready index store work → Overfull (indexShape index) (store .floats) floats′ (store .numbers) numbers′ work work′ made
+    → BuildReady index store work → Overfull (indexShape index) (store .floats) floats′ (store .numbers) numbers′ work work′ made
     → Left (indexShape index) (Refusal′.Store NodesFull) store work (record { floats = floats′; numbers = numbers′; hashes = store .hashes }) work′
 unfolding freeOf
 left-full index store work numbers′ floats′ work′ made r o =
@@ -117,7 +117,7 @@ laid-over s nodes numbers made h e =
     ∙ sets-sets-same ordered (nodesAt s) before six (length-madeFrom 0 nodes ∙ sym (length-sixFrom 0 0 0 nodes)))
 
 module _
-    (index : CuratorIndex) (store : Store) (work : List ℕ) (floats′ : List Float) (numbers′ work′ : List ℕ) (made : Made) (r : Ready index store work)
+    (index : CuratorIndex) (store : Store) (work : List ℕ) (floats′ : List Float) (numbers′ work′ : List ℕ) (made : Made) (r : BuildReady index store work)
     (w : Whole (indexShape index) (index .params .«max_leaf_size») (index .counts .vectors) (store .floats) floats′ (store .numbers) numbers′ work work′ made)
   where
     numbers-length : length numbers′ ≡ length (store .numbers)

@@ -4,7 +4,7 @@ ghost use mathlib.Core.Path.{_≡_};
 ghost use Rattle.curator.specs.Calls.{builtWith};
 ghost use Rattle.curator.specs.Changes.{Builds};
 ghost use Rattle.store.specs.Lent.{lent};
-ghost use Rattle.build.specs.Asked.{Ready};
+ghost use Rattle.build.specs.Asked.{BuildReady};
 use build_tree::Made;
 use curator::Changed;
 use curator::CuratorIndex;
@@ -41,7 +41,7 @@ pub fn make_index(
     hashes: &mut [u64],
     work: &mut [u32],
 ) -> Changed
-    requires { ⌜ Ready index (lent floats numbers hashes) (now work) ⌝ }
+    requires { ⌜ BuildReady index (lent floats numbers hashes) (now work) ⌝ }
     ensures { λ r. ⌜ Builds index (lent (floats .entry) (numbers .entry) (hashes .entry)) (now (work .entry))
         r
         (lent (floats .exit) (numbers .exit) (hashes .exit)) (now (work .exit)) ⌝ }

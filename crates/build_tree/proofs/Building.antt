@@ -15,13 +15,13 @@ use Rattle.store.specs.Store.{orderAt, nodesAt}
 use Rattle.cluster.specs.Vectors.{vectorsIn}
 use Rattle.waiting_groups.specs.Waiting.{headed, encoded, groupAt, sixes, leaves}
 use Rattle.waiting_groups.specs.WaitingLaws.{length-headed}
-use Rattle.build_tree.specs.Contracts.{splittingOf, Lent, Waits, Stepped, Built}
+use Rattle.build_tree.specs.Contracts.{splittingWith, TreeLent, Waits, MadeNode, Built}
 use Rattle.build_tree.specs.Standing.{Standing, order-length, standing-begin, standing-lent}
 use Rattle.build_tree.specs.StandingStep.{next-waits, standing-step}
 use Rattle.build_tree.specs.StandingEnd.{built-whole, built-overfull}
 use Rattle.build_tree.specs.declared.Made.the-variants as Made′
 
-module _ {s : Shape} {n order : ℕ} {floats₀ : List Float} {numbers₀ numbers₁ work₀ : List ℕ} (lent : Lent s n floats₀ numbers₀ work₀)
+module _ {s : Shape} {n order : ℕ} {floats₀ : List Float} {numbers₀ numbers₁ work₀ : List ℕ} (lent : TreeLent s n floats₀ numbers₀ work₀)
     (order-is : order ≡ orderAt s) (written : numbers₁ ≡ sets numbers₀ order (headed 16 (countFrom 0 n)))
   where
     abbrev first : List ℕ
@@ -33,7 +33,7 @@ module _ {s : Shape} {n order : ℕ} {floats₀ : List Float} {numbers₀ number
     begun-length : length numbers₁ ≡ length numbers₀
     begun-length = ap (λ (l : List ℕ). length l) begun ∙ length-sets numbers₀ (orderAt s) first
 
-    begun-lent : Lent s n floats₀ numbers₁ work₀
+    begun-lent : TreeLent s n floats₀ numbers₁ work₀
     begun-lent =
         let a = begun-length in
         let c = lent .numbers-room in
@@ -55,14 +55,14 @@ module _ {s : Shape} {n order : ℕ} {floats₀ : List Float} {numbers₀ number
 
     module _ {leaf count done : ℕ} {floats : List Float} {numbers work : List ℕ} (st : Standing s leaf n floats₀ numbers₁ work₀ count done floats numbers work)
       where
-        pub loop-lent : Lent s n floats numbers work
+        pub loop-lent : TreeLent s n floats numbers work
         loop-lent = standing-lent s leaf n floats₀ numbers₁ work₀ begun-lent count done floats numbers work st
 
         pub loop-waits : done < n → count < s .nodes → Waits s n count done (groupAt numbers (orderAt s + done))
         loop-waits = next-waits s leaf n floats₀ numbers₁ work₀ begun-lent count done floats numbers work st
 
         pub loop-step : done < n → count < s .nodes → {floats′ : List Float} {numbers′ work′ : List ℕ} {next : ℕ}
-            → Stepped s leaf n count done (groupAt numbers (orderAt s + done)) floats floats′ numbers numbers′ work work′ next → length floats′ ≡ length floats
+            → MadeNode s leaf n count done (groupAt numbers (orderAt s + done)) floats floats′ numbers numbers′ work work′ next → length floats′ ≡ length floats
             → length numbers′ ≡ length numbers → length work′ ≡ length work
             → Standing s leaf n floats₀ numbers₁ work₀ (count + 1) next floats′ numbers′ work′
         loop-step left more {floats′} {numbers′} {work′} {next} =
@@ -70,7 +70,7 @@ module _ {s : Shape} {n order : ℕ} {floats₀ : List Float} {numbers₀ number
 
         over-entry : Standing s leaf n floats₀ numbers₀ work₀ count done floats numbers work
         over-entry =
-            let x : List ℕ = leaves (splittingOf s leaf) (st .past) ++ encoded (st .waiting) in
+            let x : List ℕ = leaves (splittingWith s leaf) (st .past) ++ encoded (st .waiting) in
             let lx = order-length s leaf n floats₀ numbers₁ work₀ begun-lent count done floats numbers work st in
             let lh : length first ≡ n = length-headed 16 (countFrom 0 n) ∙ length-countFrom 0 n in
             let over : sets numbers₁ (orderAt s) x ≡ sets numbers₀ (orderAt s) x =
@@ -85,7 +85,7 @@ module _ {s : Shape} {n order : ℕ} {floats₀ : List Float} {numbers₀ number
               all = st .all;
               sound = st .sound;
               numbers-are =
-                  st .numbers-are ∙ ap (λ (l : List ℕ). sets l (nodesAt s) (sixes (splittingOf s leaf) (vectorsIn (s .dimension) n floats₀) 0 (st .past))) over;
+                  st .numbers-are ∙ ap (λ (l : List ℕ). sets l (nodesAt s) (sixes (splittingWith s leaf) (vectorsIn (s .dimension) n floats₀) 0 (st .past))) over;
               floats-alike = st .floats-alike;
               work-alike = st .work-alike;
               floats-length = st .floats-length;

@@ -23,7 +23,7 @@ use Rattle.cluster.specs.ClustersLaws.{perm-clusters, length-clusters}
 use Rattle.waiting_groups.specs.Waiting.{nonEmptyList, headed, sorted}
 use Rattle.waiting_groups.specs.WaitingLaws.{sorted-clusters, length-joined-headed}
 use Rattle.build_tree.specs.Standing.{vectors-end, centres-end}
-use Rattle.build_tree.specs.Contracts.{Lent, Splits, Clustering, Divided}
+use Rattle.build_tree.specs.Contracts.{TreeLent, Splits, Clustering, Divided}
 
 -- fewer centres fit
 pub room-smaller : {floats : List Float} {ids : List ℕ} {d n at : ℕ} (b : ℕ) {k : ℕ} → BehindVectors floats ids d n at (d * b) → k ≤ b → BehindVectors floats ids d n at (k * d)
@@ -87,7 +87,7 @@ module _ {s : Shape} {n levels : ℕ} {ids : List ℕ} (limits : Limits s) where
 pub lent-by-ends : {A : Type 0} (l : List A) (start size : ℕ) → take (start + size - start) (drop start l) ≡ part start size l
 lent-by-ends {A} l start size = let e : start + size - start ≡ size = omega arith in ap (λ (k : ℕ). take k (drop start l)) e
 
-module _ {s : Shape} {n levels start size at : ℕ} {floats : List Float} {numbers work : List ℕ} (lent : Lent s n floats numbers work)
+module _ {s : Shape} {n levels start size at : ℕ} {floats : List Float} {numbers work : List ℕ} (lent : TreeLent s n floats numbers work)
     (splits : Splits n levels start size at numbers)
   where
     abbrev lentIds : List ℕ

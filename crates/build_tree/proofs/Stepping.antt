@@ -25,7 +25,7 @@ use Rattle.waiting_groups.specs.Waiting.{nonEmptyList, headed, encoded, groupAt
 use Rattle.waiting_groups.specs.WaitingLaws.{group-size, group-levels, head-cleared, leaf-by-size, inner-levels, children-encoded, children-count}
 use Rattle.build_tree.specs.MadeLaws.{own-leaf, own-inner}
 use Rattle.build_tree.specs.Standing.{vectors-end, centroid-end, centres-end}
-use Rattle.build_tree.specs.Contracts.{splittingOf, Lent, Waits, Splits, Divided, Stepped}
+use Rattle.build_tree.specs.Contracts.{splittingWith, TreeLent, Waits, Splits, Divided, MadeNode}
 use Rattle.build_tree.proofs.Dividing.{lent-by-ends, length-headed-clusters}
 
 -- ---- a leaf and an inner node
@@ -61,7 +61,7 @@ module _ (s : Splitting) (vectors : List (List Float)) (g : Group) where
 
 -- ---- the step
 
-module _ {s : Shape} {n made done : ℕ} {floats : List Float} {numbers work : List ℕ} (lent : Lent s n floats numbers work)
+module _ {s : Shape} {n made done : ℕ} {floats : List Float} {numbers work : List ℕ} (lent : TreeLent s n floats numbers work)
     (waits : Waits s n made done (groupAt numbers (orderAt s + done)))
   where
     abbrev g : Group
@@ -148,15 +148,15 @@ module _ {s : Shape} {n made done : ℕ} {floats : List Float} {numbers work : L
             in
             rw (e, lent-there) here
 
-        leaf-told : (leaf : ℕ) (b : Bool) → leafBy leaf levels size ≡ b → isLeaf (splittingOf s leaf) (g .levels) (g .ids) ≡ b
+        leaf-told : (leaf : ℕ) (b : Bool) → leafBy leaf levels size ≡ b → isLeaf (splittingWith s leaf) (g .levels) (g .ids) ≡ b
         leaf-told leaf b h =
-            leaf-by-size (splittingOf s leaf) vs (g .levels) (g .ids) ∙ ap₂ (λ (i j : ℕ). leafBy leaf i j) (sym levels-g) (sym size-g) ∙ h
+            leaf-by-size (splittingWith s leaf) vs (g .levels) (g .ids) ∙ ap₂ (λ (i j : ℕ). leafBy leaf i j) (sym levels-g) (sym size-g) ∙ h
 
         module _ {cents nodes : ℕ} {floats₁ : List Float} (leaf : ℕ) (cents-is : cents ≡ centroidsAt s) (nodes-is : nodes ≡ nodesAt s)
             (mean : floats₁ ≡ sets floats (cents + made * s .dimension) (meanOf (s .dimension) vs (take (start + size - start) (drop start numbers₁))))
           where
             abbrev sp : Splitting
-            sp = splittingOf s leaf
+            sp = splittingWith s leaf
 
             abbrev six-at : ℕ
             six-at = nodes + 6 * made
@@ -168,7 +168,7 @@ module _ {s : Shape} {n made done : ℕ} {floats : List Float} {numbers work : L
             floats₁-are = mean ∙ ap₂ (λ (i : ℕ) (l : List ℕ). sets floats (i + made * s .dimension) (meanOf (s .dimension) vs l)) cents-is lent-there
 
             pub leaf-end : {numbers′ : List ℕ} → leafBy leaf levels size ≡ true → numbers′ ≡ sets numbers₁ six-at (0 ∷ 0 ∷ done ∷ size ∷ 0 ∷ 0 ∷ [])
-                → Stepped s leaf n made done g floats floats₁ numbers numbers′ work work (done + size)
+                → MadeNode s leaf n made done g floats floats₁ numbers numbers′ work work (done + size)
             leaf-end told written =
                 let h : isLeaf sp (g .levels) (g .ids) ≡ true = leaf-told leaf true told in
                 record {
@@ -210,7 +210,7 @@ module _ {s : Shape} {n made done : ℕ} {floats : List Float} {numbers work : L
                     below = λ i h. subst (λ (l : List ℕ). getD l i 0 < n) (sym ids-there) (waits .sound .below i (omega arith));
                   }
 
-              pub lent₁ : length floats₁ ≡ length floats → Lent s n floats₁ numbers₁ work
+              pub lent₁ : length floats₁ ≡ length floats → TreeLent s n floats₁ numbers₁ work
               lent₁ e =
                   let a = lent .floats-room in
                   let b = lent .numbers-room in
@@ -226,7 +226,7 @@ module _ {s : Shape} {n made done : ℕ} {floats : List Float} {numbers work : L
 
               pub inner-end : {floats′ : List Float} {numbers′ work′ : List ℕ}
                   → Divided s n (levels - 1) start size six-at floats₁ floats′ numbers₁ numbers′ work work′
-                  → Stepped s leaf n made done g floats floats′ numbers numbers′ work work′ done
+                  → MadeNode s leaf n made done g floats floats′ numbers numbers′ work work′ done
               inner-end {floats′} {numbers′} {work′} div =
                   let d : ℕ = s .dimension in
                   let b : ℕ = s .branching in

@@ -21,11 +21,11 @@ use Rattle.build_tree.specs.declared.Made.{Made}
 use Rattle.build_tree.specs.declared.Made.the-variants as Made′
 
 -- what a tree is made with
-abbrev pub splittingOf : Shape → ℕ → Splitting
-splittingOf s leaf = record { dimension = s .dimension; branching = s .branching; leaf-size = leaf }
+abbrev pub splittingWith : Shape → ℕ → Splitting
+splittingWith s leaf = record { dimension = s .dimension; branching = s .branching; leaf-size = leaf }
 
 -- The settings are within their limits, at least one vector is held, and the lists have the sizes of the store.
-pub record Lent (s : Shape) (n : ℕ) (floats : List Float) (numbers work : List ℕ) : Type 0 where
+pub record TreeLent (s : Shape) (n : ℕ) (floats : List Float) (numbers work : List ℕ) : Type 0 where
   pub limits : Limits s
   pub some : 1 ≤ n
   pub held : n ≤ s .vectors
@@ -34,7 +34,7 @@ pub record Lent (s : Shape) (n : ℕ) (floats : List Float) (numbers work : List
   pub work-room : workSize s ≤ length work
 
 -- A group that may wait in an index of n vectors.
-pub record Sound (n : ℕ) (g : Group) : Type 0 where
+pub record SoundGroup (n : ℕ) (g : Group) : Type 0 where
   pub few : g .levels ≤ 16
   pub filled : 1 ≤ length (g .ids)
   pub below : (i : ℕ) → i < length (g .ids) → getD (g .ids) i 0 < n
@@ -42,7 +42,7 @@ pub record Sound (n : ℕ) (g : Group) : Type 0 where
 -- The group at a place of the numbers waits to become the node with a number, and the leaf order is filled up to `done`.
 pub record Waits (s : Shape) (n made done : ℕ) (g : Group) : Type 0 where
   pub made-few : made < s .nodes
-  pub sound : Sound n g
+  pub sound : SoundGroup n g
   pub within : done + length (g .ids) ≤ n
 
 -- The ids of a group are split: its clusters stand from place n on in the work list, for n ids, each that is not empty with its header, and are
@@ -77,27 +77,27 @@ pub record Divided
     pub work-alike : AlikeBut 0 (2 * size) work work′
 
 -- One node is made of a group: its centroid, its six numbers, and what stands in the group's place. The centres and the work list are free.
-pub record Stepped
+pub record MadeNode
     (s : Shape) (leaf n made done : ℕ) (g : Group) (floats floats′ : List Float) (numbers numbers′ work work′ : List ℕ) (next : ℕ) : Type 0
   where
     pub numbers-are : numbers′
-        ≡ sets (sets numbers (orderAt s + done) (stands (splittingOf s leaf) (vectorsIn (s .dimension) n floats) g)) (nodesAt s + 6 * made)
-        (six (splittingOf s leaf) (vectorsIn (s .dimension) n floats) done g)
+        ≡ sets (sets numbers (orderAt s + done) (stands (splittingWith s leaf) (vectorsIn (s .dimension) n floats) g)) (nodesAt s + 6 * made)
+        (six (splittingWith s leaf) (vectorsIn (s .dimension) n floats) done g)
     pub floats-alike : AlikeBut (centresAt s) (s .dimension * s .branching)
         (sets floats (centroidsAt s + made * s .dimension) (meanOf (s .dimension) (vectorsIn (s .dimension) n floats) (g .ids))) floats′
     pub work-alike : AlikeBut 0 (workSize s) work work′
-    pub next-is : next ≡ done + length (own (splittingOf s leaf) g)
+    pub next-is : next ≡ done + length (own (splittingWith s leaf) g)
 
 -- All nodes are made: centroids, leaf order and the six numbers of each node, whatever the entries. The centres are free, and the work list.
 pub record Whole (s : Shape) (leaf n : ℕ) (floats floats′ : List Float) (numbers numbers′ work work′ : List ℕ) (answer : Made) : Type 0 where
-  pub answered : answer ≡ Made′.Nodes (size (treeOf (splittingOf s leaf) (vectorsIn (s .dimension) n floats)))
+  pub answered : answer ≡ Made′.Nodes (size (treeOf (splittingWith s leaf) (vectorsIn (s .dimension) n floats)))
   pub centres : List Float
   pub centres-size : length centres ≡ s .dimension * s .branching
-  pub floats-are : (e : Entries) → floats′ ≡ floatsOf s (nodesOf (splittingOf s leaf) (vectorsIn (s .dimension) n floats) e) centres floats
+  pub floats-are : (e : Entries) → floats′ ≡ floatsOf s (nodesOf (splittingWith s leaf) (vectorsIn (s .dimension) n floats) e) centres floats
   pub numbers-are : (e : Entries)
       → numbers′
-      ≡ sets (sets numbers (orderAt s) (joined (λ node. node .ids) (nodesOf (splittingOf s leaf) (vectorsIn (s .dimension) n floats) e)))
-      (nodesAt s) (madeFrom 0 (nodesOf (splittingOf s leaf) (vectorsIn (s .dimension) n floats) e))
+      ≡ sets (sets numbers (orderAt s) (joined (λ node. node .ids) (nodesOf (splittingWith s leaf) (vectorsIn (s .dimension) n floats) e)))
+      (nodesAt s) (madeFrom 0 (nodesOf (splittingWith s leaf) (vectorsIn (s .dimension) n floats) e))
   pub work-free : Freed (workPart s ∷ []) work work′
 
 -- 13: 'the defined tree has more than M nodes'. Free are the centroids and the centres, the leaf order of vectors and the six per node, and the work.
@@ -109,7 +109,7 @@ pub record Overfull (s : Shape) (floats floats′ : List Float) (numbers numbers
 
 -- What `build_tree` does.
 pub record Built (s : Shape) (leaf n : ℕ) (floats floats′ : List Float) (numbers numbers′ work work′ : List ℕ) (answer : Made) : Type 0 where
-  pub whole : size (treeOf (splittingOf s leaf) (vectorsIn (s .dimension) n floats)) ≤ s .nodes
+  pub whole : size (treeOf (splittingWith s leaf) (vectorsIn (s .dimension) n floats)) ≤ s .nodes
       → Whole s leaf n floats floats′ numbers numbers′ work work′ answer
-  pub overfull : s .nodes < size (treeOf (splittingOf s leaf) (vectorsIn (s .dimension) n floats))
+  pub overfull : s .nodes < size (treeOf (splittingWith s leaf) (vectorsIn (s .dimension) n floats))
       → Overfull s floats floats′ numbers numbers′ work work′ answer

@@ -23,7 +23,7 @@ use Rattle.tree.specs.Made.{madeFrom}
 use Rattle.tree.specs.Steps.{Group, isLeaf, split, childGroups, childGroups-leaf, childGroups-split, split-perm, made, rootGroup, made-ids, made-counts, made-centroids}
 use Rattle.waiting_groups.specs.Waiting.{encoded, own, stands, six, sixes, leaves, centroids}
 use Rattle.waiting_groups.specs.WaitingLaws.{length-encoded}
-use Rattle.build_tree.specs.Contracts.{Sound}
+use Rattle.build_tree.specs.Contracts.{SoundGroup}
 
 every-map : {A B : Type 0} (P : B → Type 0) (f : A → B) (l : List A) → ((x : A) → List·Memᴰ x l → P (f x)) → (y : B) → List·Memᴰ y (map f l) → P y
 every-map P f [] h y m = absurd (List·Memᴰ·not-nil m)
@@ -78,17 +78,17 @@ module _ (s : Splitting) (vectors : List (List Float)) where
       subst (λ (x : ℕ). x < n) (at .2) (below (at .0) (at .1))
 
   split-sound : (n levels : ℕ) (ids : List ℕ) → 1 ≤ s .branching → levels ≤ 16 → ((i : ℕ) → i < length ids → getD ids i 0 < n) → (child : Group)
-      → List·Memᴰ child (split s vectors levels ids) → Sound n child
+      → List·Memᴰ child (split s vectors levels ids) → SoundGroup n child
   unfolding split
   split-sound n zero ids b few below child m = absurd (List·Memᴰ·not-nil m)
   split-sound n (suc levels) ids b few below child m =
-      every-map (Sound n) (λ group. record { levels = levels; ids = group }) (groups s vectors ids)
+      every-map (SoundGroup n) (λ group. record { levels = levels; ids = group }) (groups s vectors ids)
       (λ group k. record { few = omega arith; filled = group-some s vectors ids group k; below = member-below n ids group b below k }) child m
 
-  pub children-sound : (n : ℕ) (g : Group) → 1 ≤ s .branching → Sound n g → (child : Group) → List·Memᴰ child (childGroups s vectors g) → Sound n child
+  pub children-sound : (n : ℕ) (g : Group) → 1 ≤ s .branching → SoundGroup n g → (child : Group) → List·Memᴰ child (childGroups s vectors g) → SoundGroup n child
   children-sound n g b sound child m = go (which (isLeaf s (g .levels) (g .ids)))
     where
-      go : (isLeaf s (g .levels) (g .ids) ≡ true) ⊎ (isLeaf s (g .levels) (g .ids) ≡ false) → Sound n child
+      go : (isLeaf s (g .levels) (g .ids) ≡ true) ⊎ (isLeaf s (g .levels) (g .ids) ≡ false) → SoundGroup n child
       go (inl h) = absurd (List·Memᴰ·not-nil (subst (λ (l : List Group). List·Memᴰ child l) (childGroups-leaf s vectors g h) m))
       go (inr h) =
           split-sound n (g .levels) (g .ids) b (sound .few) (sound .below) child

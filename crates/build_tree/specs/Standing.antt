@@ -20,7 +20,7 @@ use Rattle.tree.specs.Tree.{Splitting}
 use Rattle.tree.specs.Steps.{Group, made, rootGroup}
 use Rattle.waiting_groups.specs.Waiting.{headed, encoded, sixes, leaves, centroids}
 use Rattle.waiting_groups.specs.WaitingLaws.{encoded-cons, length-encoded}
-use Rattle.build_tree.specs.Contracts.{splittingOf, Lent, Sound}
+use Rattle.build_tree.specs.Contracts.{splittingWith, TreeLent, SoundGroup}
 
 -- ---- places
 
@@ -41,16 +41,16 @@ pub record Standing (s : Shape) (leaf n : ℕ) (floats₀ : List Float) (numbers
     pub past : List Group
     pub waiting : List Group
     pub count-is : count ≡ length past
-    pub due : made (splittingOf s leaf) (vectorsIn (s .dimension) n floats₀) (rootGroup (splittingOf s leaf) (vectorsIn (s .dimension) n floats₀) ∷ [])
-        ≡ past ++ made (splittingOf s leaf) (vectorsIn (s .dimension) n floats₀) waiting
-    pub done-is : done ≡ length (leaves (splittingOf s leaf) past)
+    pub due : made (splittingWith s leaf) (vectorsIn (s .dimension) n floats₀) (rootGroup (splittingWith s leaf) (vectorsIn (s .dimension) n floats₀) ∷ [])
+        ≡ past ++ made (splittingWith s leaf) (vectorsIn (s .dimension) n floats₀) waiting
+    pub done-is : done ≡ length (leaves (splittingWith s leaf) past)
     pub all : done + length (joined (λ g. g .ids) waiting) ≡ n
-    pub sound : (g : Group) → List·Memᴰ g waiting → Sound n g
+    pub sound : (g : Group) → List·Memᴰ g waiting → SoundGroup n g
     pub numbers-are : numbers
-        ≡ sets (sets numbers₀ (orderAt s) (leaves (splittingOf s leaf) past ++ encoded waiting)) (nodesAt s)
-        (sixes (splittingOf s leaf) (vectorsIn (s .dimension) n floats₀) 0 past)
+        ≡ sets (sets numbers₀ (orderAt s) (leaves (splittingWith s leaf) past ++ encoded waiting)) (nodesAt s)
+        (sixes (splittingWith s leaf) (vectorsIn (s .dimension) n floats₀) 0 past)
     pub floats-alike : AlikeBut (centresAt s) (s .dimension * s .branching)
-        (sets floats₀ (centroidsAt s) (centroids (splittingOf s leaf) (vectorsIn (s .dimension) n floats₀) past)) floats
+        (sets floats₀ (centroidsAt s) (centroids (splittingWith s leaf) (vectorsIn (s .dimension) n floats₀) past)) floats
     pub work-alike : AlikeBut 0 (workSize s) work₀ work
     pub floats-length : length floats ≡ length floats₀
     pub numbers-length : length numbers ≡ length numbers₀
@@ -62,9 +62,9 @@ unfolding joined
 first-of [] h = absurd (not-suc-le-zero h)
 first-of (g ∷ rest) h = (g, rest, refl)
 
-module _ (s : Shape) (leaf n : ℕ) (floats₀ : List Float) (numbers₀ work₀ : List ℕ) (lent : Lent s n floats₀ numbers₀ work₀) where
+module _ (s : Shape) (leaf n : ℕ) (floats₀ : List Float) (numbers₀ work₀ : List ℕ) (lent : TreeLent s n floats₀ numbers₀ work₀) where
   abbrev sp : Splitting
-  sp = splittingOf s leaf
+  sp = splittingWith s leaf
 
   abbrev vs : List (List Float)
   vs = vectorsIn (s .dimension) n floats₀
@@ -78,7 +78,7 @@ module _ (s : Shape) (leaf n : ℕ) (floats₀ : List Float) (numbers₀ work₀
   root-size : length (root .ids) ≡ n
   root-size = length-countFrom 0 (length vs) ∙ length-vectorsIn (s .dimension) n floats₀
 
-  root-sound : Sound n root
+  root-sound : SoundGroup n root
   root-sound =
       let c = root-size in
       let v = length-vectorsIn (s .dimension) n floats₀ in
@@ -114,8 +114,8 @@ module _ (s : Shape) (leaf n : ℕ) (floats₀ : List Float) (numbers₀ work₀
         work-length = refl;
       }
     where
-      only : (g : Group) → (g ≡ root) ⊎ List·Memᴰ g [] → Sound n g
-      only g (inl q) = subst (Sound n) (sym q) root-sound
+      only : (g : Group) → (g ≡ root) ⊎ List·Memᴰ g [] → SoundGroup n g
+      only g (inl q) = subst (SoundGroup n) (sym q) root-sound
       only g (inr m) = absurd (List·Memᴰ·not-nil m)
 
   module _ (count done : ℕ) (floats : List Float) (numbers work : List ℕ) (st : StandsAt count done floats numbers work) where
@@ -129,7 +129,7 @@ module _ (s : Shape) (leaf n : ℕ) (floats₀ : List Float) (numbers₀ work₀
         ∙ vectorsIn-front (s .dimension) n (centroidsAt s) (sets floats₀ (centroidsAt s) (centroids sp vs (st .past))) floats₀ a
         (take-sets (centroidsAt s) floats₀ (centroidsAt s) (centroids sp vs (st .past)) (omega arith))
 
-    pub standing-lent : Lent s n floats numbers work
+    pub standing-lent : TreeLent s n floats numbers work
     standing-lent =
         let a = st .floats-length in
         let b = st .numbers-length in

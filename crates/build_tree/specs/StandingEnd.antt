@@ -20,11 +20,11 @@ use Rattle.tree.specs.Made.{madeFrom}
 use Rattle.tree.specs.Steps.{Group, made, made-none, made-waiting, length-made, rootGroup}
 use Rattle.waiting_groups.specs.Waiting.{encoded, sixes, leaves, centroids}
 use Rattle.build_tree.specs.MadeLaws.{length-centroids, length-sixes, six-all, leaves-all, centroids-all}
-use Rattle.build_tree.specs.Contracts.{splittingOf, Lent, Sound, Whole, Overfull, Built}
+use Rattle.build_tree.specs.Contracts.{splittingWith, TreeLent, SoundGroup, Whole, Overfull, Built}
 use Rattle.build_tree.specs.declared.Made.the-variants as Made′
 use Rattle.build_tree.specs.Standing.{Standing, centres-end, first-of, order-length}
 
-sound-nil : (waiting : List Group) (n : ℕ) → ((g : Group) → List·Memᴰ g waiting → Sound n g) → length (joined (λ g. g .ids) waiting) ≤ 0 → waiting ≡ []
+sound-nil : (waiting : List Group) (n : ℕ) → ((g : Group) → List·Memᴰ g waiting → SoundGroup n g) → length (joined (λ g. g .ids) waiting) ≤ 0 → waiting ≡ []
 unfolding joined
 sound-nil [] n h e = refl
 sound-nil (g ∷ rest) n h e =
@@ -33,11 +33,11 @@ sound-nil (g ∷ rest) n h e =
     absurd (omega arith)
 
 module _
-    (s : Shape) (leaf n : ℕ) (floats₀ : List Float) (numbers₀ work₀ : List ℕ) (lent : Lent s n floats₀ numbers₀ work₀) (count done : ℕ) (floats : List Float)
+    (s : Shape) (leaf n : ℕ) (floats₀ : List Float) (numbers₀ work₀ : List ℕ) (lent : TreeLent s n floats₀ numbers₀ work₀) (count done : ℕ) (floats : List Float)
     (numbers work : List ℕ) (st : Standing s leaf n floats₀ numbers₀ work₀ count done floats numbers work)
   where
     abbrev sp : Splitting
-    sp = splittingOf s leaf
+    sp = splittingWith s leaf
 
     abbrev vs : List (List Float)
     vs = vectorsIn (s .dimension) n floats₀

@@ -22,7 +22,7 @@ use Rattle.tree.specs.Steps.{Group, childGroups, made, made-cons, rootGroup}
 use Rattle.waiting_groups.specs.Waiting.{headed, encoded, groupAt, own, stands, six, sixes, leaves, centroids}
 use Rattle.waiting_groups.specs.WaitingLaws.{length-headed, encoded-cons, encoded-append, group-read, sets-middle, part-middle-sets}
 use Rattle.build_tree.specs.MadeLaws.{own-children, length-stands, children-sound, leaves-snoc, centroids-snoc, length-centroids, length-sixes, sixes-snoc, order-step}
-use Rattle.build_tree.specs.Contracts.{splittingOf, Lent, Sound, Waits, Stepped}
+use Rattle.build_tree.specs.Contracts.{splittingWith, TreeLent, SoundGroup, Waits, MadeNode}
 use Rattle.build_tree.specs.Standing.{Standing, centroid-end, first-of, standing-vectors, order-length}
 
 -- a group's place is overwritten, and six numbers are written behind those that stand
@@ -41,11 +41,11 @@ numbers-step l₀ l l′ o q front old new rest sixes six e e′ n h =
     ∙ sym (sets-append (sets l₀ o (front ++ (new ++ rest))) q sixes six)
 
 module _
-    (s : Shape) (leaf n : ℕ) (floats₀ : List Float) (numbers₀ work₀ : List ℕ) (lent : Lent s n floats₀ numbers₀ work₀) (count done : ℕ) (floats : List Float)
+    (s : Shape) (leaf n : ℕ) (floats₀ : List Float) (numbers₀ work₀ : List ℕ) (lent : TreeLent s n floats₀ numbers₀ work₀) (count done : ℕ) (floats : List Float)
     (numbers work : List ℕ) (st : Standing s leaf n floats₀ numbers₀ work₀ count done floats numbers work)
   where
     abbrev sp : Splitting
-    sp = splittingOf s leaf
+    sp = splittingWith s leaf
 
     abbrev vs : List (List Float)
     vs = vectorsIn (s .dimension) n floats₀
@@ -53,7 +53,7 @@ module _
     -- ---- the first group that waits
 
     module _ (g : Group) (rest : List Group) (w : st .waiting ≡ g ∷ rest) where
-      sound-first : Sound n g
+      sound-first : SoundGroup n g
       sound-first = st .sound g (subst (λ (l : List Group). List·Memᴰ g l) (sym w) (List·Memᴰ·head refl))
 
       order-is : leaves sp (st .past) ++ encoded (st .waiting) ≡ leaves sp (st .past) ++ (headed (g .levels) (g .ids) ++ encoded rest)
@@ -100,7 +100,7 @@ module _
       -- ---- a node is made
 
       module _ (more : count < s .nodes) (floats′ : List Float) (numbers′ work′ : List ℕ) (next : ℕ)
-          (step : Stepped s leaf n count done g floats floats′ numbers numbers′ work work′ next) (floats-kept : length floats′ ≡ length floats)
+          (step : MadeNode s leaf n count done g floats floats′ numbers numbers′ work work′ next) (floats-kept : length floats′ ≡ length floats)
           (numbers-kept : length numbers′ ≡ length numbers) (work-kept : length work′ ≡ length work)
         where
           abbrev past′ : List Group
@@ -162,10 +162,10 @@ module _
               ∙ ap (λ (l : List Group). st .past ++ l) (made-cons sp vs g rest)
               ∙ sym (append-assoc (st .past) (g ∷ []) (made sp vs waiting′))
 
-          sound-now : (h : Group) → List·Memᴰ h waiting′ → Sound n h
+          sound-now : (h : Group) → List·Memᴰ h waiting′ → SoundGroup n h
           sound-now h m = go (List·Memᴰ·append-cases (childGroups sp vs g) m)
             where
-              go : List·Memᴰ h (childGroups sp vs g) ⊎ List·Memᴰ h rest → Sound n h
+              go : List·Memᴰ h (childGroups sp vs g) ⊎ List·Memᴰ h rest → SoundGroup n h
               go (inl m) = children-sound sp vs n g (lent .limits .branching-low) sound-first h m
               go (inr m) = st .sound h (subst (λ (l : List Group). List·Memᴰ h l) (sym w) (List·Memᴰ·tail m))
 
@@ -225,8 +225,8 @@ module _
       next-waits more = subst (Waits s n count done) (sym here-is) (first-waits (first .0) (first .1) (first .2) more)
 
       pub standing-step : count < s .nodes → (floats′ : List Float) (numbers′ work′ : List ℕ) (next : ℕ)
-          → Stepped s leaf n count done here floats floats′ numbers numbers′ work work′ next → length floats′ ≡ length floats
+          → MadeNode s leaf n count done here floats floats′ numbers numbers′ work work′ next → length floats′ ≡ length floats
           → length numbers′ ≡ length numbers → length work′ ≡ length work → Standing s leaf n floats₀ numbers₀ work₀ (count + 1) next floats′ numbers′ work′
       standing-step more floats′ numbers′ work′ next step =
           standing-next (first .0) (first .1) (first .2) more floats′ numbers′ work′ next
-          (subst (λ (g : Group). Stepped s leaf n count done g floats floats′ numbers numbers′ work work′ next) here-is step)
+          (subst (λ (g : Group). MadeNode s leaf n count done g floats floats′ numbers numbers′ work work′ next) here-is step)

@@ -7,7 +7,7 @@ use waiting_groups::take_header;
 ghost use Prim.Native.Nat.{_+_};
 ghost use Rattle.store.specs.Store.{orderAt};
 ghost use Rattle.waiting_groups.specs.Waiting.{groupAt};
-ghost use Rattle.build_tree.specs.Contracts.{Lent, Waits, Stepped, Built};
+ghost use Rattle.build_tree.specs.Contracts.{TreeLent, Waits, MadeNode, Built};
 
 pub mod split;
 
@@ -29,9 +29,9 @@ pub fn make_node(
     numbers: &mut [u32],
     work: &mut [u32],
 ) -> usize
-    requires { ⌜ Lent shape n (now floats) (now numbers) (now work) ⌝ }
+    requires { ⌜ TreeLent shape n (now floats) (now numbers) (now work) ⌝ }
     requires { ⌜ Waits shape n made done (groupAt (now numbers) (orderAt shape + done)) ⌝ }
-    ensures { λ r. ⌜ Stepped shape «leaf_size» n made done (groupAt (now (numbers .entry)) (orderAt shape + done)) (now (floats .entry)) (now (floats .exit)) (now (numbers .entry)) (now (numbers .exit)) (now (work .entry)) (now (work .exit)) r ⌝ }
+    ensures { λ r. ⌜ MadeNode shape «leaf_size» n made done (groupAt (now (numbers .entry)) (orderAt shape + done)) (now (floats .entry)) (now (floats .exit)) (now (numbers .entry)) (now (numbers .exit)) (now (work .entry)) (now (work .exit)) r ⌝ }
 {
     let start = shape.order_at() + done;
     let six_at = shape.nodes_at() + 6 * made;
@@ -72,7 +72,7 @@ pub fn build_tree(
     numbers: &mut [u32],
     work: &mut [u32],
 ) -> Made
-    requires { ⌜ Lent shape n (now floats) (now numbers) (now work) ⌝ }
+    requires { ⌜ TreeLent shape n (now floats) (now numbers) (now work) ⌝ }
     ensures { λ r. ⌜ Built shape «leaf_size» n (now (floats .entry)) (now (floats .exit)) (now (numbers .entry)) (now (numbers .exit)) (now (work .entry)) (now (work .exit)) r ⌝ }
 {
     begin(numbers, shape.order_at(), n);

@@ -7,7 +7,7 @@ ghost use mathlib.Core.Path.{_≡_};
 ghost use lib.ListN.{length};
 ghost use Rattle.store.specs.Store.{Limits, centresAt};
 ghost use Rattle.cluster.specs.Contracts.{BehindVectors};
-ghost use Rattle.build_tree.specs.Contracts.{Lent, Splits, Clustering, Divided};
+ghost use Rattle.build_tree.specs.Contracts.{TreeLent, Splits, Clustering, Divided};
 
 // The smaller of two numbers.
 fn smaller(a: usize, b: usize) -> usize
@@ -54,7 +54,7 @@ pub fn split_node(
     numbers: &mut [u32],
     work: &mut [u32],
 )
-    requires { ⌜ Lent shape n (now floats) (now numbers) (now work) ⌝ }
+    requires { ⌜ TreeLent shape n (now floats) (now numbers) (now work) ⌝ }
     requires { ⌜ Splits n levels start size at (now numbers) ⌝ }
     ensures { λ _. ⌜ Divided shape n levels start size at (now (floats .entry)) (now (floats .exit)) (now (numbers .entry)) (now (numbers .exit)) (now (work .entry)) (now (work .exit)) ⌝ }
 {

@@ -25,7 +25,7 @@ use Rattle.curator.specs.Limits.{stateSound, indexShape}
 use Rattle.settings.specs.Limits.{builtAllowed}
 use Rattle.curator.specs.RowLaws.{fine-none}
 use Rattle.curator.specs.Rows.{row, firstOf, stateRow, searchRows}
-use Rattle.curator.specs.SearchRowLaws.{walkFor, walkOf, earlyRows, search-check-rows}
+use Rattle.curator.specs.SearchRowLaws.{walkFor, walkOf, earlySearchRows, search-check-rows}
 use Rattle.curator.specs.Searches.{SearchEnd, wantedOf, searchCheck, Walked, WalkedTo, SearchesBy, Searches}
 use Rattle.curator.specs.Arguments.{SearchCall}
 use Rattle.curator.specs.StateLaws.{sound-facts}
@@ -59,7 +59,7 @@ some-node : (index : CuratorIndex) (store : Store) (work : List ℕ) (call : Sea
     → (0 < index .counts .nodes) × (index .counts .nodes ≤ 2 ^ 64)
 unfolding searchRows builtAllowed
 some-node index store work call f =
-    let (sound, (_, (built, _))) = fine-none (earlyRows index store work call) (sym (search-check-rows index store work call) ∙ f) in
+    let (sound, (_, (built, _))) = fine-none (earlySearchRows index store work call) (sym (search-check-rows index store work call) ∙ f) in
     let facts = sound-facts index (not-false _ sound) in
     let allowed = subst (λ (b : Bool). builtAllowed b (index .counts) ≡ true) (not-false (index .built) built) (facts .built) in
     let (_, nodes) = and-both (ltb 0 (index .counts .vectors)) (ltb 0 (index .counts .nodes)) allowed in

@@ -47,13 +47,13 @@ abbrev pub damagedRow : CuratorIndex → Store → SearchCall → Row
 damagedRow index store call = row (isDamaged (walkOf index store call)) (Refusal′.Store StoreRefusal′.Damaged)
 
 -- the rows that are asked before the walk, and that of the walk
-abbrev pub earlyRows : CuratorIndex → Store → List ℕ → SearchCall → List Row
-earlyRows index store work call =
+abbrev pub earlySearchRows : CuratorIndex → Store → List ℕ → SearchCall → List Row
+earlySearchRows index store work call =
     stateRow (stateSound index)
     ∷ searchRows (factsOf index) (lengthsOf store) (length work) (askingOf call)
 
 abbrev pub rowsOfSearch : CuratorIndex → Store → List ℕ → SearchCall → List Row
-rowsOfSearch index store work call = earlyRows index store work call ++ (damagedRow index store call ∷ [])
+rowsOfSearch index store work call = earlySearchRows index store work call ++ (damagedRow index store call ∷ [])
 
 abbrev pub searchNumbers : List ℕ
 searchNumbers = 4 ∷ 3 ∷ 6 ∷ 7 ∷ 8 ∷ 14 ∷ 15 ∷ []
@@ -64,7 +64,7 @@ unfolding searchRows
 search-order index store work call = refl
 
 pub search-check-rows : (index : CuratorIndex) (store : Store) (work : List ℕ) (call : SearchCall)
-    → searchCheck index store work call ≡ firstOf (earlyRows index store work call)
+    → searchCheck index store work call ≡ firstOf (earlySearchRows index store work call)
 unfolding searchCheck
 search-check-rows index store work call = refl
 
@@ -118,13 +118,13 @@ module _ (index : CuratorIndex) (store : Store) (work : List ℕ) (call : Search
       walked damaged e w = w .answer .number-is ∙ ap checkNumber (sym (row-stops last [] (ap isDamaged e)))
       walked (going p) e w = w .answer .number-is ∙ ap checkNumber (sym (row-passes last [] (ap isDamaged e) ∙ no-rows))
 
-      by : (check : Check) → firstOf (earlyRows index store work call) ≡ check → SearchesBy check index store work call end
+      by : (check : Check) → firstOf (earlySearchRows index store work call) ≡ check → SearchesBy check index store work call end
           → foundNumber (end .answer) ≡ checkNumber (firstOf (rowsOfSearch index store work call))
       by Fine e w =
           let same = ap (λ (query : List Float). walkFor index store call query) (normalized-is (call .question .query) (w .query) (w .normalized)) in
           walked (walkFor index store call (w .query)) (sym same) (w .walked)
-          ∙ ap checkNumber (sym (rows-then (earlyRows index store work call) (last ∷ []) Fine e))
-      by (Refused r) e u = u .answer .number-is ∙ ap checkNumber (sym (rows-then (earlyRows index store work call) (last ∷ []) (Refused r) e))
+          ∙ ap checkNumber (sym (rows-then (earlySearchRows index store work call) (last ∷ []) Fine e))
+      by (Refused r) e u = u .answer .number-is ∙ ap checkNumber (sym (rows-then (earlySearchRows index store work call) (last ∷ []) (Refused r) e))
 
   -- each of the numbers exactly if its row's case holds and no earlier row's does
   pub search-returned : (i : ℕ) → i < 7 → (foundNumber (end .answer) ≡ getD searchNumbers i 0) ↔ FirstAt (rowsOfSearch index store work call) i

@@ -106,12 +106,3 @@ pub record SearchResult (state : List ℕ) (store : Store) (lent : List ℕ) (ca
   pub searches : SearchesIn (stateIn state) store lent (asking answer call) (ended found lent′ ids′ distances′)
   pub number : returned ≡ foundNumber found
   pub values : answer′ ≡ sets answer 0 (foundValues found)
-
--- ---- the settings that `curator_new` is handed
-
-abbrev pub paramsOf : ℕ → ℕ → ℕ → ℕ → CuratorParams
-paramsOf branching leaf ef beam =
-    record { «branching_factor» = branching; «max_leaf_size» = leaf; «ef_search» = ef; «beam_width» = beam }
-
-abbrev pub capacitiesOf : ℕ → ℕ → ℕ → Capacities
-capacitiesOf vectors entries nodes = record { vectors = vectors; entries = entries; nodes = nodes }

@@ -26,19 +26,19 @@ pub in-written : (list : List ℕ) (index : CuratorIndex) → places ≤ length 
 in-written list index h = ap stateIn (sets-eq (stateList index) list 0 h) ∙ in-front index (drop 12 list)
 
 -- What a list that holds a state is like: it has places for one, its flag is 0 or 1, and the state is read from it.
-pub record Holds (list : List ℕ) (index : CuratorIndex) : Type 0 where
+pub record HoldsState (list : List ℕ) (index : CuratorIndex) : Type 0 where
   pub flag : Bool
   pub room : places ≤ length list
   pub flag-place : getD list 11 0 ≡ cond flag 1 0
   pub state : index ≡ stateOf list flag
 
-pub in-holds : (list : List ℕ) (index : CuratorIndex) → stateIn list ≡ State index → Holds list index
+pub in-holds : (list : List ℕ) (index : CuratorIndex) → stateIn list ≡ State index → HoldsState list index
 unfolding stateIn
 in-holds list index h =
     by (ltb (length list) places) refl (eqb (getD list 11 0) 0) refl (eqb (getD list 11 0) 1) refl
   where
     by : (short : Bool) → ltb (length list) places ≡ short → (unset : Bool) → eqb (getD list 11 0) 0 ≡ unset → (set : Bool)
-        → eqb (getD list 11 0) 1 ≡ set → Holds list index
+        → eqb (getD list 11 0) 1 ≡ set → HoldsState list index
     by true e b f b′ g = let z : _≡_ {A = ℕ} 0 1 = cc in absurd (omega arith)
     by false e true f b′ g =
         record { flag = false; room = ltb-false _ _ e; flag-place = eqb-true _ _ f; state = cc }

@@ -8,7 +8,8 @@ ghost use Rattle.curator.specs.Lent.{adding};
 ghost use Rattle.store.specs.Lent.{lent};
 ghost use Rattle.curator.specs.Outcome.{foundNumber, foundValues};
 ghost use Rattle.search.specs.Lent.{filtered, unfiltered};
-ghost use Rattle.curator_c.specs.Results.{paramsOf, capacitiesOf, storable, Returns, hitsAsked};
+ghost use Rattle.settings.specs.Given.{paramsOf, capacitiesOf};
+ghost use Rattle.curator_c.specs.Results.{storable, Returns, hitsAsked};
 ghost use Rattle.curator_c.specs.Results.{NewResult, AddResult, BuildResult, SearchResult};
 
 pub mod state;

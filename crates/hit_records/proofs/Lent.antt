@@ -36,7 +36,7 @@ use denote.Triple.Clauses.{ensured, lasts}
 use denote.Triple.Walked.{says, Stays, stay-slice, stay-none-slice, stay-none, walkOf, ends-at}
 use denote.Exit.{yes}
 use Rattle.hit_records.specs.declared.Hit.{Hit}
-use Rattle.hit_records.specs.Hits.{hitAt, listShort, hitsNumber, hitsStored}
+use Rattle.hit_records.specs.Hits.{hitRecordAt, listShort, hitsNumber, hitsStored}
 use Rattle.hit_records.specs.HitsLaws.{Fit, fit-le, soFar, length-so-far, stored-fit, fills-all}
 use Rattle.hit_records.proofs.Hit as T
 use Rattle.hit_records.proofs.hits_number as hits-number
@@ -151,7 +151,7 @@ module _ (s : Lent) where
 
   -- the record of place i
   abbrev pub hit : ℕ → Hit
-  hit i = hitAt (now (s .ids)) (now (s .distances)) i
+  hit i = hitRecordAt (now (s .ids)) (now (s .distances)) i
 
   -- the loop counts up to what is stored
   abbrev pub Upto : Type 0

@@ -19,8 +19,8 @@ abbrev pub records : List ℕ → List Float → ℕ → List Hit
 records ids distances count = take count (pairs ids distances)
 
 -- one of them, for the function that makes it
-abbrev pub hitAt : List ℕ → List Float → ℕ → Hit
-hitAt ids distances i = record { id = getD ids i 0; distance = getD distances i nan }
+abbrev pub hitRecordAt : List ℕ → List Float → ℕ → Hit
+hitRecordAt ids distances i = record { id = getD ids i 0; distance = getD distances i nan }
 
 -- "Answer places from the hit count on keep what they held"
 abbrev pub filledWith : List Hit → List Hit → List Hit

@@ -11,7 +11,7 @@ use lib.ListN.{length, getD, take, drop, set, List·getD-append}
 use lib.Seq.{paste, paste-zero, paste-suc, length-paste, length-take-le, getD-take, getD-drop, getD-append-add}
 use borrow.Author.Tests.{ltb-false}
 use Rattle.hit_records.specs.declared.Hit.{Hit}
-use Rattle.hit_records.specs.Hits.{pairs, records, hitAt, filledWith, listShort, hitsNumber, hitsStored, hitsLeft, Fills}
+use Rattle.hit_records.specs.Hits.{pairs, records, hitRecordAt, filledWith, listShort, hitsNumber, hitsStored, hitsLeft, Fills}
 
 -- ---- the records of two lists
 
@@ -22,7 +22,7 @@ le-pairs (suc n) [] ds h k = absurd (not-suc-le-zero h)
 le-pairs (suc n) (i ∷ is) [] h k = absurd (not-suc-le-zero k)
 le-pairs (suc n) (i ∷ is) (d ∷ ds) h k = suc-le-suc (le-pairs n is ds (le-of-suc-le-suc h) (le-of-suc-le-suc k))
 
-pub getD-pairs : (is : List ℕ) (ds : List Float) (i : ℕ) (z : Hit) → i < length is → i < length ds → getD (pairs is ds) i z ≡ hitAt is ds i
+pub getD-pairs : (is : List ℕ) (ds : List Float) (i : ℕ) (z : Hit) → i < length is → i < length ds → getD (pairs is ds) i z ≡ hitRecordAt is ds i
 unfolding pairs
 getD-pairs [] ds i z h k = absurd (not-suc-le-zero h)
 getD-pairs (x ∷ is) [] i z h k = absurd (not-suc-le-zero k)
@@ -47,9 +47,9 @@ module _ (hits : List Hit) (ids : List ℕ) (distances : List Float) where
   pub so-far-none : soFar 0 ≡ hits
   so-far-none = sym (paste-zero hits 0 (pairs ids distances))
 
-  pub so-far-more : (i : ℕ) → Fit hits ids distances (i + 1) → set (soFar i) i (hitAt ids distances i) ≡ soFar (i + 1)
+  pub so-far-more : (i : ℕ) → Fit hits ids distances (i + 1) → set (soFar i) i (hitRecordAt ids distances i) ≡ soFar (i + 1)
   so-far-more i fit =
-      let z : Hit = hitAt ids distances i in
+      let z : Hit = hitRecordAt ids distances i in
       let e : 0 + i ≡ i = zero-add i in
       let f : suc i ≡ i + 1 = omega arith in
       let in-hits : 0 + i < length hits = omega (arith, fit .in-hits) in
@@ -121,7 +121,7 @@ module _ (hits : List Hit) (ids : List ℕ) (distances : List Float) (count numb
   length-taken e = let fit = all-fit hits ids distances count e in length-take-le count (pairs ids distances) (le-pairs count ids distances (fit .in-ids) (fit .in-distances))
 
   -- record i is the pair of place i of the two lists, for every i below the count
-  pub record-is : is-short ≡ false → (i : ℕ) (z : Hit) → i < count → getD hits′ i z ≡ hitAt ids distances i
+  pub record-is : is-short ≡ false → (i : ℕ) (z : Hit) → i < count → getD hits′ i z ≡ hitRecordAt ids distances i
   record-is e i z h =
       let fit = all-fit hits ids distances count e in
       ap (λ (l : List Hit). getD l i z) (accepted e .1)

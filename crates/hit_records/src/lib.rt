@@ -5,7 +5,7 @@
 ghost use mathlib.Core.Path.{_≡_};
 ghost use Prim.Native.Nat.{_<_};
 ghost use lib.ListN.{length};
-ghost use Rattle.hit_records.specs.Hits.{Fills, hitAt, hitsNumber, hitsStored, listShort};
+ghost use Rattle.hit_records.specs.Hits.{Fills, hitRecordAt, hitsNumber, hitsStored, listShort};
 
 #[repr(C)]
 pub struct Hit {
@@ -34,7 +34,7 @@ fn hits_stored(number: u32, count: usize) -> usize
 // The record of place i.
 fn hit_at(ids: &[u32], distances: &[f32], i: usize) -> Hit
     requires { ⌜ (i < length (now ids)) × (i < length (now distances)) ⌝ }
-    ensures { λ r. ⌜ r ≡ hitAt (now (ids .entry)) (now (distances .entry)) i ⌝ }
+    ensures { λ r. ⌜ r ≡ hitRecordAt (now (ids .entry)) (now (distances .entry)) i ⌝ }
 {
     Hit {
         id: ids[i],

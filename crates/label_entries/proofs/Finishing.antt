@@ -24,7 +24,7 @@ use Rattle.child_links.specs.Contracts.{ChildCounts}
 use Rattle.entry_leaves.specs.Leaves.{marked, leavesMarked}
 use Rattle.entry_order.specs.EntryOrder.{classStart, classPlace}
 use Rattle.label_entries.specs.Contracts.{held, Room, AllMade, nodesMade}
-use Rattle.node_table.specs.TableLaws.{Distinct, length-written, getD-written-other, getD-written-same, sumTo-congr}
+use Rattle.node_table.specs.TableLaws.{DistinctPlaces, length-written, getD-written-other, getD-written-same, sumTo-congr}
 use Rattle.entry_leaves.specs.LeavesLaws.{length-marked}
 use Rattle.label_entries.proofs.Classes.{classTo, length-class-all, sumTo-block, sorted-is}
 use Rattle.label_entries.proofs.Rows.{noNode, cells-are, id-count, table-is}
@@ -216,7 +216,7 @@ module _ (s : Shape) (n e rows : ℕ) (numbers hashes work₀ : List ℕ) (room 
         ∙ i .is in
         ap (λ (k : ℕ). getD marks k 0) (sym is)
         ∙ marked-at places idCounts rows work
-        (subst (λ (k : ℕ). Distinct places k) (v ∙ sym all)
+        (subst (λ (k : ℕ). DistinctPlaces places k) (v ∙ sym all)
         (order-distinct (made .splitting) (made .vectors) entries (made .branching) noNode places (λ p h. places-are p (omega arith))))
         (λ p h. let x = places-below p h in omega arith)
         (i .leaf) (i .place) leaf-lt (omega arith)

@@ -16,17 +16,17 @@ use Rattle.lists.specs.Tests.{which}
 use Rattle.lists.specs.Partition.{Permᴰ·symm, perm-Memᴰ, count-one-place}
 use Rattle.tree.specs.Tree.{Splitting, treeOf}
 use Rattle.tree.specs.Nodes.{Entries, Node, nodesOf, entriesOf}
-use Rattle.tree.specs.TreeLaws.{Once, once-perm, once-countFrom}
+use Rattle.tree.specs.TreeLaws.{OnceEach, once-perm, once-countFrom}
 use Rattle.tree.specs.NodeLaws.{perm-ids, length-ids, id-one-leaf}
 use Rattle.tree.specs.NumberedNodes.{node-entries}
 use Rattle.node_table.specs.Table.{written, sumTo}
 use Rattle.entry_leaves.specs.Leaves.{marked}
-use Rattle.node_table.specs.TableLaws.{Distinct, last-or-below, getD-written-other, getD-written-same, sumTo-next}
+use Rattle.node_table.specs.TableLaws.{DistinctPlaces, last-or-below, getD-written-other, getD-written-same, sumTo-next}
 use Rattle.entry_leaves.specs.LeavesLaws.{length-marked}
 use Rattle.label_entries.proofs.Classes.{classTo}
 
 -- a block's places bear its number
-pub marked-at : (places counts : ℕ → ℕ) (n : ℕ) (l : List ℕ) → Distinct places (sumTo counts n) → ((p : ℕ) → p < sumTo counts n → places p < length l)
+pub marked-at : (places counts : ℕ → ℕ) (n : ℕ) (l : List ℕ) → DistinctPlaces places (sumTo counts n) → ((p : ℕ) → p < sumTo counts n → places p < length l)
     → (i m : ℕ) → i < n → m < counts i → getD (marked places counts n l) (places (sumTo counts i + m)) 0 ≡ i
 unfolding marked sumTo
 marked-at places counts zero l d b i m h g = absurd (not-suc-le-zero h)
@@ -56,12 +56,12 @@ marked-at places counts (suc n) l d b i m h g =
         ∙ rest c g
 
 module _ (s : Splitting) (vectors : List (List Float)) (e : Entries) (b : 1 ≤ s .branching) (d : Node) where
-  order-once : Once (joined (λ node. node .ids) (nodesOf s vectors e))
+  order-once : OnceEach (joined (λ node. node .ids) (nodesOf s vectors e))
   order-once = once-perm (joined (λ node. node .ids) (nodesOf s vectors e)) (countFrom 0 (length vectors)) (perm-ids s vectors e b) (once-countFrom 0 (length vectors))
 
   -- the leaf order names no vector twice, and only vectors
   pub order-distinct : (places : ℕ → ℕ) → ((p : ℕ) → p < length vectors → places p ≡ getD (joined (λ node. node .ids) (nodesOf s vectors e)) p 0)
-      → Distinct places (length vectors)
+      → DistinctPlaces places (length vectors)
   order-distinct places is i j h g w =
       let order = joined (λ node. node .ids) (nodesOf s vectors e) in
       let n = length-ids s vectors e b in

@@ -79,9 +79,9 @@ AddedEntries c numbers hashes hash owners l before found r found′ =
     (λ x. getD numbers (owners + x) 0) (c .entries) l before found r found′
 
 -- what is read of the entries of a store
-abbrev pub entriesOf : Shape → List ℕ → List ℕ → EntryRead
-entriesOf s numbers hashes = record { hash = λ x. getD hashes x 0; owner = λ x. getD numbers (ownersAt s + x) 0 }
+abbrev pub entryList : Shape → List ℕ → List ℕ → EntryRead
+entryList s numbers hashes = record { hash = λ x. getD hashes x 0; owner = λ x. getD numbers (ownersAt s + x) 0 }
 
 abbrev pub AddedHits : Shape → Counts → List ℕ → List ℕ → Wanted → List ℕ → ℕ → List ℕ → Added → List ℕ → Type 0
 AddedHits s c numbers hashes wanted l before found r found′ =
-    Gathers (allPass (passes wanted c (entriesOf s numbers hashes)) l) (given wanted (entriesOf s numbers hashes) l) (most wanted c) before found r found′
+    Gathers (allPass (passes wanted c (entryList s numbers hashes)) l) (given wanted (entryList s numbers hashes) l) (most wanted c) before found r found′

@@ -41,7 +41,7 @@ use Rattle.load.specs.File.{floats, addCall}
 use Rattle.load.specs.declared.task.Vector.{Vector as Placed}
 use Rattle.load.specs.declared.task.Task.{Task}
 use Rattle.load.specs.declared.task.Task.the-variants.{Done, Add, Find}
-use Rattle.load.specs.Step.{Lent, known, openedBy, foundBy, searchEnd, SearchesBuilt, Keeps, CarriesOut, CarriesRead, CarriesAt, Carries}
+use Rattle.load.specs.Step.{LoadLists, known, openedBy, foundBy, searchEnd, SearchesBuilt, KeepsLists, CarriesOut, CarriesRead, CarriesAt, Carries}
 use Rattle.load.specs.Code.{floatsAt, addAt, CarriesFirst, CarriesNext, Asks, taskOf}
 
 -- ---- settings
@@ -63,15 +63,15 @@ open-narrow x index d next e h =
 
 -- ---- the record at a place
 
-pub stands-carried : (file : List ℕ) (at : ℕ) (loading : Loading) (lent : Lent) (carried : Carried) (lent′ : Lent) (r : format.Record) (next : ℕ)
+pub stands-carried : (file : List ℕ) (at : ℕ) (loading : Loading) (lent : LoadLists) (carried : Carried) (lent′ : LoadLists) (r : format.Record) (next : ℕ)
     → Stands (known loading) file at r next → CarriesOut loading r next lent carried lent′
     → CarriesRead (decode (known loading) (drop at file)) file at loading lent carried lent′
 stands-carried file at loading lent carried lent′ r next s out =
     subst (λ (d : Decoded format.Record). CarriesRead d file at loading lent carried lent′)
     (sym (finds (known loading) (drop at file) r (drop next file) (s .begins))) (next, refl, s .forward, s .inside, out)
 
-pub bad-carried : (file : List ℕ) (at : ℕ) (loading : Loading) (lent : Lent) (carried : Carried) (lent′ : Lent) → Bytes file
-    → ((r : format.Record) (rest : List ℕ) → Begins (known loading) (drop at file) r rest → ⊥) → Keeps lent (Refused (Input BadRecord)) carried lent′
+pub bad-carried : (file : List ℕ) (at : ℕ) (loading : Loading) (lent : LoadLists) (carried : Carried) (lent′ : LoadLists) → Bytes file
+    → ((r : format.Record) (rest : List ℕ) → Begins (known loading) (drop at file) r rest → ⊥) → KeepsLists lent (Refused (Input BadRecord)) carried lent′
     → CarriesRead (decode (known loading) (drop at file)) file at loading lent carried lent′
 bad-carried file at loading lent carried lent′ b never keeps =
     subst (λ (d : Decoded format.Record). CarriesRead d file at loading lent carried lent′)
@@ -79,7 +79,7 @@ bad-carried file at loading lent carried lent′ b never keeps =
 
 -- ---- a build, and the search after it
 
-pub build-refused : (index : CuratorIndex) (call : Lent → SearchCall) (next : ℕ) (lent lent′ : Lent) (answer : Changed) (r : Refusal)
+pub build-refused : (index : CuratorIndex) (call : LoadLists → SearchCall) (next : ℕ) (lent lent′ : LoadLists) (answer : Changed) (r : Refusal)
     → Builds index (lent .store) (lent .work) answer (lent′ .store) (lent′ .work) → answer ≡ Changed′.Refused r → lent′ .ids ≡ lent .ids
     → lent′ .distances ≡ lent .distances
     → SearchesBuilt index call next lent (Refused r) lent′
@@ -91,7 +91,7 @@ build-refused index call next lent lent′ answer r b e i d =
       searches = (refl, refl, i, d);
     }
 
-pub build-searched : (index : CuratorIndex) (call : Lent → SearchCall) (next : ℕ) (lent lent′ : Lent) (answer : Changed) (ready : CuratorIndex)
+pub build-searched : (index : CuratorIndex) (call : LoadLists → SearchCall) (next : ℕ) (lent lent′ : LoadLists) (answer : Changed) (ready : CuratorIndex)
     (work : List ℕ) (reply : Reply) (carried : Carried) → Builds index (lent .store) (lent .work) answer (lent′ .store) work → answer ≡ Changed′.Index ready
     → Searches ready (lent′ .store) work (call lent) (searchEnd reply lent′) → carried ≡ foundBy ready reply next
     → SearchesBuilt index call next lent carried lent′
@@ -125,7 +125,7 @@ task-asks index file at (Vector document lengths-at labels-at place next) n s =
     record {
       stands = record { narrow = n; lengths-order = s .lengths-order; labels-order = s .labels-order; inside = omega (arith, s .floats-end, s .stands .inside) };
       comes = λ lent carried store a.
-          let lent′ : Lent = record { store = store; work = lent .work; ids = lent .ids; distances = lent .distances } in
+          let lent′ : LoadLists = record { store = store; work = lent .work; ids = lent .ids; distances = lent .distances } in
           stands-carried file at (Running index) lent carried lent′ (format.vector document (s .labels) patterns) next (s .stands)
           (record {
             answer = a .0;
@@ -154,15 +154,15 @@ task-asks index file at (Search k place next) n s =
     }
 
 -- what comes to one thing comes to what follows from it
-pub asks-as : (file : List ℕ) (P Q : Lent → Carried → Lent → Type 0)
-    → ((lent : Lent) (carried : Carried) (lent′ : Lent) → P lent carried lent′ → Q lent carried lent′)
+pub asks-as : (file : List ℕ) (P Q : LoadLists → Carried → LoadLists → Type 0)
+    → ((lent : LoadLists) (carried : Carried) (lent′ : LoadLists) → P lent carried lent′ → Q lent carried lent′)
     → (task : Task) → Asks file P task → Asks file Q task
 asks-as file P Q to (Done carried) a = λ lent. to lent carried lent (a lent)
 asks-as file P Q to (Add index v) a = record { stands = a .stands; comes = λ lent carried store h. to lent carried _ (a .comes lent carried store h) }
 asks-as file P Q to (Find index q) a = record { stands = a .stands; comes = λ lent carried lent′ h. to lent carried lent′ (a .comes lent carried lent′ h) }
 
 -- a first record that is not settings
-pub first-misplaced : (file : List ℕ) (at : ℕ) (lent : Lent) (carried : Carried) (located : Located)
+pub first-misplaced : (file : List ℕ) (at : ℕ) (lent : LoadLists) (carried : Carried) (located : Located)
     → OneOf (1 ∷ 2 ∷ 3 ∷ []) (tagOf located-type located)
     → Reads (known Unset) file at (Found located) → carried ≡ Refused (Input SettingsOrder)
     → CarriesRead (decode (known Unset) (drop at file)) file at Unset lent carried lent
@@ -175,28 +175,28 @@ first-misplaced file at lent carried (Search n floats-at next) o s k = stands-ca
 -- ---- the place in the file
 
 module _ (file : List ℕ) (at : ℕ) (loading : Loading) where
-  pub carries-long : (lent : Lent) (carried : Carried) (lent′ : Lent) → 65536 < length file → Keeps lent (Refused (Input FileTooLong)) carried lent′
+  pub carries-long : (lent : LoadLists) (carried : Carried) (lent′ : LoadLists) → 65536 < length file → KeepsLists lent (Refused (Input FileTooLong)) carried lent′
       → Carries file at loading lent carried lent′
   carries-long lent carried lent′ h k =
       subst (λ (b : Bool). CarriesAt b (leb (length file) at) file at loading lent carried lent′) (sym (lt-ltb 65536 (length file) h)) k
 
-  inside : (lent : Lent) (carried : Carried) (lent′ : Lent) (b : Bool) → length file ≤ 65536 → leb (length file) at ≡ b
+  inside : (lent : LoadLists) (carried : Carried) (lent′ : LoadLists) (b : Bool) → length file ≤ 65536 → leb (length file) at ≡ b
       → CarriesAt false b file at loading lent carried lent′ → Carries file at loading lent carried lent′
   inside lent carried lent′ b h e k =
       subst (λ (x : Bool). CarriesAt x (leb (length file) at) file at loading lent carried lent′) (sym (le-ltb 65536 (length file) h))
       (subst (λ (x : Bool). CarriesAt false x file at loading lent carried lent′) (sym e) k)
 
-  pub carries-end : (lent : Lent) (carried : Carried) (lent′ : Lent) → length file ≤ 65536 → length file ≤ at → Keeps lent End carried lent′
+  pub carries-end : (lent : LoadLists) (carried : Carried) (lent′ : LoadLists) → length file ≤ 65536 → length file ≤ at → KeepsLists lent End carried lent′
       → Carries file at loading lent carried lent′
   carries-end lent carried lent′ h l k = inside lent carried lent′ true h (le-leb (length file) at l) k
 
-  pub carries-first : (lent : Lent) (carried : Carried) → length file ≤ 65536 → at < length file → loading ≡ Unset → CarriesFirst file at carried
+  pub carries-first : (lent : LoadLists) (carried : Carried) → length file ≤ 65536 → at < length file → loading ≡ Unset → CarriesFirst file at carried
       → Carries file at loading lent carried lent
   carries-first lent carried h l e k =
       inside lent carried lent false h (lt-leb (length file) at l)
       (subst (λ (x : Loading). CarriesRead (decode (known x) (drop at file)) file at x lent carried lent) (sym e) (k lent))
 
-  pub carries-next : (lent : Lent) (carried : Carried) (lent′ : Lent) (index : CuratorIndex) → length file ≤ 65536 → at < length file
+  pub carries-next : (lent : LoadLists) (carried : Carried) (lent′ : LoadLists) (index : CuratorIndex) → length file ≤ 65536 → at < length file
       → loading ≡ Running index → CarriesNext index file at lent carried lent′
       → Carries file at loading lent carried lent′
   carries-next lent carried lent′ index h l e k =

@@ -20,6 +20,7 @@ use Rattle.walk.specs.Walk as walk
 use Rattle.walk.specs.Walk.{State, damaged, going}
 use Rattle.walk.specs.Answer.{answer, ranked, documentOf, distanceOf}
 use Rattle.curator.specs.declared.CuratorIndex.{CuratorIndex}
+use Rattle.settings.specs.Given.{paramsOf}
 use Rattle.settings.specs.declared.CuratorParams.{CuratorParams}
 use Rattle.settings.specs.declared.Check.{Check}
 use Rattle.settings.specs.declared.Check.the-variants as Check′
@@ -50,36 +51,36 @@ use Rattle.runs.specs.Builds.{build-lengths}
 use Rattle.runs.specs.Reached.{change-keeps, search-step}
 use Rattle.runs.specs.Contents.{alike-expected}
 use Rattle.echo_file.specs.Format.{Record, settings, vector, filtered, unfiltered}
-use Rattle.text.specs.Lines.{hitLines, hitAt, hitLine, closingLine, refusedLine}
+use Rattle.text.specs.Lines.{hitLines, hitLineAt, hitLine, closingLine, refusedLine}
 use Rattle.load.specs.declared.Loading.{Loading}
 use Rattle.load.specs.declared.Loading.the-variants.{Unset, Running}
 use Rattle.load.specs.declared.carry.Carried.{Carried}
 use Rattle.load.specs.declared.carry.Carried.the-variants.{Refused, Silent, Answered}
 use Rattle.load.specs.declared.Step.the-variants.{Next}
 use Rattle.load.specs.File as file
-use Rattle.load.specs.File.{Progress, unset, running, Outcome, stops, printed, largest, fronts, capacities, answerPlaces, searchCall, adding, searching, refusedText, answerText, before, called, outcomeOf, opened, carried}
+use Rattle.load.specs.File.{FileProgress, unset, running, Outcome, stops, printed, largest, fronts, capacities, answerPlaces, searchCall, adding, searching, refusedText, answerText, before, called, outcomeOf, opened, carried}
 use Rattle.load.specs.Step as step
 use Rattle.load.specs.Step.{openedBy, addedBy, foundBy, AddsVector, SearchesBuilt, AfterBuild, searchWith, searchEnd, CarriesOut, carriedText, stepOf}
 use Rattle.load.specs.Theorem.{Sized}
 use Rattle.curator.specs.OutcomeLaws.{found-is}
 
 -- state and store stand for what the model says of the file so far
-abbrev pub Stands : Progress → Loading → Store → Type 0
-Stands unset Unset store = Unit {0}
-Stands unset (Running index) store = ⊥
-Stands (running s m) Unset store = ⊥
-Stands (running s m) (Running index) store = Allowed s × Invariant s m index store
+abbrev pub StandsAs : FileProgress → Loading → Store → Type 0
+StandsAs unset Unset store = Unit {0}
+StandsAs unset (Running index) store = ⊥
+StandsAs (running s m) Unset store = ⊥
+StandsAs (running s m) (Running index) store = Allowed s × Invariant s m index store
 
 -- a record came to what the model says: refused with the same text, or the same text and what stands for the model after it
-abbrev pub Agrees : Outcome → ℕ → Carried → step.Lent → Type 0
+abbrev pub Agrees : Outcome → ℕ → Carried → step.LoadLists → Type 0
 Agrees (stops text) next carried lent = (q : Refusal) × (carried ≡ Refused q) × (refusedText q ≡ text)
 Agrees (printed text progress) next carried lent =
-    (loading : Loading) × ((n : ℕ) → stepOf carried n ≡ Next loading next n) × (carriedText carried (lent .ids) (lent .distances) ≡ text) × Stands progress loading (lent .store)
+    (loading : Loading) × ((n : ℕ) → stepOf carried n ≡ Next loading next n) × (carriedText carried (lent .ids) (lent .distances) ≡ text) × StandsAs progress loading (lent .store)
 
 -- ---- whole lists are lent
 
 -- a change of the whole lists
-change-whole : (s : Setting) → Allowed s → (m : Model) (index : CuratorIndex) (lent : step.Lent) → Sized lent → (work work′ : List ℕ) (store′ : Store) (what : Change) (answer : Changed)
+change-whole : (s : Setting) → Allowed s → (m : Model) (index : CuratorIndex) (lent : step.LoadLists) → Sized lent → (work work′ : List ℕ) (store′ : Store) (what : Change) (answer : Changed)
     → Invariant s m index (lent .store) → Changes what index (lent .store) work answer store′ work′
     → ChangeEnds s m fronts (length work) what answer (nextIndex index answer) store′
 change-whole s allowed m index lent z work work′ store′ what answer inv by =
@@ -89,7 +90,7 @@ change-whole s allowed m index lent z work work′ store′ what answer inv by =
 
 -- ---- settings
 
-open-by : (b : Bool) (index : CuratorIndex) (d : ℕ) (params : CuratorParams) (next : ℕ) (c : Carried) (lent : step.Lent)
+open-by : (b : Bool) (index : CuratorIndex) (d : ℕ) (params : CuratorParams) (next : ℕ) (c : Carried) (lent : step.LoadLists)
     → Creates d params capacities (Changed′.Index index)
     → c ≡ cond b (Refused (Settings InvalidConfig)) (Silent (Running index) next)
     → Agrees (cond b (stops (refusedText (Settings InvalidConfig))) (printed [] (running (record { dimension = d; params = params; capacities = capacities }) emptyModel))) next c lent
@@ -103,7 +104,7 @@ open-by false index d params next c lent e k =
       (accepted .1, begins s index (lent .store) (accepted .0)),
     )
 
-open-agrees : (answer : Changed) (d : ℕ) (params : CuratorParams) (next : ℕ) (c : Carried) (lent : step.Lent) → Creates d params capacities answer
+open-agrees : (answer : Changed) (d : ℕ) (params : CuratorParams) (next : ℕ) (c : Carried) (lent : step.LoadLists) → Creates d params capacities answer
     → c ≡ openedBy answer d next → Agrees (opened answer d params) next c lent
 unfolding opened
 open-agrees (Changed′.Refused r) d params next c lent e k = (r, k, refl)
@@ -121,7 +122,7 @@ refused-called zero later h = absurd (omega (arith, h))
 refused-called (suc n) later h = refl
 
 module _ (s : Setting) (allowed : Allowed s) (index : CuratorIndex) where
-  add-by : (m′ : Model) (next : ℕ) (c : Carried) (lent : step.Lent) (n : ℕ) (answer : Changed) → changedNumber answer ≡ n
+  add-by : (m′ : Model) (next : ℕ) (c : Carried) (lent : step.LoadLists) (n : ℕ) (answer : Changed) → changedNumber answer ≡ n
       → Invariant s m′ (nextIndex index answer) (lent .store) → c ≡ addedBy answer next → Agrees (called (returns n) (printed [] (running s m′))) next c lent
   unfolding called nextIndex refusedText
   add-by m′ next c lent (suc n) (Changed′.Index i) e inv k = absurd (omega (arith, e))
@@ -130,7 +131,7 @@ module _ (s : Setting) (allowed : Allowed s) (index : CuratorIndex) where
   add-by m′ next c lent zero (Changed′.Index i) e inv k =
       (Running i, (λ n. ap (λ (x : Carried). stepOf x n) k), ap (λ (x : Carried). carriedText x (lent .ids) (lent .distances)) k, (allowed, inv))
 
-  add-agrees : (m : Model) (call : AddCall) (next : ℕ) (lent : step.Lent) (c : Carried) (lent′ : step.Lent) → Sized lent → Invariant s m index (lent .store)
+  add-agrees : (m : Model) (call : AddCall) (next : ℕ) (lent : step.LoadLists) (c : Carried) (lent′ : step.LoadLists) → Sized lent → Invariant s m index (lent .store)
       → AddsVector index call next lent c lent′ → Agrees (outcomeOf s m (adding call)) next c lent′
   unfolding outcomeOf expected after
   add-agrees m call next lent c lent′ z inv a =
@@ -147,15 +148,15 @@ getD-front l vs k d h g =
 lines-in-front : (ids : List ℕ) (distances : List Float) (newIds : List ℕ) (newDistances : List Float) → length newDistances ≡ length newIds
     → length newIds ≤ length ids → length newIds ≤ length distances
     → hitLines (sets ids 0 newIds) (sets distances 0 newDistances) (length newIds) ≡ hitLines newIds newDistances (length newIds)
-unfolding hitLines hitAt
+unfolding hitLines hitLineAt
 lines-in-front ids distances newIds newDistances e p q =
-    joined-congr (hitAt (sets ids 0 newIds) (sets distances 0 newDistances)) (hitAt newIds newDistances) (countFrom 0 (length newIds))
+    joined-congr (hitLineAt (sets ids 0 newIds) (sets distances 0 newDistances)) (hitLineAt newIds newDistances) (countFrom 0 (length newIds))
     (λ i k. let below : i < length newIds = (let b = Memᴰ-countFrom i 0 (length newIds) k .1 in omega (arith, b)) in
     ap₂ (λ (id : ℕ) (d : Float). hitLine id (toBits binary32 d)) (getD-front ids newIds i 0 below p)
     (getD-front distances newDistances i nan (omega (arith, below, e)) (omega (arith, q, e))))
 
 module _ (s : Setting) (allowed : Allowed s) (m : Model) (index : CuratorIndex) (next : ℕ) (c : Carried) where
-  answer-by : (w : walk.Progress) (call : SearchCall) (lent : step.Lent) (reply : Found) → call .k ≤ length (call .ids) → call .k ≤ length (call .distances)
+  answer-by : (w : walk.Progress) (call : SearchCall) (lent : step.LoadLists) (reply : Found) → call .k ≤ length (call .ids) → call .k ≤ length (call .distances)
       → AnsweredWith (found (searchEnd reply lent)) (replyOf (answer (call .k) w) call) → c ≡ foundBy index reply next
       → Invariant s m index (lent .store) → Agrees (called (answers (answer (call .k) w)) (printed [] (running s m))) next c lent
   unfolding called before answer answerText
@@ -175,7 +176,7 @@ module _ (s : Setting) (allowed : Allowed s) (m : Model) (index : CuratorIndex) 
         (allowed, inv),
       )
 
-  search-by : (check : Check) (w : State) (call : SearchCall) (lent : step.Lent) (work : List ℕ) (reply : Found)
+  search-by : (check : Check) (w : State) (call : SearchCall) (lent : step.LoadLists) (work : List ℕ) (reply : Found)
       → (check ≡ Check′.Fine → (call .k ≤ length (call .ids)) × (call .k ≤ length (call .distances)))
       → Matches (searchedBy check (call .k) w) (search fronts work call) (found (searchEnd reply lent)) → c ≡ foundBy index reply next
       → Invariant s m index (lent .store) → Agrees (called (searchedBy check (call .k) w) (printed [] (running s m))) next c lent
@@ -187,7 +188,7 @@ module _ (s : Setting) (allowed : Allowed s) (m : Model) (index : CuratorIndex) 
       subst (λ (o : Outcome). Agrees o next c lent) (sym (refused-called (number r) (printed [] (running s m)) (number-positive r))) (q, k, ap refusedLine (h .0))
 
 -- a search with the lists that the code lends, and the file's: alike
-module _ (s : Setting) (m : Model) (k : ℕ) (asked : Asked) (patterns : List ℕ) (lent : step.Lent) (z : Sized lent) where
+module _ (s : Setting) (m : Model) (k : ℕ) (asked : Asked) (patterns : List ℕ) (lent : step.LoadLists) (z : Sized lent) where
   abbrev brought : SearchCall
   brought = searchWith (file.floats patterns) k asked lent
 
@@ -203,7 +204,7 @@ module _ (s : Setting) (m : Model) (k : ℕ) (asked : Asked) (patterns : List �
     },
   )
 
-  search-agrees : (index : CuratorIndex) (next : ℕ) (c : Carried) (lent′ : step.Lent) (work : List ℕ) (reply : Found) → Allowed s → Lent fronts (lent′ .store)
+  search-agrees : (index : CuratorIndex) (next : ℕ) (c : Carried) (lent′ : step.LoadLists) (work : List ℕ) (reply : Found) → Allowed s → Lent fronts (lent′ .store)
       → length work ≡ workSize largest
       → Invariant s m index (lent′ .store) → Searches index (lent′ .store) work brought (searchEnd reply lent′) → c ≡ foundBy index reply next
       → Agrees (called (expected s m (search fronts file.work (searchCall k asked patterns))) (printed [] (running s m))) next c lent′
@@ -231,7 +232,7 @@ module _ (s : Setting) (m : Model) (k : ℕ) (asked : Asked) (patterns : List �
 
 -- a build, and the search after it
 module _ (s : Setting) (allowed : Allowed s) (index : CuratorIndex) (k : ℕ) (asked : Asked) (patterns : List ℕ) (next : ℕ) (c : Carried)
-    (lent lent′ : step.Lent) (z : Sized lent) where
+    (lent lent′ : step.LoadLists) (z : Sized lent) where
   build-by : (m′ : Model) (n : ℕ) (answer : Changed) (work : List ℕ) → changedNumber answer ≡ n → Invariant s m′ (nextIndex index answer) (lent′ .store)
       → Lent fronts (lent′ .store) → length work ≡ workSize largest
       → AfterBuild answer work (searchWith (file.floats patterns) k asked) next lent c lent′
@@ -258,11 +259,11 @@ module _ (s : Setting) (allowed : Allowed s) (index : CuratorIndex) (k : ℕ) (a
 
 -- ---- every record
 
-pub record-agrees : (progress : Progress) (loading : Loading) (r : Record) (next : ℕ) (lent : step.Lent) (c : Carried) (lent′ : step.Lent) → Sized lent
-    → Stands progress loading (lent .store) → CarriesOut loading r next lent c lent′ → Agrees (carried progress r) next c lent′
+pub record-agrees : (progress : FileProgress) (loading : Loading) (r : Record) (next : ℕ) (lent : step.LoadLists) (c : Carried) (lent′ : step.LoadLists) → Sized lent
+    → StandsAs progress loading (lent .store) → CarriesOut loading r next lent c lent′ → Agrees (carried progress r) next c lent′
 unfolding carried
 record-agrees unset Unset (settings d b l e w) next lent c lent′ z h out =
-    let params = file.paramsOf b l e w in
+    let params = paramsOf b l e w in
     let o = out .0 in
     subst (λ (answer : Changed). Agrees (opened answer d params) next c lent′) (creates-is d params capacities (o .answer) (o .creates))
     (open-agrees (o .answer) d params next c lent′ (o .creates) (o .comes))

@@ -29,10 +29,10 @@ use Rattle.load.specs.declared.task.Task.the-variants.{Done, Add, Find}
 use Rattle.load.specs.declared.Step.{Step}
 use Rattle.load.specs.declared.Step.the-variants.{Ended, Next}
 use Rattle.load.specs.File.{floats}
-use Rattle.load.specs.Step.{Lent, known, addedBy, SearchesBuilt, searchWith, CarriesRead}
+use Rattle.load.specs.Step.{LoadLists, known, addedBy, SearchesBuilt, searchWith, CarriesRead}
 
 -- the lists that a step is lent
-abbrev pub lists : RefT (List Float) → RefT (List ℕ) → RefT (List ℕ) → RefT (List ℕ) → RefT (List ℕ) → RefT (List Float) → Lent
+abbrev pub lists : RefT (List Float) → RefT (List ℕ) → RefT (List ℕ) → RefT (List ℕ) → RefT (List ℕ) → RefT (List Float) → LoadLists
 lists floats numbers hashes work ids distances =
     record { store = store.lent floats numbers hashes; work = now work; ids = now ids; distances = now distances }
 
@@ -59,9 +59,9 @@ HitsFit (Answered index next count opened complete) ids distances = (count ≤ l
 
 -- the first record, which no list is lent to, and one after the settings
 abbrev pub CarriesFirst : List ℕ → ℕ → Carried → Type 0
-CarriesFirst file at carried = (lent : Lent) → CarriesRead (decode (known Unset) (drop at file)) file at Unset lent carried lent
+CarriesFirst file at carried = (lent : LoadLists) → CarriesRead (decode (known Unset) (drop at file)) file at Unset lent carried lent
 
-abbrev pub CarriesNext : CuratorIndex → List ℕ → ℕ → Lent → Carried → Lent → Type 0
+abbrev pub CarriesNext : CuratorIndex → List ℕ → ℕ → LoadLists → Carried → LoadLists → Type 0
 CarriesNext index file at lent carried lent′ =
     CarriesRead (decode (known (Running index)) (drop at file)) file at (Running index) lent carried lent′
 
@@ -98,29 +98,29 @@ pub record QueryIn (file : List ℕ) (dimension : ℕ) (q : Query) : Type 0 wher
   pub label-order : q .«label_at» ≤ q .«floats_at»
   pub inside : q .«floats_at» + 4 * dimension ≤ length file
 
-abbrev pub searchAt : ℕ → List ℕ → Query → Lent → SearchCall
+abbrev pub searchAt : ℕ → List ℕ → Query → LoadLists → SearchCall
 searchAt dimension file q =
     searchWith (floatsAt dimension file (q .«floats_at»)) (q .k) (asking (q .filtered) (between (q .«label_at») (q .«floats_at») file))
 
 -- what it comes to after a build
-abbrev pub SearchesAt : CuratorIndex → List ℕ → Query → Lent → Carried → Lent → Type 0
+abbrev pub SearchesAt : CuratorIndex → List ℕ → Query → LoadLists → Carried → LoadLists → Type 0
 SearchesAt index file q lent carried lent′ = SearchesBuilt index (searchAt (index .dimension) file q) (q .next) lent carried lent′
 
 -- The record comes to what its add, or its search, does.
-pub record AsksAdd (file : List ℕ) (Comes : Lent → Carried → Lent → Type 0) (index : CuratorIndex) (v : Vector) : Type 0 where
+pub record AsksAdd (file : List ℕ) (Comes : LoadLists → Carried → LoadLists → Type 0) (index : CuratorIndex) (v : Vector) : Type 0 where
   pub stands : VectorIn file (index .dimension) v
   pub comes :
-      (lent : Lent) (carried : Carried) (store : Store) →
+      (lent : LoadLists) (carried : Carried) (store : Store) →
       AddsAt index file v (lent .store) carried store
       → Comes lent carried (record { store = store; work = lent .work; ids = lent .ids; distances = lent .distances })
 
-pub record AsksFind (file : List ℕ) (Comes : Lent → Carried → Lent → Type 0) (index : CuratorIndex) (q : Query) : Type 0 where
+pub record AsksFind (file : List ℕ) (Comes : LoadLists → Carried → LoadLists → Type 0) (index : CuratorIndex) (q : Query) : Type 0 where
   pub stands : QueryIn file (index .dimension) q
-  pub comes : (lent : Lent) (carried : Carried) (lent′ : Lent) → SearchesAt index file q lent carried lent′ → Comes lent carried lent′
+  pub comes : (lent : LoadLists) (carried : Carried) (lent′ : LoadLists) → SearchesAt index file q lent carried lent′ → Comes lent carried lent′
 
 -- all that is left to do of a record, so that it comes to what it should
-abbrev pub Asks : List ℕ → (Lent → Carried → Lent → Type 0) → Task → Type 0
-Asks file Comes (Done carried) = (lent : Lent) → Comes lent carried lent
+abbrev pub Asks : List ℕ → (LoadLists → Carried → LoadLists → Type 0) → Task → Type 0
+Asks file Comes (Done carried) = (lent : LoadLists) → Comes lent carried lent
 Asks file Comes (Add index v) = AsksAdd file Comes index v
 Asks file Comes (Find index q) = AsksFind file Comes index q
 

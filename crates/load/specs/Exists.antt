@@ -13,6 +13,7 @@ use lib.Seq.{sets, length-sets, length-take-le, drop-drop, drop-append-seam}
 use Rattle.lists.specs.Lists.{joined}
 use Rattle.store.specs.Store.{Store, workSize}
 use Rattle.store.specs.Lent.{lengthsOf, sizesOf}
+use Rattle.settings.specs.Given.{paramsOf}
 use Rattle.settings.specs.declared.CuratorParams.{CuratorParams}
 use Rattle.curator.specs.declared.CuratorIndex.{CuratorIndex}
 use Rattle.curator.specs.declared.Changed.{Changed}
@@ -37,8 +38,8 @@ use Rattle.load.specs.declared.carry.Carried.{Carried}
 use Rattle.load.specs.declared.carry.Carried.the-variants.{End, Refused}
 use Rattle.load.specs.declared.Step.{Step}
 use Rattle.load.specs.declared.Step.the-variants.{Ended, Next}
-use Rattle.load.specs.File.{largest, answerPlaces, capacities, paramsOf, floats, addCall, fileText}
-use Rattle.load.specs.Step.{Lent, known, openedBy, Opens, addedBy, foundBy, searchWith, AddsVector, SearchesBuilt, Keeps, CarriesOut, CarriesRead, CarriesAt, Steps, stepOf, textOf}
+use Rattle.load.specs.File.{largest, answerPlaces, capacities, floats, addCall, fileText}
+use Rattle.load.specs.Step.{LoadLists, known, openedBy, OpensIndex, addedBy, foundBy, searchWith, AddsVector, SearchesBuilt, KeepsLists, CarriesOut, CarriesRead, CarriesAt, Steps, stepOf, stepText}
 use Rattle.load.specs.Onward.{Onward, steps-onward}
 use Rattle.load.specs.Theorem.{Sized, Chain, last, more}
 use Rattle.load.specs.Prints.{prints}
@@ -46,18 +47,18 @@ use Rattle.load.specs.Prints.{prints}
 -- ---- a record can be carried out
 
 -- what a record comes to, and the lists of the store keep their lengths
-record Outcome (P : Carried → Lent → Type 0) (lent : Lent) : Type 0 where
+record Outcome (P : Carried → LoadLists → Type 0) (lent : LoadLists) : Type 0 where
   carried : Carried
-  lent′ : Lent
+  lent′ : LoadLists
   holds : P carried lent′
   lengths : lengthsOf (lent .store) ≡ lengthsOf (lent′ .store)
 
-kept : (lent : Lent) (what : Carried) → Outcome (Keeps lent what) lent
+kept : (lent : LoadLists) (what : Carried) → Outcome (KeepsLists lent what) lent
 kept lent what = record { carried = what; lent′ = lent; holds = (refl, refl); lengths = refl }
 
 -- settings that come first
-opened : (dimension : ℕ) (params : CuratorParams) (next : ℕ) (lent : Lent)
-    → Outcome (λ carried lent′. Opens dimension params next carried × (lent′ ≡ lent)) lent
+opened : (dimension : ℕ) (params : CuratorParams) (next : ℕ) (lent : LoadLists)
+    → Outcome (λ carried lent′. OpensIndex dimension params next carried × (lent′ ≡ lent)) lent
 opened dimension params next lent =
     let answer = created dimension params capacities in
     record {
@@ -68,7 +69,7 @@ opened dimension params next lent =
     }
 
 -- after a build
-built : (index : CuratorIndex) (call : Lent → SearchCall) (next : ℕ) (lent : Lent) (answer : Changed) (store : Store) (work : List ℕ)
+built : (index : CuratorIndex) (call : LoadLists → SearchCall) (next : ℕ) (lent : LoadLists) (answer : Changed) (store : Store) (work : List ℕ)
     → Builds index (lent .store) (lent .work) answer store work → lengthsOf (lent .store) ≡ lengthsOf store → Outcome (SearchesBuilt index call next lent) lent
 built index call next lent (Changed′.Refused r) store work b same =
     record {
@@ -86,13 +87,13 @@ built index call next lent (Changed′.Index ready) store work b same =
       lengths = same;
     }
 
-looked-up : (index : CuratorIndex) (call : Lent → SearchCall) (next : ℕ) (lent : Lent) → Outcome (SearchesBuilt index call next lent) lent
+looked-up : (index : CuratorIndex) (call : LoadLists → SearchCall) (next : ℕ) (lent : LoadLists) → Outcome (SearchesBuilt index call next lent) lent
 looked-up index call next lent =
     let b = change-laws build .outcome index (lent .store) (lent .work) in
     built index call next lent (b .answer) (b .store′) (b .work′) (b .changes)
     (change-laws build .lengths index (lent .store) (lent .work) (b .answer) (b .store′) (b .work′) (b .changes))
 
-added : (index : CuratorIndex) (call : AddCall) (next : ℕ) (lent : Lent) → Outcome (AddsVector index call next lent) lent
+added : (index : CuratorIndex) (call : AddCall) (next : ℕ) (lent : LoadLists) → Outcome (AddsVector index call next lent) lent
 added index call next lent =
     let a = change-laws (add call) .outcome index (lent .store) [] in
     record {
@@ -102,7 +103,7 @@ added index call next lent =
       lengths = change-laws (add call) .lengths index (lent .store) [] (a .answer) (a .store′) (a .work′) (a .changes);
     }
 
-carried-out : (loading : Loading) (r : Record) (next : ℕ) (lent : Lent) → Outcome (CarriesOut loading r next lent) lent
+carried-out : (loading : Loading) (r : Record) (next : ℕ) (lent : LoadLists) → Outcome (CarriesOut loading r next lent) lent
 carried-out Unset (settings d b l e w) next lent = opened d (paramsOf b l e w) next lent
 carried-out Unset (vector document labels patterns) next lent = kept lent (Refused (Input SettingsOrder))
 carried-out Unset (filtered k label patterns) next lent = kept lent (Refused (Input SettingsOrder))
@@ -114,7 +115,7 @@ carried-out (Running index) (unfiltered k patterns) next lent = looked-up index 
 
 module _ (file : List ℕ) (bytes : Bytes file) where
   -- the record at a place
-  carried-read : (d : Decoded Record) (at : ℕ) (loading : Loading) (lent : Lent) → decode (known loading) (drop at file) ≡ d
+  carried-read : (d : Decoded Record) (at : ℕ) (loading : Loading) (lent : LoadLists) → decode (known loading) (drop at file) ≡ d
       → Outcome (CarriesRead d file at loading lent) lent
   carried-read none at loading lent e = kept lent (Refused (Input BadRecord))
   carried-read (found r rest) at loading lent e =
@@ -132,7 +133,7 @@ module _ (file : List ℕ) (bytes : Bytes file) where
         lengths = o .lengths;
       }
 
-  carried-at : (long ended : Bool) (at : ℕ) (loading : Loading) (lent : Lent) → Outcome (CarriesAt long ended file at loading lent) lent
+  carried-at : (long ended : Bool) (at : ℕ) (loading : Loading) (lent : LoadLists) → Outcome (CarriesAt long ended file at loading lent) lent
   carried-at true ended at loading lent = kept lent (Refused (Input FileTooLong))
   carried-at false true at loading lent = kept lent End
   carried-at false false at loading lent = carried-read (decode (known loading) (drop at file)) at loading lent refl
@@ -145,18 +146,18 @@ module _ (file : List ℕ) (bytes : Bytes file) where
       let fits : length t ≤ length (sets (replicate (length t) 0) 0 t) = omega (arith, n) in
       record { list = refl; end = sym (zero-add (length t)); within = fits; front = sym (length-take-le (length t) _ fits) }
 
-  record Stepped (at : ℕ) (loading : Loading) (lent : Lent) : Type 0 where
+  record Stepped (at : ℕ) (loading : Loading) (lent : LoadLists) : Type 0 where
     step : Step
-    lent′ : Lent
+    lent′ : LoadLists
     text : List ℕ
     text′ : List ℕ
     steps : Steps file at loading lent text step lent′ text′
     lengths : lengthsOf (lent .store) ≡ lengthsOf (lent′ .store)
 
-  stepped : (at : ℕ) (loading : Loading) (lent : Lent) → Stepped at loading lent
+  stepped : (at : ℕ) (loading : Loading) (lent : LoadLists) → Stepped at loading lent
   stepped at loading lent =
       let o = carried-at (ltb 65536 (length file)) (leb (length file) at) at loading lent in
-      let t = textOf (o .carried) (o .lent′) in
+      let t = stepText (o .carried) (o .lent′) in
       record {
         step = stepOf (o .carried) (length t);
         lent′ = o .lent′;
@@ -169,26 +170,26 @@ module _ (file : List ℕ) (bytes : Bytes file) where
   -- ---- steps to the end
 
   -- the lists for the next step: the store as it was left
-  abbrev onto : Lent → Store → Lent
+  abbrev onto : LoadLists → Store → LoadLists
   onto lent store = record { store = store; work = lent .work; ids = lent .ids; distances = lent .distances }
 
-  sized-onto : (lent : Lent) (store : Store) → Sized lent → lengthsOf (lent .store) ≡ lengthsOf store → Sized (onto lent store)
+  sized-onto : (lent : LoadLists) (store : Store) → Sized lent → lengthsOf (lent .store) ≡ lengthsOf store → Sized (onto lent store)
   sized-onto lent store z same =
       record { store = sym same ∙ z .store; work = z .work; ids = z .ids; distances = z .distances }
 
   abbrev Goes-on : ℕ → Loading → Store → Type 0
   Goes-on at loading store = (texts : List (List ℕ)) × Chain file at loading store texts
 
-  step-by : (left at : ℕ) → length file - at ≤ left → (loading : Loading) (lent : Lent) → Sized lent → (step : Step) (lent′ : Lent) (text text′ : List ℕ)
+  step-by : (left at : ℕ) → length file - at ≤ left → (loading : Loading) (lent : LoadLists) → Sized lent → (step : Step) (lent′ : LoadLists) (text text′ : List ℕ)
       → Steps file at loading lent text step lent′ text′ → lengthsOf (lent .store) ≡ lengthsOf (lent′ .store) → Onward file at step
-      → ((at′ : ℕ) (loading′ : Loading) (lent′ : Lent) → length file - at′ < left → Sized lent′ → Goes-on at′ loading′ (lent′ .store))
+      → ((at′ : ℕ) (loading′ : Loading) (lent′ : LoadLists) → length file - at′ < left → Sized lent′ → Goes-on at′ loading′ (lent′ .store))
       → Goes-on at loading (lent .store)
   step-by left at le loading lent z (Ended n) lent′ text text′ st same h later = (_, last z st)
   step-by left at le loading lent z (Next loading′ at′ n) lent′ text text′ st same h later =
       let r = later at′ loading′ (onto lent (lent′ .store)) (omega (arith, le, h .0, h .1)) (sized-onto lent (lent′ .store) z same) in
       (_, more z st (r .1))
 
-  chain-within : (left at : ℕ) → length file - at ≤ left → (loading : Loading) (lent : Lent) → Sized lent → Goes-on at loading (lent .store)
+  chain-within : (left at : ℕ) → length file - at ≤ left → (loading : Loading) (lent : LoadLists) → Sized lent → Goes-on at loading (lent .store)
   chain-within zero at le loading lent z =
       let s = stepped at loading lent in
       step-by zero at le loading lent z (s .step) (s .lent′) (s .text) (s .text′) (s .steps) (s .lengths) (steps-onward (s .steps))
@@ -199,13 +200,13 @@ module _ (file : List ℕ) (bytes : Bytes file) where
       (λ at′ loading′ lent′ less sized. chain-within left at′ (omega (arith, less)) loading′ lent′ sized)
 
   -- from every place, whatever the load has come to
-  pub chain-from : (at : ℕ) (loading : Loading) (lent : Lent) → Sized lent → (texts : List (List ℕ)) × Chain file at loading (lent .store) texts
+  pub chain-from : (at : ℕ) (loading : Loading) (lent : LoadLists) → Sized lent → (texts : List (List ℕ)) × Chain file at loading (lent .store) texts
   chain-from at loading lent z = chain-within (length file) at (omega arith) loading lent z
 
 -- ---- every file
 
 -- there are lists of the sizes that the program lends
-pub sized-lists : (lent : Lent) × Sized lent
+pub sized-lists : (lent : LoadLists) × Sized lent
 sized-lists =
     let (store, is) = zeros (sizesOf largest) in (
       record {
@@ -223,6 +224,6 @@ sized-lists =
     )
 
 -- Every file has a chain of steps from its beginning, whatever the lists hold; by `Prints` its texts, joined, are `fileText`.
-pub chain-exists : (file : List ℕ) → Bytes file → (lent : Lent) → Sized lent
+pub chain-exists : (file : List ℕ) → Bytes file → (lent : LoadLists) → Sized lent
     → (texts : List (List ℕ)) × Chain file 0 Unset (lent .store) texts × (joined (λ text. text) texts ≡ fileText file)
 chain-exists file bytes lent z = let r = chain-from file bytes 0 Unset lent z in (r .0, r .1, prints file (lent .store) (r .0) (r .1))

@@ -12,6 +12,7 @@ use Rattle.store.specs.Store.{workSize}
 use Rattle.store.specs.Lent.{sizesOf}
 use Rattle.walk.specs.Answer.{Answer}
 use Rattle.settings.specs.declared.CuratorParams.{CuratorParams}
+use Rattle.settings.specs.Given.{paramsOf}
 use Rattle.settings.specs.declared.Capacities.{Capacities}
 use Rattle.curator.specs.declared.Changed.{Changed}
 use Rattle.curator.specs.declared.Changed.the-variants as Changed′
@@ -51,10 +52,6 @@ fronts = sizesOf largest
 
 -- ---- the calls of a record
 
-abbrev pub paramsOf : ℕ → ℕ → ℕ → ℕ → CuratorParams
-paramsOf branching leaf-size ef beam =
-    record { «branching_factor» = branching; «max_leaf_size» = leaf-size; «ef_search» = ef; «beam_width» = beam }
-
 -- a component by its bits: a NaN's pattern is the one NaN of the language, so that it is refused with 8
 abbrev pub floats : List ℕ → List Float
 floats patterns = map (ofBits binary32) patterns
@@ -86,19 +83,19 @@ searching call = change fronts work build ∷ search fronts work call ∷ []
 -- ---- one record after the other
 
 -- how far a file has come: to its settings or not, and the model of the calls so far
-pub data Progress : Type 0 where
-  unset : Progress
-  running : Setting → Model → Progress
+pub data FileProgress : Type 0 where
+  unset : FileProgress
+  running : Setting → Model → FileProgress
 
 -- 'Before settings, D counts as 0'
-abbrev pub knownOf : Progress → Known
+abbrev pub knownOf : FileProgress → Known
 knownOf unset = record { dimension = 0 }
 knownOf (running s m) = record { dimension = s .dimension }
 
 -- what a record comes to: the last text of the file, or a text after which the file goes on
 pub data Outcome : Type 0 where
   stops : List ℕ → Outcome
-  printed : List ℕ → Progress → Outcome
+  printed : List ℕ → FileProgress → Outcome
 
 -- '`refused` and the number, and ends'
 unfoldable pub refusedText : Refusal → List ℕ
@@ -140,7 +137,7 @@ opened (Changed′.Index index) dimension params =
     (printed [] (running (record { dimension = dimension; params = params; capacities = capacities }) emptyModel))
 
 -- a complete record; 17: 'settings not first, or given again'
-unfoldable pub carried : Progress → Record → Outcome
+unfoldable pub carried : FileProgress → Record → Outcome
 unfolding created opened outcomeOf refusedText
 carried unset (settings dimension branching leaf-size ef beam) =
     let params = paramsOf branching leaf-size ef beam in
@@ -156,22 +153,22 @@ carried (running s m) (unfiltered k patterns) = outcomeOf s m (searching (search
 -- what the front of some bytes comes to; 16: 'unknown mark, or it ends inside a record'
 pub data Front : Type 0 where
   ends : List ℕ → Front
-  goes : List ℕ → Progress → List ℕ → Front
+  goes : List ℕ → FileProgress → List ℕ → Front
 
 unfoldable pub then : Outcome → List ℕ → Front
 then (stops text) rest = ends text
 then (printed text progress) rest = goes text progress rest
 
-unfoldable pub read : Decoded Record → Progress → Front
+unfoldable pub read : Decoded Record → FileProgress → Front
 unfolding then carried refusedText
 read none progress = ends (refusedText (Input BadRecord))
 read (found r rest) progress = then (carried progress r) rest
 
-unfoldable pub front : Progress → List ℕ → Front
+unfoldable pub front : FileProgress → List ℕ → Front
 unfolding read decode
 front progress bytes = read (decode (knownOf progress) bytes) progress
 
-unfoldable pub textOf : Front → (Progress → List ℕ → List ℕ) → List ℕ
+unfoldable pub textOf : Front → (FileProgress → List ℕ → List ℕ) → List ℕ
 textOf (ends text) later = text
 textOf (goes text progress rest) later = text ++ later progress rest
 
@@ -181,7 +178,7 @@ unlessEmpty [] text = []
 unlessEmpty (b ∷ bytes) text = text
 
 -- The text of the bytes that are left. Every record has bytes, so as many steps as bytes are enough.
-unfoldable pub textFrom : ℕ → Progress → List ℕ → List ℕ
+unfoldable pub textFrom : ℕ → FileProgress → List ℕ → List ℕ
 unfolding front textOf unlessEmpty
 textFrom zero progress bytes = []
 textFrom (suc steps) progress bytes = unlessEmpty bytes (textOf (front progress bytes) (λ p rest. textFrom steps p rest))

@@ -23,7 +23,7 @@ use Rattle.load.specs.declared.carry.Carried.{Carried}
 use Rattle.load.specs.declared.carry.Carried.the-variants.{End, Refused, Silent, Answered}
 use Rattle.load.specs.declared.Step.{Step}
 use Rattle.load.specs.declared.Step.the-variants.{Ended, Next}
-use Rattle.load.specs.Step.{Lent, known, openedBy, addedBy, foundBy, SearchesBuilt, AfterBuild, CarriesOut, CarriesRead, CarriesAt, Steps, stepOf, printedOf}
+use Rattle.load.specs.Step.{LoadLists, known, openedBy, addedBy, foundBy, SearchesBuilt, AfterBuild, CarriesOut, CarriesRead, CarriesAt, Steps, stepOf, printedOf}
 
 -- the file goes on at a place behind the record, within a file that is not too long
 abbrev pub Onward : List ℕ → ℕ → Step → Type 0
@@ -62,16 +62,16 @@ module _ (file : List ℕ) (at next : ℕ) (short : length file ≤ 65536) (furt
   found-goes index (Found′.Refused r) n = tt
   found-goes index (Found′.Hits count opened complete) n = (further, within, short)
 
-  after-goes : (x : Changed) (work : List ℕ) (call : Lent → SearchCall) (lent : Lent) (carried : Carried) (lent′ : Lent)
+  after-goes : (x : Changed) (work : List ℕ) (call : LoadLists → SearchCall) (lent : LoadLists) (carried : Carried) (lent′ : LoadLists)
       → AfterBuild x work call next lent carried lent′ → Goes file at carried
   after-goes (Changed′.Refused r) work call lent carried lent′ h = goes-as file at (h .0) (λ n. tt)
   after-goes (Changed′.Index index) work call lent carried lent′ h = goes-as file at (h .2) (found-goes index (h .0))
 
-  built-goes : {index : CuratorIndex} {call : Lent → SearchCall} {lent : Lent} {carried : Carried} {lent′ : Lent}
+  built-goes : {index : CuratorIndex} {call : LoadLists → SearchCall} {lent : LoadLists} {carried : Carried} {lent′ : LoadLists}
       → SearchesBuilt index call next lent carried lent′ → Goes file at carried
   built-goes {index} {call} {lent} {carried} {lent′} h = after-goes (h .answer) (h .work) call lent carried lent′ (h .searches)
 
-  out-goes : (loading : Loading) (r : Record) (lent : Lent) (carried : Carried) (lent′ : Lent) → CarriesOut loading r next lent carried lent′
+  out-goes : (loading : Loading) (r : Record) (lent : LoadLists) (carried : Carried) (lent′ : LoadLists) → CarriesOut loading r next lent carried lent′
       → Goes file at carried
   out-goes Unset (settings d branching leaf-size ef beam) lent carried lent′ h =
       goes-as file at (h .0 .comes) (opened-goes (h .0 .answer) d)
@@ -83,19 +83,19 @@ module _ (file : List ℕ) (at next : ℕ) (short : length file ≤ 65536) (furt
   out-goes (Running index) (filtered k label patterns) lent carried lent′ h = built-goes h
   out-goes (Running index) (unfiltered k patterns) lent carried lent′ h = built-goes h
 
-read-goes : (d : Decoded Record) (file : List ℕ) (at : ℕ) → length file ≤ 65536 → (loading : Loading) (lent : Lent) (carried : Carried) (lent′ : Lent)
+read-goes : (d : Decoded Record) (file : List ℕ) (at : ℕ) → length file ≤ 65536 → (loading : Loading) (lent : LoadLists) (carried : Carried) (lent′ : LoadLists)
     → CarriesRead d file at loading lent carried lent′ → Goes file at carried
 read-goes none file at short loading lent carried lent′ h = goes-as file at (h .0) (λ n. tt)
 read-goes (found r rest) file at short loading lent carried lent′ h = out-goes file at (h .0) short (h .2) (h .3) loading r lent carried lent′ (h .4)
 
-at-goes : (long ended : Bool) (file : List ℕ) (at : ℕ) → ltb 65536 (length file) ≡ long → (loading : Loading) (lent : Lent) (carried : Carried) (lent′ : Lent)
+at-goes : (long ended : Bool) (file : List ℕ) (at : ℕ) → ltb 65536 (length file) ≡ long → (loading : Loading) (lent : LoadLists) (carried : Carried) (lent′ : LoadLists)
     → CarriesAt long ended file at loading lent carried lent′ → Goes file at carried
 at-goes true ended file at e loading lent carried lent′ h = goes-as file at (h .0) (λ n. tt)
 at-goes false true file at e loading lent carried lent′ h = goes-as file at (h .0) (λ n. tt)
 at-goes false false file at e loading lent carried lent′ h =
     read-goes (decode (known loading) (drop at file)) file at (ltb-false 65536 (length file) e) loading lent carried lent′ h
 
-module _ {file : List ℕ} {at : ℕ} {loading : Loading} {lent lent′ : Lent} {text text′ : List ℕ} {step : Step}
+module _ {file : List ℕ} {at : ℕ} {loading : Loading} {lent lent′ : LoadLists} {text text′ : List ℕ} {step : Step}
     (st : Steps file at loading lent text step lent′ text′) where
   pub steps-onward : Onward file at step
   steps-onward =

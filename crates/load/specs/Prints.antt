@@ -27,11 +27,11 @@ use Rattle.load.specs.declared.carry.Carried.{Carried}
 use Rattle.load.specs.declared.carry.Carried.the-variants.{End, Refused}
 use Rattle.load.specs.declared.Step.{Step}
 use Rattle.load.specs.declared.Step.the-variants.{Ended, Next}
-use Rattle.load.specs.File.{Progress, unset, running, knownOf, Outcome, stops, printed, carried, Front, ends, goes, then, read, front, refusedText, textOf, textFrom, fileText}
-use Rattle.load.specs.Step.{Lent, Steps, known, CarriesRead, CarriesAt, carriedText, stepOf, printedOf}
+use Rattle.load.specs.File.{FileProgress, unset, running, knownOf, Outcome, stops, printed, carried, Front, ends, goes, then, read, front, refusedText, textOf, textFrom, fileText}
+use Rattle.load.specs.Step.{LoadLists, Steps, known, CarriesRead, CarriesAt, carriedText, stepOf, printedOf}
 use Rattle.load.specs.Onward.{printed-step}
 use Rattle.load.specs.Theorem.{Sized, Chain, last, more, Prints}
-use Rattle.load.specs.Agrees.{Stands, Agrees, record-agrees}
+use Rattle.load.specs.Agrees.{StandsAs, Agrees, record-agrees}
 
 -- what a step wrote is what it printed
 written-front : {text text′ t : List ℕ} {n : ℕ} → Written text 0 t text′ n → take n text′ ≡ t
@@ -40,7 +40,7 @@ written-front {text} {text′} {t} {n} w =
     ap₂ (λ (k : ℕ) (l : List ℕ). take k l) (w .end ∙ zero-add (length t)) (w .list ∙ sets-eq t text 0 fits) ∙ take-append-seam t (drop (0 + length t) text)
 
 -- the reader knows what the definition knows
-same-known : (progress : Progress) (loading : Loading) (store : Store) → Stands progress loading store → known loading ≡ knownOf progress
+same-known : (progress : FileProgress) (loading : Loading) (store : Store) → StandsAs progress loading store → known loading ≡ knownOf progress
 same-known unset Unset store h = refl
 same-known unset (Running index) store h = absurd h
 same-known (running s m) Unset store h = absurd h
@@ -49,27 +49,27 @@ same-known (running s m) (Running index) store h =
     λ i. record { dimension = e i }
 
 -- What a step comes to, beside what the definition says of the front of the file.
-abbrev Comes : Front → List ℕ → ℕ → Carried → Lent → Type 0
+abbrev Comes : Front → List ℕ → ℕ → Carried → LoadLists → Type 0
 Comes (ends text) file at c lent = (q : Refusal) × (c ≡ Refused q) × (refusedText q ≡ text)
 Comes (goes text progress rest) file at c lent =
     (loading : Loading) × (next : ℕ) × ((n : ℕ) → stepOf c n ≡ Next loading next n) × (carriedText c (lent .ids) (lent .distances) ≡ text)
-    × Stands progress loading (lent .store) × (rest ≡ drop next file) × (at < next)
+    × StandsAs progress loading (lent .store) × (rest ≡ drop next file) × (at < next)
 
-outcome-comes : (o : Outcome) (rest file : List ℕ) (at next : ℕ) (c : Carried) (lent : Lent) → rest ≡ drop next file → at < next → Agrees o next c lent
+outcome-comes : (o : Outcome) (rest file : List ℕ) (at next : ℕ) (c : Carried) (lent : LoadLists) → rest ≡ drop next file → at < next → Agrees o next c lent
     → Comes (then o rest) file at c lent
 unfolding then
 outcome-comes (stops text) rest file at next c lent e l a = a
 outcome-comes (printed text progress) rest file at next c lent e l a = (a .0, next, a .1, a .2, a .3, e, l)
 
-read-comes : (d : Decoded Record) (file : List ℕ) (at : ℕ) (progress : Progress) (loading : Loading) (lent : Lent) (c : Carried) (lent′ : Lent) → Sized lent
-    → Stands progress loading (lent .store) → CarriesRead d file at loading lent c lent′ → Comes (read d progress) file at c lent′
+read-comes : (d : Decoded Record) (file : List ℕ) (at : ℕ) (progress : FileProgress) (loading : Loading) (lent : LoadLists) (c : Carried) (lent′ : LoadLists) → Sized lent
+    → StandsAs progress loading (lent .store) → CarriesRead d file at loading lent c lent′ → Comes (read d progress) file at c lent′
 unfolding read
 read-comes none file at progress loading lent c lent′ z h by = (Input BadRecord, by .0, refl)
 read-comes (found r rest) file at progress loading lent c lent′ z h by =
     outcome-comes (carried progress r) rest file at (by .0) c lent′ (by .1) (by .2) (record-agrees progress loading r (by .0) lent c lent′ z h (by .4))
 
-front-comes : (file : List ℕ) (at : ℕ) (progress : Progress) (loading : Loading) (lent : Lent) (c : Carried) (lent′ : Lent) → Sized lent
-    → Stands progress loading (lent .store) → CarriesRead (decode (known loading) (drop at file)) file at loading lent c lent′
+front-comes : (file : List ℕ) (at : ℕ) (progress : FileProgress) (loading : Loading) (lent : LoadLists) (c : Carried) (lent′ : LoadLists) → Sized lent
+    → StandsAs progress loading (lent .store) → CarriesRead (decode (known loading) (drop at file)) file at loading lent c lent′
     → Comes (front progress (drop at file)) file at c lent′
 unfolding front
 front-comes file at progress loading lent c lent′ z h by =
@@ -90,14 +90,14 @@ abbrev goesOn : Step → Bool
 goesOn (Ended n) = false
 goesOn (Next loading at n) = true
 
-module _ (file : List ℕ) {at : ℕ} {loading : Loading} {lent lent′ : Lent} {text text′ : List ℕ} {step : Step} (st : Steps file at loading lent text step lent′ text′) where
+module _ (file : List ℕ) {at : ℕ} {loading : Loading} {lent lent′ : LoadLists} {text text′ : List ℕ} {step : Step} (st : Steps file at loading lent text step lent′ text′) where
   -- the text of a step
   step-text : take (printedOf step) text′ ≡ carriedText (st .carried) (lent′ .ids) (lent′ .distances)
   step-text =
       ap (λ (k : ℕ). take k text′) (ap printedOf (st .comes) ∙ printed-step (st .carried) (st .printed)) ∙ written-front (st .writes)
 
   -- a file that is not too long, at a place in it
-  step-comes : ltb 65536 (length file) ≡ false → leb (length file) at ≡ false → Sized lent → (progress : Progress) → Stands progress loading (lent .store)
+  step-comes : ltb 65536 (length file) ≡ false → leb (length file) at ≡ false → Sized lent → (progress : FileProgress) → StandsAs progress loading (lent .store)
       → Comes (front progress (drop at file)) file at (st .carried) lent′
   step-comes short inside z progress h =
       front-comes file at progress loading lent (st .carried) lent′ z h
@@ -122,38 +122,38 @@ not-both s t p q e = absurd (false≢true (sym p ∙ ap goesOn e ∙ q))
 -- ---- the rest of the file
 
 -- at its end nothing is printed
-none-left : (steps : ℕ) (progress : Progress) (bytes : List ℕ) → length bytes ≤ 0 → textFrom steps progress bytes ≡ []
+none-left : (steps : ℕ) (progress : FileProgress) (bytes : List ℕ) → length bytes ≤ 0 → textFrom steps progress bytes ≡ []
 unfolding textFrom
 none-left zero progress bytes h = refl
 none-left (suc steps) progress [] h = refl
 none-left (suc steps) progress (b ∷ bytes) h = absurd (omega (arith, h))
 
 -- before it, what the front comes to
-some-left : (steps : ℕ) (progress : Progress) (bytes : List ℕ) → 0 < length bytes
+some-left : (steps : ℕ) (progress : FileProgress) (bytes : List ℕ) → 0 < length bytes
     → textFrom (suc steps) progress bytes ≡ textOf (front progress bytes) (λ p rest. textFrom steps p rest)
 unfolding textFrom
 some-left steps progress [] h = absurd (omega (arith, h))
 some-left steps progress (b ∷ bytes) h = refl
 
 -- the last step
-last-prints : (file : List ℕ) (at : ℕ) (f : Front) (c : Carried) (lent : Lent) (n : ℕ) (later : Progress → List ℕ → List ℕ) → Comes f file at c lent
+last-prints : (file : List ℕ) (at : ℕ) (f : Front) (c : Carried) (lent : LoadLists) (n : ℕ) (later : FileProgress → List ℕ → List ℕ) → Comes f file at c lent
     → goesOn (stepOf c n) ≡ false → carriedText c (lent .ids) (lent .distances) ≡ textOf f later
 unfolding textOf
 last-prints file at (ends text) c lent n later a e = ap (λ (x : Carried). carriedText x (lent .ids) (lent .distances)) (a .1) ∙ a .2
 last-prints file at (goes text progress rest) c lent n later a e = not-both (stepOf c n) (Next (a .0) (a .1) n) e refl (a .2 n)
 
 -- a step after which others come
-record Onward (file : List ℕ) (at : ℕ) (c : Carried) (lent : Lent) (n : ℕ) (f : Front) : Type 0 where
+record Onward (file : List ℕ) (at : ℕ) (c : Carried) (lent : LoadLists) (n : ℕ) (f : Front) : Type 0 where
   text : List ℕ
-  progress : Progress
+  progress : FileProgress
   rest : List ℕ
   is : f ≡ goes text progress rest
   prints : carriedText c (lent .ids) (lent .distances) ≡ text
-  stands : Stands progress (loadingOf (stepOf c n)) (lent .store)
+  stands : StandsAs progress (loadingOf (stepOf c n)) (lent .store)
   left : rest ≡ drop (placeOf (stepOf c n)) file
   further : at < placeOf (stepOf c n)
 
-onward : (file : List ℕ) (at : ℕ) (f : Front) (c : Carried) (lent : Lent) (n : ℕ) → Comes f file at c lent → goesOn (stepOf c n) ≡ true
+onward : (file : List ℕ) (at : ℕ) (f : Front) (c : Carried) (lent : LoadLists) (n : ℕ) → Comes f file at c lent → goesOn (stepOf c n) ≡ true
     → Onward file at c lent n f
 onward file at (ends text) c lent n a e = not-both (stepOf (Refused (a .0)) n) (stepOf c n) refl e (ap (λ (x : Carried). stepOf x n) (sym (a .1)))
 onward file at (goes text progress rest) c lent n a e =
@@ -164,7 +164,7 @@ onward file at (goes text progress rest) c lent n a e =
       rest = rest;
       is = refl;
       prints = a .3;
-      stands = subst (λ (l : Loading). Stands progress l (lent .store)) (ap loadingOf s) (a .4);
+      stands = subst (λ (l : Loading). StandsAs progress l (lent .store)) (ap loadingOf s) (a .4);
       left = subst (λ (k : ℕ). rest ≡ drop k file) (ap placeOf s) (a .5);
       further = subst (λ (k : ℕ). at < k) (ap placeOf s) (a .6);
     }
@@ -177,8 +177,8 @@ module _ (file : List ℕ) (short : ltb 65536 (length file) ≡ false) where
   no-bytes-left : (at : ℕ) → leb (length file) at ≡ true → length (drop at file) ≤ 0
   no-bytes-left at e = let h = leb-true (length file) at e in omega (arith, h, length-drop at file)
 
-  last-from : {at n : ℕ} {loading : Loading} {lent lent′ : Lent} {text text′ : List ℕ} → Sized lent → (st : Steps file at loading lent text (Ended n) lent′ text′)
-      → (progress : Progress) → Stands progress loading (lent .store) → (steps : ℕ) → length (drop at file) ≤ steps → (b : Bool)
+  last-from : {at n : ℕ} {loading : Loading} {lent lent′ : LoadLists} {text text′ : List ℕ} → Sized lent → (st : Steps file at loading lent text (Ended n) lent′ text′)
+      → (progress : FileProgress) → StandsAs progress loading (lent .store) → (steps : ℕ) → length (drop at file) ≤ steps → (b : Bool)
       → leb (length file) at ≡ b
       → carriedText (st .carried) (lent′ .ids) (lent′ .distances) ≡ textFrom steps progress (drop at file)
   last-from {at} {n} {loading} {lent} {lent′} {text} {text′} z st progress h steps le true e =
@@ -190,11 +190,11 @@ module _ (file : List ℕ) (short : ltb 65536 (length file) ≡ false) where
       (ap goesOn (sym (st .comes)))
       ∙ sym (some-left steps progress (drop at file) (bytes-left at e))
 
-  more-from : {at at′ n : ℕ} {loading loading′ : Loading} {lent lent′ : Lent} {text text′ : List ℕ} (texts : List (List ℕ)) → Sized lent
+  more-from : {at at′ n : ℕ} {loading loading′ : Loading} {lent lent′ : LoadLists} {text text′ : List ℕ} (texts : List (List ℕ)) → Sized lent
       → (st : Steps file at loading lent text (Next loading′ at′ n) lent′ text′)
-      → ((progress : Progress) → Stands progress loading′ (lent′ .store) → (steps : ℕ) → length (drop at′ file) ≤ steps
+      → ((progress : FileProgress) → StandsAs progress loading′ (lent′ .store) → (steps : ℕ) → length (drop at′ file) ≤ steps
       → joined (λ t. t) texts ≡ textFrom steps progress (drop at′ file))
-      → (progress : Progress) → Stands progress loading (lent .store) → (steps : ℕ) → length (drop at file) ≤ steps → (b : Bool) → leb (length file) at ≡ b
+      → (progress : FileProgress) → StandsAs progress loading (lent .store) → (steps : ℕ) → length (drop at file) ≤ steps → (b : Bool) → leb (length file) at ≡ b
       → carriedText (st .carried) (lent′ .ids) (lent′ .distances) ++ joined (λ t. t) texts ≡ textFrom steps progress (drop at file)
   unfolding textOf
   more-from {at} {at′} {n} {loading} {loading′} {lent} {lent′} texts z st later progress h steps le true e =
@@ -206,8 +206,8 @@ module _ (file : List ℕ) (short : ltb 65536 (length file) ≡ false) where
       let o : Onward file at (st .carried) lent′ k (front progress (drop at file)) =
       onward file at (front progress (drop at file)) (st .carried) lent′ k (step-comes file st short e z progress h) (ap goesOn (sym (st .comes))) in
       let place : placeOf (stepOf (st .carried) k) ≡ at′ = ap placeOf (sym (st .comes)) in
-      let stands : Stands (o .progress) loading′ (lent′ .store) =
-      subst (λ (l : Loading). Stands (o .progress) l (lent′ .store)) (ap loadingOf (sym (st .comes))) (o .stands) in
+      let stands : StandsAs (o .progress) loading′ (lent′ .store) =
+      subst (λ (l : Loading). StandsAs (o .progress) l (lent′ .store)) (ap loadingOf (sym (st .comes))) (o .stands) in
       let left : o .rest ≡ drop at′ file = o .left ∙ ap (λ (i : ℕ). drop i file) place in
       let fewer : length (drop at′ file) ≤ steps =
       (let f = o .further in let b = bytes-left at e in omega (arith, f, b, place, le, length-drop at file, length-drop at′ file)) in
@@ -216,8 +216,8 @@ module _ (file : List ℕ) (short : ltb 65536 (length file) ≡ false) where
       ∙ sym (ap (λ (f : Front). textOf f (λ p rest. textFrom steps p rest)) (o .is))
       ∙ sym (some-left steps progress (drop at file) (bytes-left at e))
 
-  prints-from : {at : ℕ} {loading : Loading} {store : Store} {texts : List (List ℕ)} → Chain file at loading store texts → (progress : Progress)
-      → Stands progress loading store
+  prints-from : {at : ℕ} {loading : Loading} {store : Store} {texts : List (List ℕ)} → Chain file at loading store texts → (progress : FileProgress)
+      → StandsAs progress loading store
       → (steps : ℕ) → length (drop at file) ≤ steps → joined (λ t. t) texts ≡ textFrom steps progress (drop at file)
   unfolding joined
   prints-from (last {at} {n} {loading} {lent} {lent′} {text} {text′} z st) progress h steps le =

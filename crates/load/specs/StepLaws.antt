@@ -13,6 +13,7 @@ use Rattle.store.specs.Store.{Store}
 use Rattle.walk.specs.Walk.{State, damaged, going}
 use Rattle.walk.specs.Answer.{answer, ranked, documentOf}
 use Rattle.curator.specs.declared.CuratorIndex.{CuratorIndex}
+use Rattle.settings.specs.Given.{paramsOf}
 use Rattle.settings.specs.declared.Check.{Check}
 use Rattle.settings.specs.declared.Check.the-variants as Check′
 use Rattle.curator.specs.declared.Changed.{Changed}
@@ -39,8 +40,8 @@ use Rattle.load.specs.declared.Loading.{Loading}
 use Rattle.load.specs.declared.Loading.the-variants.{Unset, Running}
 use Rattle.load.specs.declared.carry.Carried.{Carried}
 use Rattle.load.specs.declared.carry.Carried.the-variants.{End, Refused, Silent, Answered}
-use Rattle.load.specs.File.{capacities, paramsOf, floats, addCall}
-use Rattle.load.specs.Step.{Lent, known, openedBy, addedBy, foundBy, SearchesBuilt, AfterBuild, searchWith, searchEnd, CarriesOut, CarriesRead, CarriesAt, Carries, stepOf}
+use Rattle.load.specs.File.{capacities, floats, addCall}
+use Rattle.load.specs.Step.{LoadLists, known, openedBy, addedBy, foundBy, SearchesBuilt, AfterBuild, searchWith, searchEnd, CarriesOut, CarriesRead, CarriesAt, Carries, stepOf}
 use Rattle.load.specs.Code.{Narrow, NarrowStep, HitsFit}
 use Rattle.curator.specs.OutcomeLaws.{search-refused-is, carried-is, refused-is, found-is}
 
@@ -91,7 +92,7 @@ searched-fits Check′.Fine index store work call end room h count opened comple
     walked-fits _ index work call end (room refl .0) (room refl .1) (h .walked) count opened complete e
 searched-fits (Check′.Refused r) index store work call end room h count opened complete e = not-hits (sym (search-refused-is _ _ (h .answer)) ∙ e)
 
-found-fits : (index : CuratorIndex) (store : Store) (work : List ℕ) (call : SearchCall) (lent : Lent) (next : ℕ) (i : CuratorIndex) (reply : Found)
+found-fits : (index : CuratorIndex) (store : Store) (work : List ℕ) (call : SearchCall) (lent : LoadLists) (next : ℕ) (i : CuratorIndex) (reply : Found)
     → Searches index store work call (searchEnd reply lent) → HitsFit (foundBy i reply next) (lent .ids) (lent .distances)
 unfolding Searches
 found-fits index store work call lent next i (Found′.Refused r) h = tt
@@ -132,18 +133,18 @@ narrow-builds (Check′.Refused r) index store work answer store′ work′ n h 
 -- ---- what a record came to
 
 -- it has both
-pub record Fit (carried : Carried) (lent : Lent) : Type 0 where
+pub record CarriedFit (carried : Carried) (lent : LoadLists) : Type 0 where
   pub hits : HitsFit carried (lent .ids) (lent .distances)
   pub narrow : NarrowCarried carried
 
-refused-fit : (r : Refusal) (carried : Carried) (lent : Lent) → carried ≡ Refused r → Fit carried lent
-refused-fit r carried lent e = subst (λ (x : Carried). Fit x lent) (sym e) (record { hits = tt; narrow = tt })
+refused-fit : (r : Refusal) (carried : Carried) (lent : LoadLists) → carried ≡ Refused r → CarriedFit carried lent
+refused-fit r carried lent e = subst (λ (x : Carried). CarriedFit x lent) (sym e) (record { hits = tt; narrow = tt })
 
-opened-fit : (x : Changed) (d : ℕ) (params : CuratorParams) (next : ℕ) (lent : Lent) → Creates d params capacities x → Fit (openedBy x d next) lent
+opened-fit : (x : Changed) (d : ℕ) (params : CuratorParams) (next : ℕ) (lent : LoadLists) → Creates d params capacities x → CarriedFit (openedBy x d next) lent
 opened-fit (Changed′.Refused r) d params next lent e = record { hits = tt; narrow = tt }
 opened-fit (Changed′.Index index) d params next lent e = by (ltb 16 d) refl
   where
-    by : (b : Bool) → ltb 16 d ≡ b → Fit (cond b (Refused (Settings InvalidConfig)) (Silent (Running index) next)) lent
+    by : (b : Bool) → ltb 16 d ≡ b → CarriedFit (cond b (Refused (Settings InvalidConfig)) (Silent (Running index) next)) lent
     by true w = record { hits = tt; narrow = tt }
     by false w =
         let is = created-is (record { dimension = d; params = params; capacities = capacities }) index e .0 in
@@ -151,7 +152,7 @@ opened-fit (Changed′.Index index) d params next lent e = by (ltb 16 d) refl
         let h = ltb-false 16 d w in
         record { hits = tt; narrow = omega (arith, h, same) }
 
-added-fit : (x : Changed) (next : ℕ) (lent : Lent) → NarrowChanged x → Fit (addedBy x next) lent
+added-fit : (x : Changed) (next : ℕ) (lent : LoadLists) → NarrowChanged x → CarriedFit (addedBy x next) lent
 added-fit (Changed′.Refused r) next lent n = record { hits = tt; narrow = tt }
 added-fit (Changed′.Index index) next lent n = record { hits = tt; narrow = n }
 
@@ -159,31 +160,31 @@ narrow-found : (index : CuratorIndex) (reply : Found) (next : ℕ) → index .di
 narrow-found index (Found′.Refused r) next n = tt
 narrow-found index (Found′.Hits count opened complete) next n = n
 
-after-fit : (x : Changed) (work : List ℕ) (call : Lent → SearchCall) (next : ℕ) (lent : Lent) (carried : Carried) (lent′ : Lent) → NarrowChanged x
-    → AfterBuild x work call next lent carried lent′ → Fit carried lent′
+after-fit : (x : Changed) (work : List ℕ) (call : LoadLists → SearchCall) (next : ℕ) (lent : LoadLists) (carried : Carried) (lent′ : LoadLists) → NarrowChanged x
+    → AfterBuild x work call next lent carried lent′ → CarriedFit carried lent′
 after-fit (Changed′.Refused r) work call next lent carried lent′ n h = refused-fit r carried lent′ (h .0)
 after-fit (Changed′.Index index) work call next lent carried lent′ n h =
-    subst (λ (x : Carried). Fit x lent′) (sym (h .2))
+    subst (λ (x : Carried). CarriedFit x lent′) (sym (h .2))
     (record { hits = found-fits index (lent′ .store) work (call lent) lent′ next index (h .0) (h .1); narrow = narrow-found index (h .0) next n })
 
-built-fit : (index : CuratorIndex) (call : Lent → SearchCall) (next : ℕ) (lent : Lent) (carried : Carried) (lent′ : Lent) → index .dimension ≤ 16
-    → SearchesBuilt index call next lent carried lent′ → Fit carried lent′
+built-fit : (index : CuratorIndex) (call : LoadLists → SearchCall) (next : ℕ) (lent : LoadLists) (carried : Carried) (lent′ : LoadLists) → index .dimension ≤ 16
+    → SearchesBuilt index call next lent carried lent′ → CarriedFit carried lent′
 unfolding Builds
 built-fit index call next lent carried lent′ n h =
     after-fit (h .answer) (h .work) call next lent carried lent′
     (narrow-builds (buildCheck index (lent .store) (lent .work)) index (lent .store) (lent .work) (h .answer) (lent′ .store) (h .work) n (h .builds)) (h .searches)
 
-out-fit : (loading : Loading) (r : format.Record) (next : ℕ) (lent : Lent) (carried : Carried) (lent′ : Lent) → Narrow loading
-    → CarriesOut loading r next lent carried lent′ → Fit carried lent′
+out-fit : (loading : Loading) (r : format.Record) (next : ℕ) (lent : LoadLists) (carried : Carried) (lent′ : LoadLists) → Narrow loading
+    → CarriesOut loading r next lent carried lent′ → CarriedFit carried lent′
 unfolding Adds
 out-fit Unset (format.settings d b l e w) next lent carried lent′ n h =
-    subst (λ (x : Carried). Fit x lent′) (sym (h .0 .comes)) (opened-fit (h .0 .answer) d (paramsOf b l e w) next lent′ (h .0 .creates))
+    subst (λ (x : Carried). CarriedFit x lent′) (sym (h .0 .comes)) (opened-fit (h .0 .answer) d (paramsOf b l e w) next lent′ (h .0 .creates))
 out-fit Unset (format.vector document labels patterns) next lent carried lent′ n h = refused-fit (Input SettingsOrder) carried lent′ (h .0)
 out-fit Unset (format.filtered k label patterns) next lent carried lent′ n h = refused-fit (Input SettingsOrder) carried lent′ (h .0)
 out-fit Unset (format.unfiltered k patterns) next lent carried lent′ n h = refused-fit (Input SettingsOrder) carried lent′ (h .0)
 out-fit (Running index) (format.settings d b l e w) next lent carried lent′ n h = refused-fit (Input SettingsOrder) carried lent′ (h .0)
 out-fit (Running index) (format.vector document labels patterns) next lent carried lent′ n h =
-    subst (λ (x : Carried). Fit x lent′) (sym (h .comes))
+    subst (λ (x : Carried). CarriedFit x lent′) (sym (h .comes))
     (added-fit (h .answer) next lent′
     (narrow-adds (addCheck index (lent .store) (addCall document labels patterns)) index (lent .store) (addCall document labels patterns) (h .answer) (lent′ .store) n (h .adds)))
 out-fit (Running index) (format.filtered k label patterns) next lent carried lent′ n h =
@@ -191,25 +192,25 @@ out-fit (Running index) (format.filtered k label patterns) next lent carried len
 out-fit (Running index) (format.unfiltered k patterns) next lent carried lent′ n h =
     built-fit index (searchWith (floats patterns) k everything) next lent carried lent′ n h
 
-read-fit : (d : Decoded format.Record) (file : List ℕ) (at : ℕ) (loading : Loading) (lent : Lent) (carried : Carried) (lent′ : Lent) → Narrow loading
-    → CarriesRead d file at loading lent carried lent′ → Fit carried lent′
+read-fit : (d : Decoded format.Record) (file : List ℕ) (at : ℕ) (loading : Loading) (lent : LoadLists) (carried : Carried) (lent′ : LoadLists) → Narrow loading
+    → CarriesRead d file at loading lent carried lent′ → CarriedFit carried lent′
 read-fit none file at loading lent carried lent′ n h = refused-fit (Input BadRecord) carried lent′ (h .0)
 read-fit (found r rest) file at loading lent carried lent′ n h = out-fit loading r (h .0) lent carried lent′ n (h .4)
 
-at-fit : (long ended : Bool) (file : List ℕ) (at : ℕ) (loading : Loading) (lent : Lent) (carried : Carried) (lent′ : Lent) → Narrow loading
-    → CarriesAt long ended file at loading lent carried lent′ → Fit carried lent′
+at-fit : (long ended : Bool) (file : List ℕ) (at : ℕ) (loading : Loading) (lent : LoadLists) (carried : Carried) (lent′ : LoadLists) → Narrow loading
+    → CarriesAt long ended file at loading lent carried lent′ → CarriedFit carried lent′
 at-fit true ended file at loading lent carried lent′ n h = refused-fit (Input FileTooLong) carried lent′ (h .0)
-at-fit false true file at loading lent carried lent′ n h = subst (λ (x : Carried). Fit x lent′) (sym (h .0)) (record { hits = tt; narrow = tt })
+at-fit false true file at loading lent carried lent′ n h = subst (λ (x : Carried). CarriedFit x lent′) (sym (h .0)) (record { hits = tt; narrow = tt })
 at-fit false false file at loading lent carried lent′ n h =
     read-fit (decode (known loading) (drop at file)) file at loading lent carried lent′ n h
 
-pub carries-fit : (file : List ℕ) (at : ℕ) (loading : Loading) (lent : Lent) (carried : Carried) (lent′ : Lent) → Narrow loading
-    → Carries file at loading lent carried lent′ → Fit carried lent′
+pub carries-fit : (file : List ℕ) (at : ℕ) (loading : Loading) (lent : LoadLists) (carried : Carried) (lent′ : LoadLists) → Narrow loading
+    → Carries file at loading lent carried lent′ → CarriedFit carried lent′
 carries-fit file at loading lent carried lent′ n h =
     at-fit (ltb 65536 (length file)) (leb (length file) at) file at loading lent carried lent′ n h
 
 -- so the next step may begin
-pub narrow-step : (carried : Carried) (lent : Lent) (n : ℕ) → Fit carried lent → NarrowStep (stepOf carried n)
+pub narrow-step : (carried : Carried) (lent : LoadLists) (n : ℕ) → CarriedFit carried lent → NarrowStep (stepOf carried n)
 narrow-step End lent n f = tt
 narrow-step (Refused r) lent n f = tt
 narrow-step (Silent loading next) lent n f = f .narrow

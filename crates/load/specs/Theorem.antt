@@ -10,10 +10,10 @@ use Rattle.load.specs.declared.Loading.{Loading}
 use Rattle.load.specs.declared.Loading.the-variants.{Unset}
 use Rattle.load.specs.declared.Step.the-variants.{Ended, Next}
 use Rattle.load.specs.File.{largest, answerPlaces, fileText}
-use Rattle.load.specs.Step.{Lent, Steps}
+use Rattle.load.specs.Step.{LoadLists, Steps}
 
 -- the sizes of the lists that the program lends
-pub record Sized (lent : Lent) : Type 0 where
+pub record Sized (lent : LoadLists) : Type 0 where
   pub store : lengthsOf (lent .store) ≡ sizesOf largest
   pub work : length (lent .work) ≡ workSize largest
   pub ids : length (lent .ids) ≡ answerPlaces
@@ -23,10 +23,10 @@ pub record Sized (lent : Lent) : Type 0 where
 -- and text lists may be others at each step.
 pub data Chain (file : List ℕ) : ℕ → Loading → Store → List (List ℕ) → Type 0 where
   last :
-      {at n : ℕ} {loading : Loading} {lent lent′ : Lent} {text text′ : List ℕ} →
+      {at n : ℕ} {loading : Loading} {lent lent′ : LoadLists} {text text′ : List ℕ} →
       Sized lent → Steps file at loading lent text (Ended n) lent′ text′ → Chain file at loading (lent .store) (take n text′ ∷ [])
   more :
-      {at at′ n : ℕ} {loading loading′ : Loading} {lent lent′ : Lent} {text text′ : List ℕ} {texts : List (List ℕ)} →
+      {at at′ n : ℕ} {loading loading′ : Loading} {lent lent′ : LoadLists} {text text′ : List ℕ} {texts : List (List ℕ)} →
       Sized lent → Steps file at loading lent text (Next loading′ at′ n) lent′ text′ → Chain file at′ loading′ (lent′ .store) texts
       → Chain file at loading (lent .store) (take n text′ ∷ texts)
 

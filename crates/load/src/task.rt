@@ -1,7 +1,7 @@
 // What a record asks for: found with no list lent.
 ghost use mathlib.Core.Path.{_≡_};
 ghost use Prim.Native.Nat.{_≤_};
-ghost use Rattle.load.specs.Step.{Carries, Opens};
+ghost use Rattle.load.specs.Step.{Carries, OpensIndex};
 ghost use Rattle.load.specs.Code.{Narrow, CarriesFirst, CarriesNext, Asks, queryOf, taskOf};
 use crate::Loading;
 use crate::carry::Carried;
@@ -44,7 +44,7 @@ pub enum Task {
 
 // Settings that come first open the index. The lists have no room for a dimension above 16.
 fn open(dimension: usize, params: CuratorParams, next: usize) -> Carried
-    ensures { λ r. ⌜ Opens dimension params next r ⌝ }
+    ensures { λ r. ⌜ OpensIndex dimension params next r ⌝ }
 {
     let room = Capacities {
         vectors: 128,

@@ -27,13 +27,13 @@ last-or-below i n h = go (which (eqb i n))
     go (inr e) = inr (lt-of-le-ne (le-of-suc-le-suc h) (eqb-false i n e))
 
 -- no place twice
-abbrev pub Distinct : (ℕ → ℕ) → ℕ → Type 0
-Distinct p n = (i j : ℕ) → j < i → i < n → p i ≡ p j → ⊥
+abbrev pub DistinctPlaces : (ℕ → ℕ) → ℕ → Type 0
+DistinctPlaces p n = (i j : ℕ) → j < i → i < n → p i ≡ p j → ⊥
 
-pub distinct-cells : (at n : ℕ) → Distinct (cellAt at) n
+pub distinct-cells : (at n : ℕ) → DistinctPlaces (cellAt at) n
 distinct-cells at n i j h g e = omega arith
 
-fewer : (p : ℕ → ℕ) (n : ℕ) → Distinct p (suc n) → Distinct p n
+fewer : (p : ℕ → ℕ) (n : ℕ) → DistinctPlaces p (suc n) → DistinctPlaces p n
 fewer p n d i j h g = d i j h (let k : i < suc n = omega arith in k)
 
 -- a turn of a loop that writes
@@ -57,7 +57,7 @@ getD-written-other p f (suc n) l q h =
     getD-set-other (written p f n l) (p n) q (f n) 0 (h n (let k : n < suc n = omega arith in k))
     ∙ getD-written-other p f n l q (λ i g. h i (let k : i < suc n = omega arith in k))
 
-pub getD-written-same : (p f : ℕ → ℕ) (n : ℕ) (l : List ℕ) (i : ℕ) → Distinct p n → i < n → p i < length l → getD (written p f n l) (p i) 0 ≡ f i
+pub getD-written-same : (p f : ℕ → ℕ) (n : ℕ) (l : List ℕ) (i : ℕ) → DistinctPlaces p n → i < n → p i < length l → getD (written p f n l) (p i) 0 ≡ f i
 unfolding written
 getD-written-same p f zero l i d h g = absurd (not-suc-le-zero h)
 getD-written-same p f (suc n) l i d h g = go (last-or-below i n h) (λ b. getD-written-same p f n l i (fewer p n d) b g)
@@ -90,7 +90,7 @@ set-written-other p f (suc n) l q x h =
     ∙ ap (λ (r : List ℕ). set r (p n) (f n)) (set-written-other p f n l q x (λ i g. h i (let k : i < suc n = omega arith in k)))
 
 -- the later of two writers wins
-pub written-over : (p f g : ℕ → ℕ) (n : ℕ) (l : List ℕ) → Distinct p n → written p f n (written p g n l) ≡ written p f n l
+pub written-over : (p f g : ℕ → ℕ) (n : ℕ) (l : List ℕ) → DistinctPlaces p n → written p f n (written p g n l) ≡ written p f n l
 unfolding written
 written-over p f g zero l d = refl
 written-over p f g (suc n) l d =
@@ -100,7 +100,7 @@ written-over p f g (suc n) l d =
     ∙ ap (λ (r : List ℕ). set r (p n) (f n)) (written-over p f g n l (fewer p n d))
 
 -- a store at one of the places
-pub set-written : (p f g : ℕ → ℕ) (n : ℕ) (l : List ℕ) (i x : ℕ) → Distinct p n → i < n → ((j : ℕ) → j < n → (j ≡ i → ⊥) → f j ≡ g j) → x ≡ g i
+pub set-written : (p f g : ℕ → ℕ) (n : ℕ) (l : List ℕ) (i x : ℕ) → DistinctPlaces p n → i < n → ((j : ℕ) → j < n → (j ≡ i → ⊥) → f j ≡ g j) → x ≡ g i
     → set (written p f n l) (p i) x ≡ written p g n l
 unfolding written
 set-written p f g zero l i x d h other e = absurd (not-suc-le-zero h)

@@ -12,7 +12,7 @@ use Rattle.load.specs.declared.Loading.the-variants.{Unset}
 use Rattle.load.specs.declared.Step.{Step}
 use Rattle.load.specs.declared.Step.the-variants.{Ended, Next}
 use Rattle.load.specs.File.{fileText}
-use Rattle.load.specs.Step.{Lent, Steps, printedOf}
+use Rattle.load.specs.Step.{LoadLists, Steps, printedOf}
 use Rattle.load.specs.Theorem.{Sized, Chain, last, more}
 use Rattle.load.specs.Prints.{prints}
 use Rattle.load.specs.Exists.{chain-from}
@@ -34,7 +34,7 @@ pub begins : (file : List ℕ) (store : Store) → Reached file 0 0 Unset store
 begins file store = record { before = []; count = refl; rest = λ texts chain. sym (prints file store texts chain) }
 
 -- a step from there, whose text is handed on
-module _ {file : List ℕ} {done at : ℕ} {loading : Loading} {lent lent′ : Lent} {text text′ : List ℕ} (here : Reached file done at loading (lent .store))
+module _ {file : List ℕ} {done at : ℕ} {loading : Loading} {lent lent′ : LoadLists} {text text′ : List ℕ} (here : Reached file done at loading (lent .store))
     (z : Sized lent) where
   -- its text comes next: after the last step nothing does, and after any other some chain goes on
   pub text-due : Bytes file → Sized lent′ → (step : Step) → Steps file at loading lent text step lent′ text′ → Due file done (take (printedOf step) text′)

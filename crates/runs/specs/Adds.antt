@@ -29,7 +29,7 @@ use Rattle.runs.specs.Calls.{add}
 use Rattle.runs.specs.Model.{Setting, Model, ModelRow, rowHashes, modelFacts, nodeCount, settingShape, changeRows, changeCheck, carriedOut, changedBy, newRow}
 use Rattle.runs.specs.Run.{nextIndex}
 use Rattle.runs.specs.Theorem.{withBudget}
-use Rattle.runs.specs.State.{Allowed, Within, Small, stateOf, nodesHeld}
+use Rattle.runs.specs.State.{Allowed, Within, Small, stateFor, nodesHeld}
 use Rattle.runs.specs.Held.{Held, held-added, withRow, length-rows, count-more, wrote-lengths, writes}
 use Rattle.runs.specs.Refusals.{add-refused}
 use Rattle.runs.specs.Built.{Laid}
@@ -39,7 +39,7 @@ use Rattle.curator.specs.OutcomeLaws.{refused-is, is-refused, carried-is, is-ca
 
 -- ---- the model after it
 
-within-added : (s : Setting) (m : Model) (call : AddCall) (store : Store) → m .built ≡ false → AddRoom (stateOf s m) store call
+within-added : (s : Setting) (m : Model) (call : AddCall) (store : Store) → m .built ≡ false → AddRoom (stateFor s m) store call
     → Within s (withRow m (newRow call))
 within-added s m call store b room =
     record {
@@ -54,7 +54,7 @@ unfolding nodesHeld
 no-nodes true s m m′ e = absurd (false≢true (sym e))
 no-nodes false s m m′ e = refl
 
-state-added : (s : Setting) (m : Model) (call : AddCall) → m .built ≡ false → grown (stateOf s m) (length (call .lengths)) ≡ stateOf s (withRow m (newRow call))
+state-added : (s : Setting) (m : Model) (call : AddCall) → m .built ≡ false → grown (stateFor s m) (length (call .lengths)) ≡ stateFor s (withRow m (newRow call))
 state-added s m call b =
     let r = newRow call in
     let v : length (m .rows) + 1 ≡ length (withRow m r .rows) = add-one (length (m .rows)) ∙ sym (length-rows m r) in
@@ -71,44 +71,44 @@ state-added s m call b =
 -- ---- the step
 
 module _ (s : Setting) (allowed : Allowed s) (m : Model) (front rest front′ : Store) (call : AddCall) (answer : Changed)
-    (inv : Invariant s m (stateOf s m) (joinStores front rest)) where
-  ends : (check : Check) → addCheck (stateOf s m) front call ≡ check → AddsBy check (stateOf s m) front call answer front′
-      → (changedNumber answer ≡ checkNumber check) × Invariant s (changedBy check (add call) m) (nextIndex (stateOf s m) answer) (joinStores front′ rest)
+    (inv : Invariant s m (stateFor s m) (joinStores front rest)) where
+  ends : (check : Check) → addCheck (stateFor s m) front call ≡ check → AddsBy check (stateFor s m) front call answer front′
+      → (changedNumber answer ≡ checkNumber check) × Invariant s (changedBy check (add call) m) (nextIndex (stateFor s m) answer) (joinStores front′ rest)
   unfolding AddsBy changedBy nextIndex
   ends (Check′.Refused r) e by =
       let same : joinStores front rest ≡ joinStores front′ rest = ap (λ (f : Store). joinStores f rest) (sym (by .1)) in (
         by .0 .number-is,
         record {
-          state = ap (nextIndex (stateOf s m)) (refused-is r answer (by .0));
+          state = ap (nextIndex (stateFor s m)) (refused-is r answer (by .0));
           within = inv .within;
           held = subst (Held s m) same (inv .held);
           laid = λ b. subst (Laid s m) same (inv .laid b);
         },
       )
   ends Check′.Fine e by =
-      let found : Accepted (stateOf s m) front call = add-facts (stateOf s m) front call e in
+      let found : Accepted (stateFor s m) front call = add-facts (stateFor s m) front call e in
       let room = found .room in
       let m′ = withRow m (newRow call) in
       let h′ : Held s m′ front′ = held-added s m call front front′ room (by .1) (held-front s m front rest (inv .within) (room .long) (inv .held)) in
       let w : Within s m′ = within-added s m call front (found .unbuilt) room in
       let long′ : Long (settingShape s) (lengthsOf front′) =
-      subst (Long (settingShape s)) (wrote-lengths (stateOf s m) front call front′ (by .1)) (room .long) in (
+      subst (Long (settingShape s)) (wrote-lengths (stateFor s m) front call front′ (by .1)) (room .long) in (
         by .0 .number-is,
         record {
-          state = ap (nextIndex (stateOf s m)) (carried-is (grown (stateOf s m) (length (call .lengths))) answer (by .0)) ∙ state-added s m call (found .unbuilt);
+          state = ap (nextIndex (stateFor s m)) (carried-is (grown (stateFor s m) (length (call .lengths))) answer (by .0)) ∙ state-added s m call (found .unbuilt);
           within = w;
           held = held-back s m′ front′ rest w long′ h′;
           laid = λ b. absurd (false≢true (sym (found .unbuilt) ∙ b));
         },
       )
 
-  add-keeps : (work : ℕ) → Adds (stateOf s m) front call answer front′
-      → ChangeEnds s m (lengthsOf front) work (add call) answer (nextIndex (stateOf s m) answer) (joinStores front′ rest)
+  add-keeps : (work : ℕ) → Adds (stateFor s m) front call answer front′
+      → ChangeEnds s m (lengthsOf front) work (add call) answer (nextIndex (stateFor s m) answer) (joinStores front′ rest)
   unfolding Adds
   add-keeps work adds =
       let same = add-refused s m allowed (inv .within) front work call in
       let r = ends (changeCheck s m (lengthsOf front) work (add call)) same
-      (subst (λ (c : Check). AddsBy c (stateOf s m) front call answer front′) same adds) in
+      (subst (λ (c : Check). AddsBy c (stateFor s m) front call answer front′) same adds) in
       record { number-is = r .0; invariant = r .1 }
 
 -- ---- the rest that is owed

@@ -31,8 +31,8 @@ use Rattle.runs.specs.Calls.{build}
 use Rattle.runs.specs.Model.{Setting, Model, rowVectors, rowHashes, rowEntries, nodeCount, modelNodes, modelFacts, settingShape, changeRows, changeCheck, carriedOut, changedBy}
 use Rattle.runs.specs.Run.{nextIndex}
 use Rattle.runs.specs.Theorem.{withBudget}
-use Rattle.runs.specs.State.{Allowed, Within, Small, stateOf, nodesHeld}
-use Rattle.runs.specs.Held.{Held, rowsEnd, SameHeld, held-same}
+use Rattle.runs.specs.State.{Allowed, Within, Small, stateFor, nodesHeld}
+use Rattle.runs.specs.Held.{Held, rowsEnd, SameRows, held-same}
 use Rattle.runs.specs.Refusals.{build-refused, build-room, BuildRoom}
 use Rattle.runs.specs.Built.{Laid, NodeFacts, node-facts, laid-same, laid-out, built-held, held-nodes, laid-lengths, lays-out, left-lengths, left-same, left-held, leaves}
 use Rattle.runs.specs.Invariant.{Invariant, long-same, held-front, held-back}
@@ -82,7 +82,7 @@ within-rows : (s : Setting) (m : Model) → Within s m → 0 < length (m .rows) 
 unfolding rowHashes nodeCount rowVectors
 within-rows s m w some fits = record { vectors = w .vectors; entries = w .entries; rows = λ b. some; nodes = λ b. fits }
 
-state-built : (s : Setting) (m : Model) (n : ℕ) → n ≡ nodeCount s m → builtWith (stateOf s m) n ≡ stateOf s (builtModel m)
+state-built : (s : Setting) (m : Model) (n : ℕ) → n ≡ nodeCount s m → builtWith (stateFor s m) n ≡ stateFor s (builtModel m)
 unfolding nodesHeld
 state-built s m n e =
     let h : length (rowHashes m) ≡ length (rowHashes (builtModel m)) = ap length (sym (hashes-rows m)) in
@@ -98,22 +98,22 @@ state-built s m n e =
 -- ---- the step
 
 module _ (s : Setting) (allowed : Allowed s) (m : Model) (work work′ : List ℕ) (front rest front′ : Store) (answer : Changed)
-    (inv : Invariant s m (stateOf s m) (joinStores front rest)) where
+    (inv : Invariant s m (stateFor s m) (joinStores front rest)) where
   abbrev check : Check
   check = changeCheck s m (lengthsOf front) (length work) build
 
   front-held : Long (settingShape s) (lengthsOf front) → Held s m front
   front-held long = held-front s m front rest (inv .within) long (inv .held)
 
-  refused-ends : (r : Refusal) → check ≡ Check′.Refused r → BuildsBy (Check′.Refused r) (stateOf s m) front work answer front′ work′
-      → Invariant s m (nextIndex (stateOf s m) answer) (joinStores front′ rest)
+  refused-ends : (r : Refusal) → check ≡ Check′.Refused r → BuildsBy (Check′.Refused r) (stateFor s m) front work answer front′ work′
+      → Invariant s m (nextIndex (stateFor s m) answer) (joinStores front′ rest)
   unfolding BuildsBy nextIndex
   refused-ends r e by =
       let lengths = left-lengths (settingShape s) r front work front′ work′ (by .1) in
-      let same : SameHeld s (joinStores front rest) (joinStores front′ rest) =
+      let same : SameRows s (joinStores front rest) (joinStores front′ rest) =
       agree-join (rowsEnd s) front front′ rest lengths (left-held s front front′ work work′ r (by .1)) in
       record {
-        state = ap (nextIndex (stateOf s m)) (refused-is r answer (by .0));
+        state = ap (nextIndex (stateFor s m)) (refused-is r answer (by .0));
         within = inv .within;
         held = held-same s m (joinStores front rest) (joinStores front′ rest) (inv .within) same (inv .held);
         laid = λ b.
@@ -122,15 +122,15 @@ module _ (s : Setting) (allowed : Allowed s) (m : Model) (work work′ : List �
             subst (λ (f : Store). Laid s m (joinStores f rest)) (sym (left-same (settingShape s) front front′ work work′ short)) (inv .laid b));
       }
 
-  fine-ends : (b : Bool) → m .built ≡ b → check ≡ Check′.Fine → BuildsFine b (stateOf s m) front work answer front′ work′
-      → (changedNumber answer ≡ 0) × Invariant s (builtModel m) (nextIndex (stateOf s m) answer) (joinStores front′ rest)
+  fine-ends : (b : Bool) → m .built ≡ b → check ≡ Check′.Fine → BuildsFine b (stateFor s m) front work answer front′ work′
+      → (changedNumber answer ≡ 0) × Invariant s (builtModel m) (nextIndex (stateFor s m) answer) (joinStores front′ rest)
   unfolding BuildsFine nextIndex
   fine-ends true b e by =
       let same : joinStores front rest ≡ joinStores front′ rest = ap (λ (f : Store). joinStores f rest) (sym (by .1)) in (
         by .0 .number-is,
-        subst (λ (x : Model). Invariant s x (nextIndex (stateOf s m) answer) (joinStores front′ rest)) (sym (built-again m b))
+        subst (λ (x : Model). Invariant s x (nextIndex (stateFor s m) answer) (joinStores front′ rest)) (sym (built-again m b))
             (record {
-              state = ap (nextIndex (stateOf s m)) (carried-is (stateOf s m) answer (by .0));
+              state = ap (nextIndex (stateFor s m)) (carried-is (stateFor s m) answer (by .0));
               within = inv .within;
               held = subst (Held s m) same (inv .held);
               laid = λ t. subst (Laid s m) same (inv .laid t);
@@ -140,34 +140,34 @@ module _ (s : Setting) (allowed : Allowed s) (m : Model) (work work′ : List �
       let room : BuildRoom s m (lengthsOf front) = build-room s m (lengthsOf front) (length work) b e in
       let facts : NodeFacts s m = node-facts s m allowed (inv .within) (room .nodes) in
       let h : Held s m front = front-held (room .long) in
-      let out : LaidOut (stateOf s m) front work front′ work′ = by .1 in
+      let out : LaidOut (stateFor s m) front work front′ work′ = by .1 in
       let l : Laid s m front′ = laid-out s m front front′ work work′ facts (room .long) h out in
       let long′ : Long (settingShape s) (lengthsOf front′) =
-      subst (Long (settingShape s)) (laid-lengths (stateOf s m) front work front′ work′ out) (room .long) in
+      subst (Long (settingShape s)) (laid-lengths (stateFor s m) front work front′ work′ out) (room .long) in
       let h′ : Held s m front′ = held-same s m front front′ (inv .within) (built-held s m front front′ work work′ facts (room .long) h out) h in
       let all = joinStores front′ rest in
-      let count : length (heldNodes (stateOf s m) front) ≡ nodeCount s m = ap length (held-nodes s m front h) ∙ facts .count in (
+      let count : length (heldNodes (stateFor s m) front) ≡ nodeCount s m = ap length (held-nodes s m front h) ∙ facts .count in (
         by .0 .number-is,
         record {
-          state = ap (nextIndex (stateOf s m)) (carried-is (builtWith (stateOf s m) (length (heldNodes (stateOf s m) front))) answer (by .0)) ∙ state-built s m (length (heldNodes (stateOf s m) front)) count;
+          state = ap (nextIndex (stateFor s m)) (carried-is (builtWith (stateFor s m) (length (heldNodes (stateFor s m) front))) answer (by .0)) ∙ state-built s m (length (heldNodes (stateFor s m) front)) count;
           within = within-rows s m (inv .within) (room .rows) (room .nodes);
           held = held-rows s m all (held-back s m front′ rest (inv .within) long′ h′);
           laid = λ t. laid-rows s m all (laid-same s m front′ all facts (agree-sym (long-same s front′ rest long′)) l);
         },
       )
 
-  ends : (c : Check) → check ≡ c → BuildsBy c (stateOf s m) front work answer front′ work′
-      → (changedNumber answer ≡ checkNumber c) × Invariant s (changedBy c build m) (nextIndex (stateOf s m) answer) (joinStores front′ rest)
+  ends : (c : Check) → check ≡ c → BuildsBy c (stateFor s m) front work answer front′ work′
+      → (changedNumber answer ≡ checkNumber c) × Invariant s (changedBy c build m) (nextIndex (stateFor s m) answer) (joinStores front′ rest)
   unfolding BuildsBy changedBy
   ends (Check′.Refused r) e by = (by .0 .number-is, refused-ends r e by)
   ends Check′.Fine e by = fine-ends (m .built) refl e by
 
-  build-keeps : Builds (stateOf s m) front work answer front′ work′
-      → ChangeEnds s m (lengthsOf front) (length work) build answer (nextIndex (stateOf s m) answer) (joinStores front′ rest)
+  build-keeps : Builds (stateFor s m) front work answer front′ work′
+      → ChangeEnds s m (lengthsOf front) (length work) build answer (nextIndex (stateFor s m) answer) (joinStores front′ rest)
   unfolding Builds
   build-keeps builds =
       let r = ends check refl
-      (subst (λ (c : Check). BuildsBy c (stateOf s m) front work answer front′ work′) (build-refused s m allowed (inv .within) front work front-held) builds) in
+      (subst (λ (c : Check). BuildsBy c (stateFor s m) front work answer front′ work′) (build-refused s m allowed (inv .within) front work front-held) builds) in
       record { number-is = r .0; invariant = r .1 }
 
 -- ---- the rest that is owed

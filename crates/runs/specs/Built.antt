@@ -29,8 +29,8 @@ use Rattle.curator.specs.Limits.{indexShape}
 use Rattle.curator.specs.Calls.{splittingOf}
 use Rattle.curator.specs.Changes.{LaidOut, heldNodes, freeOf, freeStore, Left}
 use Rattle.runs.specs.Model.{Setting, Model, rowVectors, rowEntries, nodeCount, modelNodes, settingShape}
-use Rattle.runs.specs.State.{Allowed, Within, limits, stateOf}
-use Rattle.runs.specs.Held.{Held, rowsEnd, SameHeld, held-vectors, held-entries, owner-below, owners-length, length-vectors}
+use Rattle.runs.specs.State.{Allowed, Within, limits, stateFor}
+use Rattle.runs.specs.Held.{Held, rowsEnd, SameRows, held-vectors, held-entries, owner-below, owners-length, length-vectors}
 
 -- a list stands in another from a place on
 abbrev pub StandsAt : {A : Type 0} → ℕ → List A → List A → Type 0
@@ -112,13 +112,13 @@ laid-same s m store store′ facts a l =
 
 -- ---- an accepted build
 
-pub held-nodes : (s : Setting) (m : Model) (store : Store) → Held s m store → heldNodes (stateOf s m) store ≡ modelNodes s m
+pub held-nodes : (s : Setting) (m : Model) (store : Store) → Held s m store → heldNodes (stateFor s m) store ≡ modelNodes s m
 unfolding heldNodes modelNodes
 held-nodes s m store h = ap₂ (λ (v : List (List Float)) (e : Entries). nodesOf (splittingOf (s .dimension) (s .params)) v e) (held-vectors s m store h) (held-entries s m store h)
 
 module _ (s : Setting) (m : Model) (store store′ : Store) (work work′ : List ℕ) (facts : NodeFacts s m) (long : Long (settingShape s) (lengthsOf store))
     (held : Held s m store)
-    (out : LaidOut (stateOf s m) store work store′ work′) where
+    (out : LaidOut (stateFor s m) store work store′ work′) where
   floats-are : store′ .floats ≡ floatsOf (settingShape s) (modelNodes s m) (out .centres) (store .floats)
   floats-are = out .floats ∙ ap (λ (n : List Node). floatsOf (settingShape s) n (out .centres) (store .floats)) (held-nodes s m store held)
 
@@ -150,7 +150,7 @@ module _ (s : Setting) (m : Model) (store store′ : Store) (work work′ : List
       }
 
   -- the rows' parts stand before the node parts
-  pub built-held : SameHeld s store store′
+  pub built-held : SameRows s store store′
   unfolding floatsOf numbersOf hashesOf
   built-held =
       let N = modelNodes s m in
@@ -234,7 +234,7 @@ left-same sh store store′ work work′ l = λ i. record { floats = l .floats i
 -- what is free starts behind the rows' parts
 module _ (s : Setting) (store store′ : Store) (work work′ : List ℕ) where
   kept-by : (r : Refusal) → From (rowsEnd s .floats) (freeOf (settingShape s) r .floats) → From (rowsEnd s .numbers) (freeOf (settingShape s) r .numbers)
-      → From (rowsEnd s .hashes) (freeOf (settingShape s) r .hashes) → Left (settingShape s) r store work store′ work′ → SameHeld s store store′
+      → From (rowsEnd s .hashes) (freeOf (settingShape s) r .hashes) → Left (settingShape s) r store work store′ work′ → SameRows s store store′
   kept-by r f n h l =
       let free = freeOf (settingShape s) r in
       record {
@@ -243,7 +243,7 @@ module _ (s : Setting) (store store′ : Store) (work work′ : List ℕ) where
         hashes = freed-take (rowsEnd s .hashes) (free .hashes) (store .hashes) (store′ .hashes) h (l .hashes);
       }
 
-  kept-store : (r : StoreRefusal) → Left (settingShape s) (Refusal′.Store r) store work store′ work′ → SameHeld s store store′
+  kept-store : (r : StoreRefusal) → Left (settingShape s) (Refusal′.Store r) store work store′ work′ → SameRows s store store′
   unfolding freeOf freeStore
   kept-store ListTooShort l = kept-by (Refusal′.Store ListTooShort) tt tt tt l
   kept-store VectorsFull l = kept-by (Refusal′.Store VectorsFull) tt tt tt l
@@ -254,7 +254,7 @@ module _ (s : Setting) (store store′ : Store) (work work′ : List ℕ) where
       (omega arith, (omega arith, (omega arith, (omega arith, tt)))) (omega arith, tt) l
   kept-store Damaged l = kept-by (Refusal′.Store Damaged) tt tt tt l
 
-  pub left-held : (r : Refusal) → Left (settingShape s) r store work store′ work′ → SameHeld s store store′
+  pub left-held : (r : Refusal) → Left (settingShape s) r store work store′ work′ → SameRows s store store′
   unfolding freeOf
   left-held (Refusal′.Settings r) l = kept-by (Refusal′.Settings r) tt tt tt l
   left-held (Refusal′.State r) l = kept-by (Refusal′.State r) tt tt tt l

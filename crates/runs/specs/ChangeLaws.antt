@@ -20,7 +20,7 @@ use Rattle.runs.specs.Calls.{Change, Typed}
 use Rattle.runs.specs.Model.{Setting, Model, changeRows, changeCheck, carriedOut, changedBy}
 use Rattle.runs.specs.Run.{nextIndex, Changes}
 use Rattle.runs.specs.Theorem.{withBudget}
-use Rattle.runs.specs.State.{Allowed, stateOf, Small}
+use Rattle.runs.specs.State.{Allowed, stateFor, Small}
 use Rattle.runs.specs.Invariant.{Invariant}
 
 -- ---- rows that return neither 15 nor 4
@@ -63,8 +63,8 @@ pub record ChangeLaws (c : Change) : Type 0 where
   -- on a front of lists that stand for a model, with any rest behind it
   pub keeps :
       (s : Setting) → Allowed s → (m : Model) (work work′ : List ℕ) (front rest front′ : Store) (answer : Changed)
-      → Invariant s m (stateOf s m) (joinStores front rest) → Changes c (stateOf s m) front work answer front′ work′
-      → ChangeEnds s m (lengthsOf front) (length work) c answer (nextIndex (stateOf s m) answer) (joinStores front′ rest)
+      → Invariant s m (stateFor s m) (joinStores front rest) → Changes c (stateFor s m) front work answer front′ work′
+      → ChangeEnds s m (lengthsOf front) (length work) c answer (nextIndex (stateFor s m) answer) (joinStores front′ rest)
   -- no row of the model is 15 or 4
   pub others : (s : Setting) (m : Model) (lent : Lengths) (work : ℕ) → Others (changeRows s m lent work c)
   -- `ef_search` is no matter to them

@@ -26,7 +26,7 @@ use Rattle.curator.specs.Arguments.{AddCall}
 use Rattle.curator.specs.Lent.{AddRoom}
 use Rattle.curator.specs.LabelLaws.{length-hashesOfLabels}
 use Rattle.runs.specs.Model.{Setting, Model, ModelRow, emptyModel, rowVectors, rowHashes, ownersFrom, rowEntries, newRow, settingShape}
-use Rattle.runs.specs.State.{stateOf, Within}
+use Rattle.runs.specs.State.{stateFor, Within}
 
 pub record Held (s : Setting) (m : Model) (store : Store) : Type 0 where
   pub vectors : map (vectorAt (s .dimension) (store .floats)) (countFrom 0 (length (m .rows))) ≡ rowVectors m
@@ -38,8 +38,8 @@ pub record Held (s : Setting) (m : Model) (store : Store) : Type 0 where
 abbrev pub rowsEnd : Setting → Lengths
 rowsEnd s = record { floats = centroidsAt (settingShape s); numbers = orderAt (settingShape s); hashes = filtersAt (settingShape s) }
 
-abbrev pub SameHeld : Setting → Store → Store → Type 0
-SameHeld s = Agree (rowsEnd s)
+abbrev pub SameRows : Setting → Store → Store → Type 0
+SameRows s = Agree (rowsEnd s)
 
 -- they end within the sizes
 pub rows-within : (s : Setting) → NoShorter (rowsEnd s) (sizesOf (settingShape s))
@@ -58,7 +58,7 @@ vector-places i n d v h g =
     let c : v * d ≡ d * v = mul-comm v d in
     omega arith
 
-pub held-same : (s : Setting) (m : Model) (store store′ : Store) → Within s m → SameHeld s store store′ → Held s m store → Held s m store′
+pub held-same : (s : Setting) (m : Model) (store store′ : Store) → Within s m → SameRows s store store′ → Held s m store → Held s m store′
 held-same s m store store′ w a h =
     let d = s .dimension in
     let n = length (m .rows) in
@@ -84,11 +84,11 @@ unfolding countFrom rowVectors rowHashes ownersFrom joined
 held-empty s store = record { vectors = refl; documents = refl; owners = refl; hashes = refl }
 
 -- what a state of the model holds, as build reads it
-pub held-vectors : (s : Setting) (m : Model) (store : Store) → Held s m store → heldVectors (stateOf s m) store ≡ rowVectors m
+pub held-vectors : (s : Setting) (m : Model) (store : Store) → Held s m store → heldVectors (stateFor s m) store ≡ rowVectors m
 unfolding heldVectors
 held-vectors s m store h = h .vectors
 
-pub held-entries : (s : Setting) (m : Model) (store : Store) → Held s m store → heldEntries (stateOf s m) store ≡ rowEntries m
+pub held-entries : (s : Setting) (m : Model) (store : Store) → Held s m store → heldEntries (stateFor s m) store ≡ rowEntries m
 unfolding heldEntries rowEntries
 held-entries s m store h = λ i. record { owners = h .owners i; hashes = h .hashes i }
 
@@ -128,8 +128,8 @@ count-more m call =
     ap length (hashes-more m (newRow call)) ∙ length-append (rowHashes m) (newRow call .hashes)
     ∙ ap (λ (k : ℕ). length (rowHashes m) + k) (length-hashesOfLabels (call .lengths) (call .bytes))
 
-module _ (s : Setting) (m : Model) (call : AddCall) (store store′ : Store) (room : AddRoom (stateOf s m) store call)
-    (wrote : Wrote (stateOf s m) store call store′) where
+module _ (s : Setting) (m : Model) (call : AddCall) (store store′ : Store) (room : AddRoom (stateFor s m) store call)
+    (wrote : Wrote (stateFor s m) store call store′) where
   stored-is : wrote .stored ≡ normalized (call .vector)
   stored-is = normalized-is (call .vector) (wrote .stored) (wrote .normalized)
 

@@ -8,12 +8,12 @@ use Rattle.store.specs.Agree.{agree-sym, agree-less, agree-front}
 use Rattle.curator.specs.declared.CuratorIndex.{CuratorIndex}
 use Rattle.curator.specs.Calls.{fresh}
 use Rattle.runs.specs.Model.{Setting, Model, emptyModel, settingShape}
-use Rattle.runs.specs.State.{Within, stateOf, empty-state, empty-within}
-use Rattle.runs.specs.Held.{Held, rowsEnd, rows-within, SameHeld, held-same, held-empty}
+use Rattle.runs.specs.State.{Within, stateFor, empty-state, empty-within}
+use Rattle.runs.specs.Held.{Held, rowsEnd, rows-within, SameRows, held-same, held-empty}
 use Rattle.runs.specs.Built.{Laid, SameLists}
 
 pub record Invariant (s : Setting) (m : Model) (index : CuratorIndex) (store : Store) : Type 0 where
-  pub state : index ≡ stateOf s m
+  pub state : index ≡ stateFor s m
   pub within : Within s m
   pub held : Held s m store
   pub laid : m .built ≡ true → Laid s m store
@@ -30,7 +30,7 @@ pub long-same : (s : Setting) (front rest : Store) → Long (settingShape s) (le
 long-same s front rest l = agree-front (sizesOf (settingShape s)) front rest l
 
 -- the parts of the rows stand before the ends of the lists
-pub rows-same : (s : Setting) (store store′ : Store) → SameLists s store store′ → SameHeld s store store′
+pub rows-same : (s : Setting) (store store′ : Store) → SameLists s store store′ → SameRows s store store′
 rows-same s store store′ a = agree-less (rowsEnd s) (sizesOf (settingShape s)) store store′ (rows-within s) a
 
 pub held-front : (s : Setting) (m : Model) (front rest : Store) → Within s m → Long (settingShape s) (lengthsOf front) → Held s m (joinStores front rest)

@@ -25,7 +25,7 @@ use Rattle.runs.specs.Calls.{Change, add, build, Call, change, search, T
 use Rattle.runs.specs.Model.{Setting, Model, emptyModel, modelFacts, changeRows, changeCheck, changedBy, modelSearchCheck, modelCheck, modelWalk, returns, searchedBy, answered, expected, after, modelFrom}
 use Rattle.runs.specs.Run.{Ended, changed, found, nextIndex, Changes, ChangeStep, SearchStep, Step, RunFrom, done, next, Run}
 use Rattle.runs.specs.Theorem.{endNumber, Reply, AnsweredWith, replyOf, Matches, AtEach, NeverDamaged}
-use Rattle.runs.specs.State.{Allowed, Within, Small, stateOf, created-is, empty-small}
+use Rattle.runs.specs.State.{Allowed, Within, Small, stateFor, created-is, empty-small}
 use Rattle.runs.specs.Held.{Held}
 use Rattle.runs.specs.Built.{Laid}
 use Rattle.runs.specs.Invariant.{Invariant, begins}
@@ -46,7 +46,7 @@ pub change-keeps : (s : Setting) → Allowed s → (m : Model) (index : CuratorI
     → Invariant s m index (joinStores front rest) → Changes c index front work answer front′ work′
     → ChangeEnds s m (lengthsOf front) (length work) c answer (nextIndex index answer) (joinStores front′ rest)
 change-keeps s a m index work work′ front rest front′ c answer inv by =
-    let e : index ≡ stateOf s m = inv .state in
+    let e : index ≡ stateFor s m = inv .state in
     subst (λ (i : CuratorIndex). ChangeEnds s m (lengthsOf front) (length work) c answer (nextIndex i answer) (joinStores front′ rest)) (sym e)
     (change-laws c .keeps s a m work work′ front rest front′ answer (subst (λ (i : CuratorIndex). Invariant s m i (joinStores front rest)) e inv)
     (subst (λ (i : CuratorIndex). Changes c i front work answer front′ work′) e by))
@@ -74,7 +74,7 @@ pub search-step : (s : Setting) → Allowed s → (m : Model) (index : CuratorIn
     → Matches (expected s m (search fronts work call)) (search fronts work call) end × Invariant s m index′ store′
 search-step s a m index store inv fronts work call end index′ store′ st =
     let whole = subst (λ (i : CuratorIndex). Invariant s m i (joinStores (st .front) (st .rest))) (inv .state) (subst (Invariant s m index) (st .whole) inv) in
-    let by : Searches (stateOf s m) (st .front) work call (st .search-end) =
+    let by : Searches (stateFor s m) (st .front) work call (st .search-end) =
     subst (λ (i : CuratorIndex). Searches i (st .front) work call (st .search-end)) (inv .state) (st .searches) in
     let same : joinStores (st .front) (st .rest) ≡ store′ = sym (st .whole) ∙ sym (st .store-next) in (
       subst (λ (e : Ended). Matches (expected s m (search fronts work call)) (search fronts work call) e) (sym (st .ended))

@@ -1,4 +1,4 @@
--- A state of a run refuses as its model does: the rows are the same, and what they look at is the same by `stateOf` and by what is held. Row 4 never
+-- A state of a run refuses as its model does: the rows are the same, and what they look at is the same by `stateFor` and by what is held. Row 4 never
 -- holds (State.antt); an owner is a row's number, so build's 15 never does either; the tree is over the same vectors.
 use Prim.Native.Nat.{ℕ, _≤_, _<_}
 use native.Mathlib.Omega.{arith}
@@ -26,36 +26,36 @@ use Rattle.curator.specs.Searches.{searchCheck}
 use Rattle.curator.specs.StateLaws.{sound-passes}
 use Rattle.runs.specs.Calls.{add, build}
 use Rattle.runs.specs.Model.{Setting, Model, rowEntries, modelFacts, settingShape, nodeCount, changeCheck, modelSearchCheck}
-use Rattle.runs.specs.State.{Allowed, Within, stateOf, state-sound}
+use Rattle.runs.specs.State.{Allowed, Within, stateFor, state-sound}
 use Rattle.runs.specs.Held.{Held, held-vectors, held-entries, owner-below}
 
 -- ---- add and search
 
 module _ (s : Setting) (m : Model) (a : Allowed s) (w : Within s m) (front : Store) where
   -- an add is lent no work list
-  pub add-refused : (work : ℕ) (call : AddCall) → addCheck (stateOf s m) front call ≡ changeCheck s m (lengthsOf front) work (add call)
+  pub add-refused : (work : ℕ) (call : AddCall) → addCheck (stateFor s m) front call ≡ changeCheck s m (lengthsOf front) work (add call)
   unfolding addCheck changeCheck modelFacts
-  add-refused work call = sound-passes (stateOf s m) (addRows (factsOf (stateOf s m)) (lengthsOf front) call) (state-sound s m a w)
+  add-refused work call = sound-passes (stateFor s m) (addRows (factsOf (stateFor s m)) (lengthsOf front) call) (state-sound s m a w)
 
   pub search-refused : (work : List ℕ) (call : SearchCall)
-      → searchCheck (stateOf s m) front work call ≡ modelSearchCheck s m (lengthsOf front) (length work) call
+      → searchCheck (stateFor s m) front work call ≡ modelSearchCheck s m (lengthsOf front) (length work) call
   unfolding searchCheck modelSearchCheck modelFacts
   search-refused work call =
-      sound-passes (stateOf s m) (searchRows (factsOf (stateOf s m)) (lengthsOf front) (length work) (askingOf call)) (state-sound s m a w)
+      sound-passes (stateFor s m) (searchRows (factsOf (stateFor s m)) (lengthsOf front) (length work) (askingOf call)) (state-sound s m a w)
 
 -- ---- build
 
-owners-sound : (s : Setting) (m : Model) (store : Store) → Held s m store → ownersDamaged (stateOf s m) store ≡ false
+owners-sound : (s : Setting) (m : Model) (store : Store) → Held s m store → ownersDamaged (stateFor s m) store ≡ false
 unfolding ownersDamaged
 owners-sound s m store h =
-    let e : heldEntries (stateOf s m) store ≡ rowEntries m = held-entries s m store h in
+    let e : heldEntries (stateFor s m) store ≡ rowEntries m = held-entries s m store h in
     let pass : allPass (λ owner. ltb owner (length (m .rows))) (rowEntries m .owners) ≡ true =
     all-pass (λ owner. ltb owner (length (m .rows))) (rowEntries m .owners)
     (λ x k. let r = Memᴰ-getD 0 k in
     lt-ltb x (length (m .rows)) (subst (λ (y : ℕ). y < length (m .rows)) (r .2) (owner-below m (r .0) (r .1)))) in
     ap (λ (en : Entries). not (allPass (λ owner. ltb owner (length (m .rows))) (en .owners))) e ∙ ap not pass
 
-too-many : (s : Setting) (m : Model) (store : Store) → Held s m store → tooManyNodes (stateOf s m) store ≡ ltb (s .capacities .nodes) (nodeCount s m)
+too-many : (s : Setting) (m : Model) (store : Store) → Held s m store → tooManyNodes (stateFor s m) store ≡ ltb (s .capacities .nodes) (nodeCount s m)
 unfolding tooManyNodes nodeCount
 too-many s m store h =
     ap (λ (v : _). ltb (s .capacities .nodes) (size (treeOf (splittingOf (s .dimension) (s .params)) v))) (held-vectors s m store h)
@@ -71,10 +71,10 @@ short-build f lent work d t d′ t′ false e h = let p = h refl in rw (p .0, p 
 -- `held`: what the lent front holds, where it is long enough
 pub build-refused : (s : Setting) (m : Model) → Allowed s → Within s m → (front : Store) (work : List ℕ)
     → (Long (settingShape s) (lengthsOf front) → Held s m front)
-    → buildCheck (stateOf s m) front work ≡ changeCheck s m (lengthsOf front) (length work) build
+    → buildCheck (stateFor s m) front work ≡ changeCheck s m (lengthsOf front) (length work) build
 unfolding buildCheck changeCheck modelFacts
 build-refused s m a w front work held =
-    let index = stateOf s m in
+    let index = stateFor s m in
     let lent = lengthsOf front in
     let damaged = ownersDamaged index front in
     let many = tooManyNodes index front in

@@ -23,7 +23,7 @@ use Rattle.runs.specs.Calls.{search}
 use Rattle.runs.specs.Model.{Setting, Model, rowHashes, nodeCount, modelCounts, settingShape, modelSearchCheck, answered, searchedBy, expected, modelWalk, treeView}
 use Rattle.runs.specs.Run.{found}
 use Rattle.runs.specs.Theorem.{Matches}
-use Rattle.runs.specs.State.{Allowed, Within, stateOf, nodesHeld}
+use Rattle.runs.specs.State.{Allowed, Within, stateFor, nodesHeld}
 use Rattle.runs.specs.Held.{Held}
 use Rattle.runs.specs.Refusals.{search-refused, search-room, SearchRoom}
 use Rattle.runs.specs.Built.{Laid, NodeFacts, node-facts, laid-same}
@@ -51,16 +51,16 @@ built-counts true s m e = refl
 built-counts false s m e = absurd (false≢true e)
 
 -- a search of a front, with any rest behind it
-module _ (s : Setting) (allowed : Allowed s) (m : Model) (front rest : Store) (inv : Invariant s m (stateOf s m) (joinStores front rest)) (work : List ℕ)
+module _ (s : Setting) (allowed : Allowed s) (m : Model) (front rest : Store) (inv : Invariant s m (stateFor s m) (joinStores front rest)) (work : List ℕ)
     (call : SearchCall) (end : SearchEnd) where
   store-walk : SearchRoom s m (lengthsOf front) call → (query : List Float) → query ≡ normalized (call .question .query)
-      → walk (storeView (settingShape s) (stateOf s m .counts) front query (wantedOf (call .question .asked))) (s .params .«ef_search»)
+      → walk (storeView (settingShape s) (stateFor s m .counts) front query (wantedOf (call .question .asked))) (s .params .«ef_search»)
       ≡ modelWalk s m (call .question)
   store-walk room query q =
       let wanted = wantedOf (call .question .asked) in
       let ef = s .params .«ef_search» in
       let w = inv .within in
-      let counts : stateOf s m .counts ≡ modelCounts s m =
+      let counts : stateFor s m .counts ≡ modelCounts s m =
       λ i. record { vectors = length (m .rows); entries = length (rowHashes m); nodes = built-counts (m .built) s m (room .built) i } in
       let facts : NodeFacts s m = node-facts s m allowed w (w .nodes (room .built)) in
       let held : Held s m front = held-front s m front rest w (room .long) (inv .held) in
@@ -69,7 +69,7 @@ module _ (s : Setting) (allowed : Allowed s) (m : Model) (front rest : Store) (i
       ∙ same-walks s m front allowed w facts held laid (normalized (call .question .query)) wanted ef (w .nodes (room .built))
       ∙ sym (walk-is s m (call .question))
 
-  walked-holds : (fronts : Lengths) (state : State) → modelWalk s m (call .question) ≡ state → WalkedTo state (stateOf s m) work call end
+  walked-holds : (fronts : Lengths) (state : State) → modelWalk s m (call .question) ≡ state → WalkedTo state (stateFor s m) work call end
       → Matches (answered (call .k) state) (search fronts work call) (found end)
   unfolding answered WalkedTo
   walked-holds fronts damaged e by =
@@ -77,19 +77,19 @@ module _ (s : Setting) (allowed : Allowed s) (m : Model) (front rest : Store) (i
       absurd (let z : damaged ≡ going (r .0) = sym e ∙ r .1 in let n : _≡_ {A = ℕ} 0 1 = cc in omega arith)
   walked-holds fronts (going p) e by = (by .answer, by .ids, by .distances)
 
-  ends : (c : Check) → modelSearchCheck s m (lengthsOf front) (length work) call ≡ c → SearchesBy c (stateOf s m) front work call end
+  ends : (c : Check) → modelSearchCheck s m (lengthsOf front) (length work) call ≡ c → SearchesBy c (stateFor s m) front work call end
       → Matches (searchedBy c (call .k) (modelWalk s m (call .question))) (search (lengthsOf front) work call) (found end)
   unfolding SearchesBy searchedBy
   ends (Check′.Refused r) e by = (by .answer .number-is, record { ids = by .ids; distances = by .distances })
   ends Check′.Fine e by =
       let room : SearchRoom s m (lengthsOf front) call = search-room s m (lengthsOf front) (length work) call e in
       walked-holds (lengthsOf front) (modelWalk s m (call .question)) refl
-      (subst (λ (x : State). WalkedTo x (stateOf s m) work call end)
+      (subst (λ (x : State). WalkedTo x (stateFor s m) work call end)
       (store-walk room (by .query) (normalized-is (call .question .query) (by .query) (by .normalized))) (by .walked))
 
-  pub search-keeps : Searches (stateOf s m) front work call end
+  pub search-keeps : Searches (stateFor s m) front work call end
       → Matches (expected s m (search (lengthsOf front) work call)) (search (lengthsOf front) work call) (found end)
   unfolding Searches expected
   search-keeps by =
       ends (modelSearchCheck s m (lengthsOf front) (length work) call) refl
-      (subst (λ (c : Check). SearchesBy c (stateOf s m) front work call end) (search-refused s m allowed (inv .within) front work call) by)
+      (subst (λ (c : Check). SearchesBy c (stateFor s m) front work call end) (search-refused s m allowed (inv .within) front work call) by)

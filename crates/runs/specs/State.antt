@@ -41,8 +41,8 @@ unfoldable pub nodesHeld : Bool → Setting → Model → ℕ
 nodesHeld true s m = nodeCount s m
 nodesHeld false s m = 0
 
-abbrev pub stateOf : Setting → Model → CuratorIndex
-stateOf s m =
+abbrev pub stateFor : Setting → Model → CuratorIndex
+stateFor s m =
     record {
       dimension = s .dimension;
       params = s .params;
@@ -66,7 +66,7 @@ pub some-nodes : (s : Setting) (m : Model) → 0 < nodeCount s m
 unfolding nodeCount
 some-nodes s m = size-some (treeOf (splittingOf (s .dimension) (s .params)) (rowVectors m))
 
-pub empty-state : (s : Setting) → fresh (s .dimension) (s .params) (s .capacities) ≡ stateOf s emptyModel
+pub empty-state : (s : Setting) → fresh (s .dimension) (s .params) (s .capacities) ≡ stateFor s emptyModel
 unfolding nodesHeld rowHashes
 empty-state s = refl
 
@@ -96,9 +96,9 @@ unfolding nodesHeld
 nodes-within true s m e w = w .nodes e
 nodes-within false s m e w = omega arith
 
-pub state-sound : (s : Setting) (m : Model) → Allowed s → Within s m → stateSound (stateOf s m) ≡ true
+pub state-sound : (s : Setting) (m : Model) → Allowed s → Within s m → stateSound (stateFor s m) ≡ true
 state-sound s m a w =
-    facts-sound (stateOf s m)
+    facts-sound (stateFor s m)
     (record {
       limits = a .limits;
       leaf-size = a .leaf-size;

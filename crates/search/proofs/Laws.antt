@@ -33,7 +33,7 @@ use Rattle.curator.specs.Searches.{wantedOf, SearchEnd, searchCheck, WalkedTo, 
 use Rattle.curator.specs.Arguments.{SearchCall, askingOf}
 use Rattle.curator.specs.StateLaws.{sound-facts}
 use Rattle.lists.specs.Tests.{and-both, or-left, or-right}
-use Rattle.search.specs.Lent.{Ready, foundOf}
+use Rattle.search.specs.Lent.{SearchReady, foundOf}
 use Rattle.store.specs.LentLaws.{lists-long}
 use Rattle.curator.specs.OutcomeLaws.{is-search-refused, is-found}
 
@@ -54,7 +54,7 @@ rowsOfSearch index store work call =
     ∷ searchRows (factsOf index) (lengthsOf store) (length work) (askingOf call)
 
 ready-of : (index : CuratorIndex) (store : Store) (work : List ℕ) (call : SearchCall) → NoneHolds (rowsOfSearch index store work call)
-    → Ready index store work (call .question .query) (call .k) (call .ids) (call .distances)
+    → SearchReady index store work (call .question .query) (call .k) (call .ids) (call .distances)
 unfolding searchRows
 ready-of index store work call (sound, (short, (built, (dimension, (finite, (answers, _)))))) =
     let s = sound-facts index (not-false _ sound) in
@@ -75,7 +75,7 @@ ready-of index store work call (sound, (short, (built, (dimension, (finite, (ans
     }
 
 pub ready : (index : CuratorIndex) (store : Store) (work : List ℕ) (call : SearchCall) → searchCheck index store work call ≡ Fine
-    → Ready index store work (call .question .query) (call .k) (call .ids) (call .distances)
+    → SearchReady index store work (call .question .query) (call .k) (call .ids) (call .distances)
 unfolding searchCheck
 ready index store work call fine = ready-of index store work call (fine-none (rowsOfSearch index store work call) fine)
 
@@ -105,7 +105,7 @@ walked-to (going p) index work call searched end a f h =
 
 -- what the walk asks of the lists that it is lent
 pub search-lent : (index : CuratorIndex) (store : Store) (work : List ℕ) (query : List Float) (k : ℕ) (ids : List ℕ) (distances : List Float)
-    → Ready index store work query k ids distances → (s : Shape) → s ≡ indexShape index → SearchLent s (index .counts) store work k ids distances
+    → SearchReady index store work query k ids distances → (s : Shape) → s ≡ indexShape index → SearchLent s (index .counts) store work k ids distances
 search-lent index store work query k ids distances r s e =
     subst (λ (s : Shape). SearchLent s (index .counts) store work k ids distances) (sym e)
     (record { lent = r .lent; ids-room = r .ids; distances-room = r .distances })

@@ -54,7 +54,7 @@ foundOf searched.Damaged = answers.Refused (refusal.Store store-refusal.Damaged)
 foundOf (searched.Found hits opened complete) = answers.Hits hits opened complete
 
 -- What the walk relies on, as plain facts: no row's case holds.
-pub record Ready (index : CuratorIndex) (store : Store) (scratch : List ℕ) (query : List Float) (k : ℕ) (found : List ℕ) (far : List Float) : Type 0 where
+pub record SearchReady (index : CuratorIndex) (store : Store) (scratch : List ℕ) (query : List Float) (k : ℕ) (found : List ℕ) (far : List Float) : Type 0 where
   pub lent : StoreLent (indexShape index) (index .counts) store scratch
   pub dimension : length query ≡ index .dimension
   pub ids : k ≤ length found

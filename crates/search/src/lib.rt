@@ -2,7 +2,7 @@
 ghost use mathlib.Core.Path.{_≡_};
 ghost use Rattle.store.specs.Lent.{lent};
 ghost use Rattle.curator.specs.Searches.{Searches};
-ghost use Rattle.search.specs.Lent.{asking, searchChecked, Ready, foundOf, looking, leaving, filtered, unfiltered, SearchesFor, WalkedFor};
+ghost use Rattle.search.specs.Lent.{asking, searchChecked, SearchReady, foundOf, looking, leaving, filtered, unfiltered, SearchesFor, WalkedFor};
 use curator::CuratorIndex;
 use curator::Found;
 use curator::limits;
@@ -79,7 +79,7 @@ fn walk_from(
     ids: &mut [u32],
     distances: &mut [f32],
 ) -> Found
-    requires { ⌜ Ready index (lent floats numbers hashes) (now work) (now query) k (now ids) (now distances) ⌝ }
+    requires { ⌜ SearchReady index (lent floats numbers hashes) (now work) (now query) k (now ids) (now distances) ⌝ }
     ensures { λ r. ⌜ WalkedFor index (lent (floats .entry) (numbers .entry) (hashes .entry)) (now (work .entry)) wanted
         (looking (query .entry) k (ids .entry) (distances .entry))
         (leaving r (work .exit) (ids .exit) (distances .exit)) ⌝ }

@@ -64,11 +64,11 @@ unfoldable pub refusedLine : ℕ → List ℕ
 refusedLine number = refusedWord ++ numberEnd number
 
 -- The lines of the hits in the first places of two lists.
-unfoldable pub hitAt : List ℕ → List Float → ℕ → List ℕ
-hitAt ids distances i = hitLine (getD ids i 0) (toBits binary32 (getD distances i nan))
+unfoldable pub hitLineAt : List ℕ → List Float → ℕ → List ℕ
+hitLineAt ids distances i = hitLine (getD ids i 0) (toBits binary32 (getD distances i nan))
 
 unfoldable pub hitLines : List ℕ → List Float → ℕ → List ℕ
-hitLines ids distances count = joined (hitAt ids distances) (countFrom 0 count)
+hitLines ids distances count = joined (hitLineAt ids distances) (countFrom 0 count)
 
 -- ---- What a writer leaves: the text from a place on in a list that is otherwise as it was, and the place after the text. The last two parts
 -- follow where there is room; they are stated so that `&out[..place]` needs no proof.

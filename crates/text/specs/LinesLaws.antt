@@ -15,7 +15,7 @@ use Rattle.lists.specs.Counting.{countFrom-snoc, joined-snoc}
 use Rattle.lists.specs.Parts.{sets-append}
 use Rattle.text.specs.Digits.{decimalOf, hexOf}
 use Rattle.text.specs.DigitsLaws.{decimal-is, hex-is, decimal-one, hex-one, hex-lt, length-hexOf, decimal-le-10, decimal-le-20}
-use Rattle.text.specs.Lines.{codes, closingWord, refusedWord, HitLine, ClosingLine, RefusedLine, hitLine, numberEnd, closingLine, refusedLine, hitAt, hitLines, Written}
+use Rattle.text.specs.Lines.{codes, closingWord, refusedWord, HitLine, ClosingLine, RefusedLine, hitLine, numberEnd, closingLine, refusedLine, hitLineAt, hitLines, Written}
 
 -- ---- each line meets its definition, and no other does
 
@@ -93,11 +93,11 @@ hits-none ids distances = refl
 
 pub hits-more : (ids : List ℕ) (distances : List Float) (i : ℕ)
     → hitLines ids distances (suc i) ≡ hitLines ids distances i ++ hitLine (getD ids i 0) (toBits binary32 (getD distances i nan))
-unfolding hitLines hitAt
+unfolding hitLines hitLineAt
 hits-more ids distances i =
-    ap (λ (l : List ℕ). joined (hitAt ids distances) l) (countFrom-snoc 0 i)
-    ∙ joined-snoc (hitAt ids distances) (countFrom 0 i) (0 + i)
-    ∙ ap (λ (k : ℕ). joined (hitAt ids distances) (countFrom 0 i) ++ hitAt ids distances k) (zero-add i)
+    ap (λ (l : List ℕ). joined (hitLineAt ids distances) l) (countFrom-snoc 0 i)
+    ∙ joined-snoc (hitLineAt ids distances) (countFrom 0 i) (0 + i)
+    ∙ ap (λ (k : ℕ). joined (hitLineAt ids distances) (countFrom 0 i) ++ hitLineAt ids distances k) (zero-add i)
 
 pub hits-le : (ids : List ℕ) (distances : List Float) → ((i : ℕ) → getD ids i 0 < 2 ^ 32) → (count : ℕ) → length (hitLines ids distances count) ≤ 20 * count
 hits-le ids distances h zero = omega (arith, ap length (hits-none ids distances))

@@ -64,10 +64,10 @@ size-children (inner ids children) = refl
 -- ---- where a subtree stands
 
 -- From the number of a subtree on, the list begins with the subtrees of it.
-abbrev pub Begins : List Tree → ℕ → Tree → Type 0
-Begins l i t = (rest : List Tree) × (drop i l ≡ subs t ++ rest)
+abbrev pub BeginsAt : List Tree → ℕ → Tree → Type 0
+BeginsAt l i t = (rest : List Tree) × (drop i l ≡ subs t ++ rest)
 
-begins-left : (xs ys : List Tree) (i : ℕ) (d : Tree) → i < length xs → Begins xs i (getD xs i d) → Begins (xs ++ ys) i (getD (xs ++ ys) i d)
+begins-left : (xs ys : List Tree) (i : ℕ) (d : Tree) → i < length xs → BeginsAt xs i (getD xs i d) → BeginsAt (xs ++ ys) i (getD (xs ++ ys) i d)
 begins-left xs ys i d h b = (
   b .0 ++ ys,
   drop-append-le i xs ys (omega arith)
@@ -76,31 +76,31 @@ begins-left xs ys i d h b = (
       ∙ ap (λ (t : Tree). subs t ++ (b .0 ++ ys)) (sym (List·getD-append xs ys d i h)),
 )
 
-begins-right : (xs ys : List Tree) (i : ℕ) (d : Tree) → Begins ys i (getD ys i d) → Begins (xs ++ ys) (length xs + i) (getD (xs ++ ys) (length xs + i) d)
+begins-right : (xs ys : List Tree) (i : ℕ) (d : Tree) → BeginsAt ys i (getD ys i d) → BeginsAt (xs ++ ys) (length xs + i) (getD (xs ++ ys) (length xs + i) d)
 begins-right xs ys i d b =
     (b .0, drop-append-add xs ys i ∙ b .1 ∙ ap (λ (t : Tree). subs t ++ b .0) (sym (getD-append-add xs ys i d)))
 
-begins-either : (xs ys : List Tree) (i : ℕ) (d : Tree) → i < length xs + length ys → ((k : ℕ) → k < length xs → Begins xs k (getD xs k d))
-    → ((k : ℕ) → k < length ys → Begins ys k (getD ys k d)) → Begins (xs ++ ys) i (getD (xs ++ ys) i d)
+begins-either : (xs ys : List Tree) (i : ℕ) (d : Tree) → i < length xs + length ys → ((k : ℕ) → k < length xs → BeginsAt xs k (getD xs k d))
+    → ((k : ℕ) → k < length ys → BeginsAt ys k (getD ys k d)) → BeginsAt (xs ++ ys) i (getD (xs ++ ys) i d)
 begins-either xs ys i d h f g = go (which (ltb i (length xs)))
   where
-    go : (ltb i (length xs) ≡ true) ⊎ (ltb i (length xs) ≡ false) → Begins (xs ++ ys) i (getD (xs ++ ys) i d)
+    go : (ltb i (length xs) ≡ true) ⊎ (ltb i (length xs) ≡ false) → BeginsAt (xs ++ ys) i (getD (xs ++ ys) i d)
     go (inl e) = let b = ltb-true i (length xs) e in begins-left xs ys i d b (f i b)
     go (inr e) =
         let b = ltb-false i (length xs) e in
         let n : length xs + (i - length xs) ≡ i = omega arith in
-        subst (λ (k : ℕ). Begins (xs ++ ys) k (getD (xs ++ ys) k d)) n (begins-right xs ys (i - length xs) d (g (i - length xs) (omega arith)))
+        subst (λ (k : ℕ). BeginsAt (xs ++ ys) k (getD (xs ++ ys) k d)) n (begins-right xs ys (i - length xs) d (g (i - length xs) (omega arith)))
 
 mutual
   unfolding subs forestSubs
 
-  pub sub-begins : (t : Tree) (i : ℕ) (d : Tree) → i < length (subs t) → Begins (subs t) i (getD (subs t) i d)
+  pub sub-begins : (t : Tree) (i : ℕ) (d : Tree) → i < length (subs t) → BeginsAt (subs t) i (getD (subs t) i d)
   sub-begins (leaf ids) zero d h = ([], refl)
   sub-begins (leaf ids) (suc i) d h = absurd (not-suc-le-zero (le-of-suc-le-suc h))
   sub-begins (inner ids children) zero d h = ([], sym (append-nil (subs (inner ids children))))
   sub-begins (inner ids children) (suc i) d h = forest-begins children i d (le-of-suc-le-suc h)
 
-  pub forest-begins : (f : Forest) (i : ℕ) (d : Tree) → i < length (forestSubs f) → Begins (forestSubs f) i (getD (forestSubs f) i d)
+  pub forest-begins : (f : Forest) (i : ℕ) (d : Tree) → i < length (forestSubs f) → BeginsAt (forestSubs f) i (getD (forestSubs f) i d)
   forest-begins none i d h = absurd (not-suc-le-zero h)
   forest-begins (more tree rest) i d h =
       begins-either (subs tree) (forestSubs rest) i d (subst (λ (n : ℕ). i < n) (length-append (subs tree) (forestSubs rest)) h)

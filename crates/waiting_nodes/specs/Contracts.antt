@@ -19,8 +19,8 @@ use Rattle.store.specs.Store.{Limits, vectorAt, floatsSize, workSize, marksAt}
 abbrev pub nodeFor : Shape → List Float → List Float → ℕ → ℕ
 nodeFor s floats query i = keyOf (distance query (vectorAt (s .dimension) floats (s .vectors + i))) * 2 ^ 64 + i
 
-abbrev pub nodesOf : Shape → List Float → List Float → List ℕ → List ℕ
-nodesOf s floats query l = map (nodeFor s floats query) l
+abbrev pub waitingRecords : Shape → List Float → List Float → List ℕ → List ℕ
+waitingRecords s floats query l = map (nodeFor s floats query) l
 
 -- inserted one after the other
 unfoldable pub insertEach : List ℕ → List ℕ → List ℕ

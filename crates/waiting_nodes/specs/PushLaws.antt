@@ -14,7 +14,7 @@ use Rattle.store.specs.Lent.{storeOf}
 use Rattle.walk.specs.declared.Wanted.{Wanted}
 use Rattle.walk.specs.Walk.{waitingNode}
 use Rattle.walk.specs.StoreView.{storeView}
-use Rattle.waiting_nodes.specs.Contracts.{insertEach, nodesOf, PushedNodes}
+use Rattle.waiting_nodes.specs.Contracts.{insertEach, waitingRecords, PushedNodes}
 
 pub insertEach-nil : (l : List ℕ) → insertEach [] l ≡ l
 unfolding insertEach
@@ -58,6 +58,6 @@ pushed-append s work work₁ work₂ waiting one xs ys e a b =
 
 -- nodes wait as the store's view has them
 pub nodes-wait : (s : Shape) (c : Counts) (floats : List Float) (numbers hashes : List ℕ) (query : List Float) (wanted : Wanted) (l : List ℕ)
-    → nodesOf s floats query l ≡ map (waitingNode (storeView s c (storeOf floats numbers hashes) query wanted)) l
+    → waitingRecords s floats query l ≡ map (waitingNode (storeView s c (storeOf floats numbers hashes) query wanted)) l
 unfolding storeView
 nodes-wait s c floats numbers hashes query wanted l = refl

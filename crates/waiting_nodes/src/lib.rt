@@ -14,7 +14,7 @@ ghost use Rattle.lists.specs.Lists.{part};
 ghost use Rattle.distance.specs.Distance.{distance};
 ghost use Rattle.total_order.specs.TotalOrder.{keyOf};
 ghost use Rattle.store.specs.Store.{vectorAt};
-ghost use Rattle.waiting_nodes.specs.Contracts.{PushNode, PushLent, PushedNodes, nodesOf};
+ghost use Rattle.waiting_nodes.specs.Contracts.{PushNode, PushLent, PushedNodes, waitingRecords};
 
 // The key of the distance from the query to vector i of the floats, the part that starts at its number times D.
 pub fn distance_key(floats: &[f32], query: &[f32], dimension: usize, i: usize) -> u32
@@ -51,7 +51,7 @@ fn push_four(
     at: usize,
 )
     requires { ⌜ PushLent shape (now floats) (now numbers) (now work) waiting at 4 ⌝ }
-    ensures { λ _. ⌜ PushedNodes shape (now (work .entry)) waiting (nodesOf shape (now (floats .entry)) (now (query .entry)) (part at 4 (now (numbers .entry)))) (now (work .exit)) ⌝ }
+    ensures { λ _. ⌜ PushedNodes shape (now (work .entry)) waiting (waitingRecords shape (now (floats .entry)) (now (query .entry)) (part at 4 (now (numbers .entry)))) (now (work .exit)) ⌝ }
 {
     let a = wide(numbers[at]);
     let b = wide(numbers[at + 1]);
@@ -85,7 +85,7 @@ fn push_one(
     at: usize,
 )
     requires { ⌜ PushLent shape (now floats) (now numbers) (now work) waiting at 1 ⌝ }
-    ensures { λ _. ⌜ PushedNodes shape (now (work .entry)) waiting (nodesOf shape (now (floats .entry)) (now (query .entry)) (part at 1 (now (numbers .entry)))) (now (work .exit)) ⌝ }
+    ensures { λ _. ⌜ PushedNodes shape (now (work .entry)) waiting (waitingRecords shape (now (floats .entry)) (now (query .entry)) (part at 1 (now (numbers .entry)))) (now (work .exit)) ⌝ }
 {
     let child = wide(numbers[at]);
     let key = distance_key(floats, query, shape.dimension, shape.vectors + child);
@@ -104,7 +104,7 @@ pub fn push_children(
     count: usize,
 )
     requires { ⌜ PushLent shape (now floats) (now numbers) (now work) waiting start count ⌝ }
-    ensures { λ _. ⌜ PushedNodes shape (now (work .entry)) waiting (nodesOf shape (now (floats .entry)) (now (query .entry)) (part start count (now (numbers .entry)))) (now (work .exit)) ⌝ }
+    ensures { λ _. ⌜ PushedNodes shape (now (work .entry)) waiting (waitingRecords shape (now (floats .entry)) (now (query .entry)) (part start count (now (numbers .entry)))) (now (work .exit)) ⌝ }
 {
     let mut j = 0;
     while j < count {

@@ -71,7 +71,7 @@ pub record BlockAsked (numbers : List ℕ) (at base held : ℕ) : Type 0 where
   pub room : base + held ≤ length numbers
 
 -- a block that is held lies within the list
-pub record Held (numbers : List ℕ) (start count base start′ count′ : ℕ) : Type 0 where
+pub record HeldBlock (numbers : List ℕ) (start count base start′ count′ : ℕ) : Type 0 where
   pub is : part start′ count′ numbers ≡ part (base + start) count numbers
   pub room : start′ + count′ ≤ length numbers
 
@@ -79,7 +79,7 @@ abbrev pub Placing : List ℕ → ℕ → ℕ → ℕ → Placed → Type 0
 Placing numbers at base held Outside = blockHeld (getD numbers at 0) (getD numbers (at + 1) 0) held ≡ false
 Placing numbers at base held (Within b) =
     (blockHeld (getD numbers at 0) (getD numbers (at + 1) 0) held ≡ true)
-    × Held numbers (getD numbers at 0) (getD numbers (at + 1) 0) base (b .start) (b .count)
+    × HeldBlock numbers (getD numbers at 0) (getD numbers (at + 1) 0) base (b .start) (b .count)
 
 -- the list that a search reads in a leaf
 abbrev pub LeafPlacing : Shape → Counts → List ℕ → Wanted → ℕ → Placed → Type 0

@@ -81,8 +81,8 @@ different-below (suc n) l d h =
     below x m = let k = Memᴰ-keep (λ x. not (eqb x n)) x l m in other x (k .0) (h x (k .1))
 
 -- the numbers of waiting nodes
-abbrev pub numbersOf : List ℕ → List ℕ
-numbersOf waiting = map nodeNumber waiting
+abbrev pub nodeNumbers : List ℕ → List ℕ
+nodeNumbers waiting = map nodeNumber waiting
 
 -- what a view shows as children are numbers below n
 abbrev pub ChildrenBelow : View → ℕ → Type 0
@@ -92,16 +92,16 @@ pub number-of : (view : View) (c : ℕ) → c < 2 ^ 64 → nodeNumber (waitingNo
 number-of view c h = omega arith
 
 pub numbers-insert : (view : View) (c : ℕ) (waiting : List ℕ) → c < 2 ^ 64
-    → List·Permᴰ (c ∷ numbersOf waiting) (numbersOf (insert (waitingNode view c) waiting))
+    → List·Permᴰ (c ∷ nodeNumbers waiting) (nodeNumbers (insert (waitingNode view c) waiting))
 numbers-insert view c waiting h =
-    subst (λ (x : ℕ). List·Permᴰ (x ∷ numbersOf waiting) (numbersOf (insert (waitingNode view c) waiting))) (number-of view c h)
+    subst (λ (x : ℕ). List·Permᴰ (x ∷ nodeNumbers waiting) (nodeNumbers (insert (waitingNode view c) waiting))) (number-of view c h)
     (Permᴰ·map nodeNumber (insert-perm (waitingNode view c) waiting))
 
 -- Every node is pushed once, and the nodes pushed are those opened and those that wait
 pub record Once (n : ℕ) (p : Progress) : Type 0 where
   pub different : Different (p .pushed)
   pub below : (x : ℕ) → List·Memᴰ x (p .pushed) → x < n
-  pub counted : (x : ℕ) → count x (p .opened) + count x (numbersOf (p .waiting)) ≡ count x (p .pushed)
+  pub counted : (x : ℕ) → count x (p .opened) + count x (nodeNumbers (p .waiting)) ≡ count x (p .pushed)
 
 pub once-push : (view : View) (n : ℕ) → n ≤ 2 ^ 64 → (p : Progress) (child : ℕ) → child < n → isIn child (p .pushed) ≡ false → Once n p
     → Once n (pushedOne view child p)
@@ -112,8 +112,8 @@ once-push view n fits p child low f h = record {
     arith,
     h .counted x,
     count-cons x child (p .pushed),
-    perm-count x (child ∷ numbersOf (p .waiting)) (numbersOf (insert (waitingNode view child) (p .waiting))) (numbers-insert view child (p .waiting) (let t : child < 2 ^ 64 = omega arith in t)),
-    count-cons x child (numbersOf (p .waiting)),
+    perm-count x (child ∷ nodeNumbers (p .waiting)) (nodeNumbers (insert (waitingNode view child) (p .waiting))) (numbers-insert view child (p .waiting) (let t : child < 2 ^ 64 = omega arith in t)),
+    count-cons x child (nodeNumbers (p .waiting)),
   );
 }
 
@@ -127,8 +127,8 @@ module _ (view : View) (n : ℕ) (fits : n ≤ 2 ^ 64) (children-below : Childre
         arith,
         h .counted x,
         count-cons x (nodeNumber least) (p .opened),
-        ap (λ (w : List ℕ). count x (numbersOf w)) e,
-        count-cons x (nodeNumber least) (numbersOf rest),
+        ap (λ (w : List ℕ). count x (nodeNumbers w)) e,
+        count-cons x (nodeNumber least) (nodeNumbers rest),
       );
     };
     pushes = λ p i numbers child e m f h. once-push view n fits p child (children-below i numbers child e m) f h;

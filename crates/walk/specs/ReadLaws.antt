@@ -21,8 +21,8 @@ use Rattle.walk.specs.declared.Wanted.{Wanted}
 use Rattle.store.specs.declared.Counts.{Counts}
 use Rattle.walk.specs.declared.Searched.{Searched}
 use Rattle.walk.specs.Walk.{Shown, State, children, hits, damage, damaged, going, shown, walk}
-use Rattle.walk.specs.WalkLaws.{childrenOf}
-use Rattle.walk.specs.SameWalkLaws.{Alike, Opens, same-walk}
+use Rattle.walk.specs.WalkLaws.{shownChildren}
+use Rattle.walk.specs.SameWalkLaws.{AlikeAt, Opens, same-walk}
 use Rattle.walk.specs.Answer.{hitOf}
 use Rattle.walk.specs.Wanted.{listRead, heldIn, denies, passes, given}
 use Rattle.walk.specs.WantedLaws.{SameNumber, passes-same, given-same, given-read}
@@ -181,13 +181,13 @@ module _ (s : Shape) (c : Counts) (a b : Store) where
   unfolding storeView
   most-same query wanted = refl
 
-  node-alike : (query : List Float) (wanted : Wanted) (i : ℕ) → SameNode s c a b wanted i → Alike (storeView s c a query wanted) (storeView s c b query wanted) i
+  node-alike : (query : List Float) (wanted : Wanted) (i : ℕ) → SameNode s c a b wanted i → AlikeAt (storeView s c a query wanted) (storeView s c b query wanted) i
   node-alike query wanted i same = record {
     shows = shown-same query wanted i same;
     keys = λ x m. keys (shown (storeView s c a query wanted) i) refl x m;
   }
     where
-      keys : (sh : Shown) → shown (storeView s c a query wanted) i ≡ sh → (x : ℕ) → List·Memᴰ x (childrenOf sh)
+      keys : (sh : Shown) → shown (storeView s c a query wanted) i ≡ sh → (x : ℕ) → List·Memᴰ x (shownChildren sh)
           → storeView s c a query wanted .key x ≡ storeView s c b query wanted .key x
       keys damage e x m = absurd (List·Memᴰ·not-nil m)
       keys (hits new) e x m = absurd (List·Memᴰ·not-nil m)

@@ -14,14 +14,14 @@ use Rattle.lists.specs.Tests.{which}
 use Rattle.lists.specs.Partition.{hit, count, hit-same, count-cons, count-Memᴰ}
 use Rattle.record_queue.specs.Sorted.{insert}
 use Rattle.walk.specs.Walk.{Shown, children, hits, damage, View, nodeNumber, Progress, State, damaged, going, pushAll, addHits, give, shown, step, walkFrom, walk}
-use Rattle.walk.specs.WalkLaws.{openedOne, pushedOne, startProgress, pushAll-nil, pushAll-damaged, pushAll-fresh, pushAll-again, step-damaged, step-none, step-open, walk-zero, walk-suc, walk-is, shown-denied, shown-passed, childrenOf}
+use Rattle.walk.specs.WalkLaws.{openedOne, pushedOne, startProgress, pushAll-nil, pushAll-damaged, pushAll-fresh, pushAll-again, step-damaged, step-none, step-open, walk-zero, walk-suc, walk-is, shown-denied, shown-passed, shownChildren}
 use Rattle.walk.specs.BudgetLaws.{walk-more}
-use Rattle.walk.specs.DifferentLaws.{numbersOf, ChildrenBelow, once}
+use Rattle.walk.specs.DifferentLaws.{nodeNumbers, ChildrenBelow, once}
 
 -- two views that show the same at a node, and the same keys of its children
-pub record Alike (v w : View) (i : ℕ) : Type 0 where
+pub record AlikeAt (v w : View) (i : ℕ) : Type 0 where
   pub shows : shown v i ≡ shown w i
-  pub keys : (c : ℕ) → List·Memᴰ c (childrenOf (shown v i)) → v .key c ≡ w .key c
+  pub keys : (c : ℕ) → List·Memᴰ c (shownChildren (shown v i)) → v .key c ≡ w .key c
 
 module _ (v w : View) (most-same : v .most ≡ w .most) where
   pushAll-same : (cs : List ℕ) → ((c : ℕ) → List·Memᴰ c cs → v .key c ≡ w .key c) → (s : State) → pushAll v cs s ≡ pushAll w cs s
@@ -36,21 +36,21 @@ module _ (v w : View) (most-same : v .most ≡ w .most) where
           ∙ ap (λ (key : ℕ). pushAll w cs (going (record { waiting = insert (key * 2 ^ 64 + c) (p .waiting); pushed = c ∷ p .pushed; opened = p .opened; found = p .found }))) (k c (List·Memᴰ·head refl))
           ∙ sym (pushAll-fresh w c cs p f)
 
-  give-same : (sh : Shown) → ((c : ℕ) → List·Memᴰ c (childrenOf sh) → v .key c ≡ w .key c) → (p : Progress) → give v sh p ≡ give w sh p
+  give-same : (sh : Shown) → ((c : ℕ) → List·Memᴰ c (shownChildren sh) → v .key c ≡ w .key c) → (p : Progress) → give v sh p ≡ give w sh p
   unfolding give
   give-same damage k p = refl
   give-same (children cs) k p = pushAll-same cs k (going p)
   give-same (hits new) k p = ap (λ (most : ℕ). addHits (leb (length new + length (p .found)) most) new p) most-same
 
   step-same : (p : Progress) (waiting : List ℕ) → p .waiting ≡ waiting
-      → ((least : ℕ) (rest : List ℕ) → waiting ≡ least ∷ rest → Alike v w (nodeNumber least)) → step v (going p) ≡ step w (going p)
+      → ((least : ℕ) (rest : List ℕ) → waiting ≡ least ∷ rest → AlikeAt v w (nodeNumber least)) → step v (going p) ≡ step w (going p)
   step-same p [] e f = step-none v p e ∙ sym (step-none w p e)
   step-same p (least ∷ rest) e f =
       let a = f least rest refl in
       step-open v p least rest e ∙ give-same (shown v (nodeNumber least)) (a .keys) (openedOne least rest p)
       ∙ ap (λ (sh : Shown). give w sh (openedOne least rest p)) (a .shows) ∙ sym (step-open w p least rest e)
 
-  step-same-at : (s : State) → ((p : Progress) (least : ℕ) (rest : List ℕ) → s ≡ going p → p .waiting ≡ least ∷ rest → Alike v w (nodeNumber least)) → step v s ≡ step w s
+  step-same-at : (s : State) → ((p : Progress) (least : ℕ) (rest : List ℕ) → s ≡ going p → p .waiting ≡ least ∷ rest → AlikeAt v w (nodeNumber least)) → step v s ≡ step w s
   step-same-at damaged f = step-damaged v ∙ sym (step-damaged w)
   step-same-at (going p) f = step-same p (p .waiting) refl (λ least rest e. f p least rest refl e)
 
@@ -74,7 +74,7 @@ pub record Opens (view : View) (budget i : ℕ) : Type 0 where
 
 -- Two views that show the same at each node that the first walk opens, and the same keys of the nodes that it pushes, give the same walk: what stands
 -- in a node that is denied, or not opened, or in a list that is not read, changes nothing
-pub same-walk : (v w : View) → v .most ≡ w .most → v .key 0 ≡ w .key 0 → (b : ℕ) → ((i : ℕ) → Opens v b i → Alike v w i) → walk v b ≡ walk w b
+pub same-walk : (v w : View) → v .most ≡ w .most → v .key 0 ≡ w .key 0 → (b : ℕ) → ((i : ℕ) → Opens v b i → AlikeAt v w i) → walk v b ≡ walk w b
 same-walk v w most first zero f =
     walk-is v 0 ∙ walk-zero v (going (startProgress v))
     ∙ ap (λ (key : ℕ). going (record { waiting = (key * 2 ^ 64 + 0) ∷ []; pushed = 0 ∷ []; opened = []; found = [] })) first
@@ -101,8 +101,8 @@ same-walk v w most first (suc b) f =
 pub opens-below : (v : View) (n : ℕ) → n ≤ 2 ^ 64 → 0 < n → ChildrenBelow v n → (b i : ℕ) → Opens v b i → i < n
 opens-below v n fits pos below b i h =
     let o = once v n fits below pos (h .opened) (h .progress) (h .so-far) in
-    let waits : count i (numbersOf (h .progress .waiting)) ≡ hit i i + count i (numbersOf (h .rest)) =
-    ap (λ (l : List ℕ). count i (numbersOf l)) (h .waits) ∙ ap (λ (j : ℕ). count i (j ∷ numbersOf (h .rest))) (h .is) ∙ count-cons i i (numbersOf (h .rest)) in
+    let waits : count i (nodeNumbers (h .progress .waiting)) ≡ hit i i + count i (nodeNumbers (h .rest)) =
+    ap (λ (l : List ℕ). count i (nodeNumbers l)) (h .waits) ∙ ap (λ (j : ℕ). count i (j ∷ nodeNumbers (h .rest))) (h .is) ∙ count-cons i i (nodeNumbers (h .rest)) in
     o .below i (count-Memᴰ i (h .progress .pushed) (omega (arith, o .counted i, waits, hit-same i i refl)))
 
 -- Views that agree at every node below a count that no shown child leaves
@@ -112,7 +112,7 @@ same-below v w n fits pos below most keys shows b =
     same-walk v w most (keys 0 pos) b
     (λ i o. record { shows = shows i (opens-below v n fits pos below b i o); keys = λ c m. keys c (in-children i (shown v i) refl c m) })
   where
-    in-children : (i : ℕ) (sh : Shown) → shown v i ≡ sh → (c : ℕ) → List·Memᴰ c (childrenOf sh) → c < n
+    in-children : (i : ℕ) (sh : Shown) → shown v i ≡ sh → (c : ℕ) → List·Memᴰ c (shownChildren sh) → c < n
     in-children i damage e c m = absurd (List·Memᴰ·not-nil m)
     in-children i (children cs) e c m = below i cs c e m
     in-children i (hits new) e c m = absurd (List·Memᴰ·not-nil m)

@@ -17,9 +17,9 @@ use Rattle.lists.specs.Partition.{List·Permᴰ, Permᴰ·symm, hit, count, hit
 use Rattle.record_queue.specs.Sorted.{insert, sort}
 use Rattle.record_queue.specs.SortedLaws.{le-or-lt, sort-to-perm, perm-sort}
 use Rattle.walk.specs.Walk.{Shown, children, hits, damage, View, waitingNode, nodeNumber, Progress, State, going, pushAll, give, shown, step, walkFrom, walk, none, whole}
-use Rattle.walk.specs.WalkLaws.{openedOne, pushedOne, withHits, startProgress, pushAll-nil, pushAll-fresh, give-children, give-hits, step-none, step-open, walk-zero, walk-suc, walk-is, none-waiting, nil-waiting}
+use Rattle.walk.specs.WalkLaws.{openedOne, pushedOne, addedHits, startProgress, pushAll-nil, pushAll-fresh, give-children, give-hits, step-none, step-open, walk-zero, walk-suc, walk-is, none-waiting, nil-waiting}
 use Rattle.walk.specs.BudgetLaws.{opened-cut}
-use Rattle.walk.specs.DifferentLaws.{numbersOf, number-of, numbers-insert}
+use Rattle.walk.specs.DifferentLaws.{nodeNumbers, number-of, numbers-insert}
 
 -- 1 for a number from `from` up to `to`, 0 for others
 unfoldable pub between : ℕ → ℕ → ℕ → ℕ
@@ -63,7 +63,7 @@ Local below size Valid i (hits new) = sort new ≡ sort (below i)
 Local below size Valid i (children cs) = Inner below size Valid i cs
 
 -- a sound tree: what its valid nodes show, and no more hits due than there can be
-pub record Sound (view : View) (below : ℕ → List ℕ) (size : ℕ → ℕ) (Valid : ℕ → Type 0) : Type 0 where
+pub record SoundView (view : View) (below : ℕ → List ℕ) (size : ℕ → ℕ) (Valid : ℕ → Type 0) : Type 0 where
   pub first : Valid 0
   pub sized : (i : ℕ) → Valid i → 1 ≤ size i
   pub numbered : (i : ℕ) → Valid i → i < 2 ^ 64
@@ -132,17 +132,17 @@ tiled-inside size x from to (c ∷ cs) s t =
 -- all; the nodes opened with the sizes of those are at most the tree's; every number is pushed, or to be pushed, or strictly below such a node at most
 -- once
 pub record Account (below : ℕ → List ℕ) (size : ℕ → ℕ) (Valid : ℕ → Type 0) (rest : List ℕ) (p : Progress) : Type 0 where
-  pub due : (f : ℕ → ℕ) → sumOf f (p .found) + (sumOf (λ n. sumOf f (below n)) (numbersOf (p .waiting)) + sumOf (λ n. sumOf f (below n)) rest) ≡ sumOf f (below 0)
-  pub sizes : length (p .opened) + (sumOf size (numbersOf (p .waiting)) + sumOf size rest) ≤ size 0
-  pub different : (x : ℕ) → count x (p .pushed) + (sumOf (inside size x) (numbersOf (p .waiting)) + (count x rest + sumOf (inside size x) rest)) ≤ 1
-  pub valid : (n : ℕ) → List·Memᴰ n (numbersOf (p .waiting)) → Valid n
+  pub due : (f : ℕ → ℕ) → sumOf f (p .found) + (sumOf (λ n. sumOf f (below n)) (nodeNumbers (p .waiting)) + sumOf (λ n. sumOf f (below n)) rest) ≡ sumOf f (below 0)
+  pub sizes : length (p .opened) + (sumOf size (nodeNumbers (p .waiting)) + sumOf size rest) ≤ size 0
+  pub different : (x : ℕ) → count x (p .pushed) + (sumOf (inside size x) (nodeNumbers (p .waiting)) + (count x rest + sumOf (inside size x) rest)) ≤ 1
+  pub valid : (n : ℕ) → List·Memᴰ n (nodeNumbers (p .waiting)) → Valid n
   pub coming : (n : ℕ) → List·Memᴰ n rest → Valid n
 
 -- a state that goes on, to a progress with a property
 abbrev pub Goes : (Progress → Type 0) → State → Type 0
 Goes P s = (q : Progress) × (s ≡ going q) × P q
 
-module _ (view : View) (below : ℕ → List ℕ) (size : ℕ → ℕ) (Valid : ℕ → Type 0) (tree : Sound view below size Valid) where
+module _ (view : View) (below : ℕ → List ℕ) (size : ℕ → ℕ) (Valid : ℕ → Type 0) (tree : SoundView view below size Valid) where
   -- a child that is to be pushed was not pushed before
   fresh : (c : ℕ) (cs : List ℕ) (p : Progress) → Account below size Valid (c ∷ cs) p → isIn c (p .pushed) ≡ false
   fresh c cs p a = go (which (isIn c (p .pushed)))
@@ -156,8 +156,8 @@ module _ (view : View) (below : ℕ → List ℕ) (size : ℕ → ℕ) (Valid : 
   account-push : (c : ℕ) (cs : List ℕ) (p : Progress) → Account below size Valid (c ∷ cs) p → Account below size Valid cs (pushedOne view c p)
   account-push c cs p a =
       let ok : Valid c = a .coming c (List·Memᴰ·head refl) in
-      let perm : List·Permᴰ (c ∷ numbersOf (p .waiting)) (numbersOf (insert (waitingNode view c) (p .waiting))) = numbers-insert view c (p .waiting) (tree .numbered c ok) in
-      let w : List ℕ = numbersOf (p .waiting) in
+      let perm : List·Permᴰ (c ∷ nodeNumbers (p .waiting)) (nodeNumbers (insert (waitingNode view c) (p .waiting))) = numbers-insert view c (p .waiting) (tree .numbered c ok) in
+      let w : List ℕ = nodeNumbers (p .waiting) in
       record {
         due = λ f. omega (arith, a .due f, perm-sumOf (λ n. sumOf f (below n)) perm, sumOf-cons (λ n. sumOf f (below n)) c w, sumOf-cons (λ n. sumOf f (below n)) c cs);
         sizes = omega (arith, a .sizes, perm-sumOf size perm, sumOf-cons size c w, sumOf-cons size c cs);
@@ -182,14 +182,14 @@ module _ (view : View) (below : ℕ → List ℕ) (size : ℕ → ℕ) (Valid : 
 
   -- the node that is taken leaves the others
   taken : (g : ℕ → ℕ) (least : ℕ) (rest : List ℕ) (p : Progress) → p .waiting ≡ least ∷ rest
-      → sumOf g (numbersOf (p .waiting)) ≡ g (nodeNumber least) + sumOf g (numbersOf rest)
-  taken g least rest p e = ap (λ (w : List ℕ). sumOf g (numbersOf w)) e ∙ sumOf-cons g (nodeNumber least) (numbersOf rest)
+      → sumOf g (nodeNumbers (p .waiting)) ≡ g (nodeNumber least) + sumOf g (nodeNumbers rest)
+  taken g least rest p e = ap (λ (w : List ℕ). sumOf g (nodeNumbers w)) e ∙ sumOf-cons g (nodeNumber least) (nodeNumbers rest)
 
-  waits : (least : ℕ) (rest : List ℕ) (p : Progress) → p .waiting ≡ least ∷ rest → (n : ℕ) → List·Memᴰ n (nodeNumber least ∷ numbersOf rest) → List·Memᴰ n (numbersOf (p .waiting))
-  waits least rest p e n m = subst (λ (w : List ℕ). List·Memᴰ n (numbersOf w)) (sym e) m
+  waits : (least : ℕ) (rest : List ℕ) (p : Progress) → p .waiting ≡ least ∷ rest → (n : ℕ) → List·Memᴰ n (nodeNumber least ∷ nodeNumbers rest) → List·Memᴰ n (nodeNumbers (p .waiting))
+  waits least rest p e n m = subst (λ (w : List ℕ). List·Memᴰ n (nodeNumbers w)) (sym e) m
 
   account-hits : (least : ℕ) (rest : List ℕ) (p : Progress) (new : List ℕ) → p .waiting ≡ least ∷ rest → Valid (nodeNumber least)
-      → sort new ≡ sort (below (nodeNumber least)) → Account below size Valid [] p → Account below size Valid [] (withHits new (openedOne least rest p))
+      → sort new ≡ sort (below (nodeNumber least)) → Account below size Valid [] p → Account below size Valid [] (addedHits new (openedOne least rest p))
   account-hits least rest p new e ok same a =
       let i : ℕ = nodeNumber least in
       record {
@@ -253,7 +253,7 @@ module _ (view : View) (below : ℕ → List ℕ) (size : ℕ → ℕ) (Valid : 
       → Local below size Valid (nodeNumber least) sh → Account below size Valid [] p → Goes (Account below size Valid []) (give view sh (openedOne least rest p))
   account-give least rest p damage e ok l a = absurd l
   account-give least rest p (hits new) e ok l a =
-      (withHits new (openedOne least rest p), give-hits view new (openedOne least rest p) (fits least rest p new e l a), account-hits least rest p new e ok l a)
+      (addedHits new (openedOne least rest p), give-hits view new (openedOne least rest p) (fits least rest p new e l a), account-hits least rest p new e ok l a)
   account-give least rest p (children cs) e ok l a =
       let r = account-all cs (openedOne least rest p) (account-children least rest p cs e l a) in
       (r .0, give-children view cs (openedOne least rest p) ∙ r .1, r .2)
@@ -275,7 +275,7 @@ module _ (view : View) (below : ℕ → List ℕ) (size : ℕ → ℕ) (Valid : 
   account-start : Account below size Valid [] (startProgress view)
   account-start =
       let z : nodeNumber (waitingNode view 0) ≡ 0 = number-of view 0 (let t : 0 < 2 ^ 64 = omega arith in t) in
-      let one : (g : ℕ → ℕ) → sumOf g (numbersOf (waitingNode view 0 ∷ [])) ≡ g 0 + 0 = λ g. sumOf-cons g (nodeNumber (waitingNode view 0)) [] ∙ ap (λ (n : ℕ). g n + sumOf g []) z ∙ ap (λ (n : ℕ). g 0 + n) (sumOf-nil g) in
+      let one : (g : ℕ → ℕ) → sumOf g (nodeNumbers (waitingNode view 0 ∷ [])) ≡ g 0 + 0 = λ g. sumOf-cons g (nodeNumber (waitingNode view 0)) [] ∙ ap (λ (n : ℕ). g n + sumOf g []) z ∙ ap (λ (n : ℕ). g 0 + n) (sumOf-nil g) in
       record {
         due = λ f. omega (arith, one (λ n. sumOf f (below n)), sumOf-nil f, sumOf-nil (λ n. sumOf f (below n)));
         sizes = omega (arith, one size, sumOf-nil size);
@@ -316,7 +316,7 @@ module _ (view : View) (below : ℕ → List ℕ) (size : ℕ → ℕ) (Valid : 
         arith,
         account b p e .due f,
         sumOf-nil (λ n. sumOf f (below n)),
-        ap (λ (l : List ℕ). sumOf (λ n. sumOf f (below n)) (numbersOf l)) (none-waiting (p .waiting) w),
+        ap (λ (l : List ℕ). sumOf (λ n. sumOf f (below n)) (nodeNumbers l)) (none-waiting (p .waiting) w),
       ))
 
   -- With a budget of at least the number of nodes none waits

@@ -22,8 +22,8 @@ abbrev pub pushedOne : View → ℕ → Progress → Progress
 pushedOne view child p =
     record { waiting = insert (waitingNode view child) (p .waiting); pushed = child ∷ p .pushed; opened = p .opened; found = p .found }
 
-abbrev pub withHits : List ℕ → Progress → Progress
-withHits new p = record { waiting = p .waiting; pushed = p .pushed; opened = p .opened; found = new ++ p .found }
+abbrev pub addedHits : List ℕ → Progress → Progress
+addedHits new p = record { waiting = p .waiting; pushed = p .pushed; opened = p .opened; found = new ++ p .found }
 
 -- the first progress of a walk
 abbrev pub startProgress : View → Progress
@@ -56,7 +56,7 @@ module _ (view : View) where
   unfolding give
   give-children cs p = refl
 
-  pub give-hits : (new : List ℕ) (p : Progress) → length new + length (p .found) ≤ view .most → give view (hits new) p ≡ going (withHits new p)
+  pub give-hits : (new : List ℕ) (p : Progress) → length new + length (p .found) ≤ view .most → give view (hits new) p ≡ going (addedHits new p)
   unfolding give
   give-hits new p h = ap (λ (b : Bool). addHits b new p) (le-leb (length new + length (p .found)) (view .most) h)
 
@@ -112,10 +112,10 @@ unfolding none
 nil-waiting = refl
 
 -- what a node shows as children
-abbrev pub childrenOf : Shown → List ℕ
-childrenOf damage = []
-childrenOf (children cs) = cs
-childrenOf (hits new) = []
+abbrev pub shownChildren : Shown → List ℕ
+shownChildren damage = []
+shownChildren (children cs) = cs
+shownChildren (hits new) = []
 
 -- ---- the rule
 
@@ -155,7 +155,7 @@ module _ (view : View) (P : Progress → Type 0) where
     pub opens : (p : Progress) (least : ℕ) (rest : List ℕ) → p .waiting ≡ least ∷ rest → P p → P (openedOne least rest p)
     pub pushes : (p : Progress) (i : ℕ) (numbers : List ℕ) (child : ℕ) → shown view i ≡ children numbers → List·Memᴰ child numbers
         → isIn child (p .pushed) ≡ false → P p → P (pushedOne view child p)
-    pub adds : (p : Progress) (new : List ℕ) → length new + length (p .found) ≤ view .most → P p → P (withHits new p)
+    pub adds : (p : Progress) (new : List ℕ) → length new + length (p .found) ≤ view .most → P p → P (addedHits new p)
 
   kept-push : Kept → (i : ℕ) (numbers : List ℕ) → shown view i ≡ children numbers → (cs : List ℕ) → ((c : ℕ) → List·Memᴰ c cs → List·Memᴰ c numbers)
       → (p : Progress) → P p → Holds P (pushAll view cs (going p))

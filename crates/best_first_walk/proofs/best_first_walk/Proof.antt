@@ -9,7 +9,7 @@ use Rattle.best_first_walk.proofs.best_first_walk.Proof.AtChildren.{at-
 use Rattle.best_first_walk.proofs.Walking.{Waits, waits-from, waits-start, opens-damage, leaf-damage, leaf-hits, ends-damaged, ends-whole, ends-cut}
 use Rattle.best_first_walk.proofs.Marking.{Marks, children-shown, marks-start, child-damage, child-marked, children-held, children-pushed}
 use Rattle.best_first_walk.specs.WalksLaws.{few-hits, length-found}
-use Rattle.waiting_nodes.specs.Contracts.{nodesOf}
+use Rattle.waiting_nodes.specs.Contracts.{waitingRecords}
 use Rattle.waiting_nodes.specs.PushLaws.{nodes-wait}
 use Rattle.leaf_hits.specs.Contracts.{AddHits}
 use Rattle.walk.specs.Wanted.{most}
@@ -254,7 +254,7 @@ walk-again-2 c =
     let waiting = turn p .walk .waiting - 1 + total d in
     waits-from (e .args .shape) (e .args .counts) (hit e) (view e) (e .args .ef-search) (first (begun (turn p))) (work p) (pushed .last .1 .1 .1 .0) waiting (turn p .walk .hits) (turn p .walk .opened + 1) (opened p .1 .works)
     (children-pushed (e .args .shape) (e .args .counts) (hit e) (view e) (e .args .ef-search) (work p) (w .within .limits) (w .within .nodes) (w .some) (below e) (node p) (children i) (k .loop .j) (k .loop .work) (turn p .walk .waiting - 1) (turn p .walk .hits) (turn p .walk .opened + 1) (k .loop .inv .2) (all d)
-    (pushed .last .1 .1 .1 .0) (nodesOf (e .args .shape) (e .args .floats .now) (e .args .query .now) (children i)) waiting
+    (pushed .last .1 .1 .1 .0) (waitingRecords (e .args .shape) (e .args .floats .now) (e .args .query .now) (children i)) waiting
     (nodes-wait (e .args .shape) (e .args .counts) (e .args .floats .now) (e .args .numbers .now) (e .args .hashes .now) (e .args .query .now) (e .args .wanted) (children i)) (omega (arith, many d)) (pushed .ensures))
 
 same-length : tie.Need-same-length Inv-loop μ-loop Inv-walk μ-walk

@@ -1,9 +1,9 @@
 -- The record is carried out, and what came of it is written; its hits stand in the answer lists, and the index stays narrow.
 use mathlib.Core.Path.{sym, subst}
 use native.Mathlib.Omega.{arith}
-use Rattle.load.specs.Step.{Lent}
+use Rattle.load.specs.Step.{LoadLists}
 use Rattle.load.specs.Code.{lists, NarrowStep}
-use Rattle.load.specs.StepLaws.{Fit, carries-fit, narrow-step}
+use Rattle.load.specs.StepLaws.{CarriedFit, carries-fit, narrow-step}
 use borrow.Author.Needs.{needs}
 use Rattle.load.proofs.load_record.Statement.{statement}
 use Rattle.load.proofs.load_record.Tie as tie
@@ -12,15 +12,15 @@ use Rattle.load.proofs.load_record.Tie as tie
 abbrev start : tie.After-carry → tie.Start
 start c = c .before .before .before .before .before .before .before .before .before .before .before .before .before .before .before
 
-abbrev lent : tie.After-carry → Lent
+abbrev lent : tie.After-carry → LoadLists
 lent c = let a = start c .args in lists (a .floats) (a .numbers) (a .hashes) (a .work) (a .ids) (a .distances)
 
-abbrev left : tie.After-carry → Lent
+abbrev left : tie.After-carry → LoadLists
 left c =
     let x = c .carry .last .1 .1 .1 in
     record { store = record { floats = x .0; numbers = x .1 .0; hashes = x .1 .1 .0 }; work = x .1 .1 .1 .0; ids = x .1 .1 .1 .1 .0; distances = x .1 .1 .1 .1 .1 .0 }
 
-fits : (c : tie.After-carry) → Fit (c .carry .result) (left c)
+fits : (c : tie.After-carry) → CarriedFit (c .carry .result) (left c)
 fits c = let s = start c in carries-fit (s .args .file .now) (s .args .at) (s .args .loading) (lent c) (c .carry .result) (left c) (s .pre .0) (c .carry .ensures)
 
 -- where its text is written

@@ -10,7 +10,7 @@ use lib.Seq.{length-take-le}
 use Rattle.echo_file.specs.Format.{Bytes}
 use Rattle.echo_file.specs.ReadsLaws.{bytes-of}
 use Rattle.load.specs.declared.Step.{Step}
-use Rattle.load.specs.Step.{Lent, Steps, printedOf}
+use Rattle.load.specs.Step.{LoadLists, Steps, printedOf}
 use Rattle.load.specs.Code.{Narrow, NarrowStep}
 use Rattle.load.specs.Onward.{Onward, steps-onward, steps-printed}
 use Rattle.load.specs.Theorem.{Sized}
@@ -21,7 +21,7 @@ use Rattle.printer.proofs.print_file.Tie as tie
 
 abbrev Inv-loop : tie.InvT-loop
 Inv-loop file floats₀ numbers₀ hashes₀ work₀ ids₀ distances₀ text₀ loading₀ at₀ done₀ floats numbers hashes work ids distances text loading at done =
-    let lent : Lent = record { store = record { floats = floats; numbers = numbers; hashes = hashes }; work = work; ids = ids; distances = distances } in
+    let lent : LoadLists = record { store = record { floats = floats; numbers = numbers; hashes = hashes }; work = work; ids = ids; distances = distances } in
     Sized lent × (5147 ≡ length text) × Narrow loading × Reached file done at loading (lent .store) × (done ≤ 5147 * at) × (at ≤ 65536)
 
 abbrev μ-loop : tie.MeasureT-loop
@@ -50,12 +50,12 @@ file l = turn l .before .before .args .file .now
 abbrev text : Carried → List ℕ
 text l = l .load-record .last .1 .1 .1 .1 .1 .1 .1 .1 .1 .0
 
-abbrev lent : Carried → Lent
+abbrev lent : Carried → LoadLists
 lent l =
     let t = turn l .loop in
     record { store = record { floats = t .floats; numbers = t .numbers; hashes = t .hashes }; work = t .work; ids = t .ids; distances = t .distances }
 
-abbrev left : Carried → Lent
+abbrev left : Carried → LoadLists
 left l =
     let x = l .load-record .last .1 .1 .1 in
     record { store = record { floats = x .0; numbers = x .1 .0; hashes = x .1 .1 .0 }; work = x .1 .1 .1 .0; ids = x .1 .1 .1 .1 .0; distances = x .1 .1 .1 .1 .1 .0 }

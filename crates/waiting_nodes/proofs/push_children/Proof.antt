@@ -1,6 +1,6 @@
 -- `push_children` meets its contract: the loop keeps the first j nodes, four more a turn or one. The measure is the nodes left. Assumes nothing.
 use Rattle.waiting_nodes.proofs.Pushing.{children-part, push-next, pushed-next}
-use Rattle.waiting_nodes.specs.Contracts.{nodeFor, nodesOf, PushNodes, Children, PushedNodes}
+use Rattle.waiting_nodes.specs.Contracts.{nodeFor, waitingRecords, PushNodes, Children, PushedNodes}
 use Rattle.waiting_nodes.specs.PushLaws.{pushed-none}
 use Rattle.lists.specs.Lists.{part}
 use mathlib.Core.List.{List}
@@ -13,7 +13,7 @@ use Rattle.waiting_nodes.proofs.push_children.Tie as tie
 
 abbrev Inv-loop : tie.InvT-loop
 Inv-loop shape floats numbers work₀ query waiting start count j₀ work j =
-    (j ≤ count) × PushedNodes shape work₀ waiting (nodesOf shape floats query (part start j numbers)) work
+    (j ≤ count) × PushedNodes shape work₀ waiting (waitingRecords shape floats query (part start j numbers)) work
 
 abbrev μ-loop : tie.MeasureT-loop
 μ-loop shape floats numbers work₀ query waiting start count j₀ work j = count - j
@@ -42,8 +42,8 @@ next t m h =
 
 -- and what they add
 grown : (t : Turn) (m : ℕ) (work : List ℕ)
-    → PushedNodes (entry t .args .shape) (t .loop .work) (entry t .args .waiting + t .loop .j) (nodesOf (entry t .args .shape) (entry t .args .floats .now) (entry t .args .query .now) (part (entry t .args .start + t .loop .j) m (entry t .args .numbers .now))) work
-    → PushedNodes (entry t .args .shape) (entry t .args .work .now) (entry t .args .waiting) (nodesOf (entry t .args .shape) (entry t .args .floats .now) (entry t .args .query .now) (part (entry t .args .start) (t .loop .j + m) (entry t .args .numbers .now))) work
+    → PushedNodes (entry t .args .shape) (t .loop .work) (entry t .args .waiting + t .loop .j) (waitingRecords (entry t .args .shape) (entry t .args .floats .now) (entry t .args .query .now) (part (entry t .args .start + t .loop .j) m (entry t .args .numbers .now))) work
+    → PushedNodes (entry t .args .shape) (entry t .args .work .now) (entry t .args .waiting) (waitingRecords (entry t .args .shape) (entry t .args .floats .now) (entry t .args .query .now) (part (entry t .args .start) (t .loop .j + m) (entry t .args .numbers .now))) work
 grown t m work q =
     let e = entry t in
     let a = e .args in
@@ -135,7 +135,7 @@ returns c =
     let e = entry t in
     let a = e .args in
     let all : t .loop .j ≡ a .count = omega (arith, c .loop-test .left, t .loop .inv .0) in
-    subst (λ (n : ℕ). PushedNodes (a .shape) (a .work .now) (a .waiting) (nodesOf (a .shape) (a .floats .now) (a .query .now) (part (a .start) n (a .numbers .now))) (t .loop .work)) all (t .loop .inv .1)
+    subst (λ (n : ℕ). PushedNodes (a .shape) (a .work .now) (a .waiting) (waitingRecords (a .shape) (a .floats .now) (a .query .now) (part (a .start) n (a .numbers .now))) (t .loop .work)) all (t .loop .inv .1)
 
 pub push-children-spec : {M : Type 1} → statement M
 push-children-spec =

@@ -1,7 +1,7 @@
 -- `best_first_walk` at a leaf: the list that it shows, the hits' part of the work list as it is lent and comes back, and what was added. Assumes nothing.
 use Rattle.best_first_walk.specs.Walks.{foundAt, foundPart}
 use Rattle.best_first_walk.specs.WalksLaws.{length-found}
-use Rattle.leaf_hits.specs.Contracts.{Gathers, entriesOf}
+use Rattle.leaf_hits.specs.Contracts.{Gathers, entryList}
 use Rattle.walk.specs.Wanted.{EntryRead, passes, given, most}
 use Rattle.walk.specs.WantedLaws.{given-held}
 use Rattle.leaf_hits.specs.LeafLaws.{list-shown}
@@ -31,7 +31,7 @@ at-leaf l = entry (begun (turn (least (leaf l))))
 
 -- whether all numbers of a list pass, and the vectors that it gives
 abbrev pub read-entries : Entry → EntryRead
-read-entries e = entriesOf (e .args .shape) (e .args .numbers .now) (e .args .hashes .now)
+read-entries e = entryList (e .args .shape) (e .args .numbers .now) (e .args .hashes .now)
 
 abbrev pub passed : Entry → List ℕ → Bool
 passed e l = allPass (passes (e .args .wanted) (e .args .counts) (read-entries e)) l

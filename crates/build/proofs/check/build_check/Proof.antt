@@ -20,7 +20,7 @@ use Rattle.store.specs.declared.Lengths.{Lengths}
 use Rattle.store.specs.Lent.{listsShort}
 use Rattle.curator.specs.StateLaws.{Sound, sound-facts}
 use Rattle.build.specs.Asked.{ownersBad}
-use Rattle.build.specs.CheckLaws.{earlyRows, fullRow, checked-rows}
+use Rattle.build.specs.CheckLaws.{earlyBuildRows, fullRow, checked-rows}
 use Rattle.lists.specs.Tests.{and-false}
 use Rattle.store.specs.LentLaws.{lists-long}
 use Rattle.build.proofs.check.build_check.Statement.{statement}
@@ -43,7 +43,7 @@ abbrev lens : tie.Start → Lengths
 lens s = s .args .lent
 
 abbrev rows : tie.Start → List Row
-rows s = earlyRows (s .args .index) (lens s) (s .args .work) (now (s .args .numbers)) ++ (fullRow (s .args .index) false ∷ [])
+rows s = earlyBuildRows (s .args .index) (lens s) (s .args .work) (now (s .args .numbers)) ++ (fullRow (s .args .index) false ∷ [])
 
 sound : (c : tie.Else1) → Sound (start-1 c .args .index)
 sound c = sound-facts _ (sym (c .before .state-sound .ensures) ∙ not-false _ (c .if1 .left))

@@ -4,7 +4,7 @@ use mathlib.Core.Path.{subst}
 use Prim.Native.Nat.{ℕ}
 use Rattle.store.specs.Store.{Store}
 use Rattle.load.specs.declared.carry.Carried.{Carried}
-use Rattle.load.specs.Step.{Lent, Carries}
+use Rattle.load.specs.Step.{LoadLists, Carries}
 use Rattle.load.specs.Code.{lists, AsksAdd, AsksFind, Asks}
 use borrow.Author.Needs.{needs}
 use Rattle.load.proofs.carry.carry.Statement.{statement}
@@ -17,10 +17,10 @@ start c = c .before .before .before .before .before .before .before .before
 abbrev file : tie.After-task-at → List ℕ
 file c = start c .args .file .now
 
-abbrev lent : tie.After-task-at → Lent
+abbrev lent : tie.After-task-at → LoadLists
 lent c = let a = start c .args in lists (a .floats) (a .numbers) (a .hashes) (a .work) (a .ids) (a .distances)
 
-abbrev Comes : tie.After-task-at → Lent → Carried → Lent → Type 0
+abbrev Comes : tie.After-task-at → LoadLists → Carried → LoadLists → Type 0
 Comes c = Carries (file c) (start c .args .at) (start c .args .loading)
 
 -- the task, where it is an add
@@ -118,7 +118,7 @@ returns-3 c =
     let l = after-look-up c in
     let k = to-find (l .before) in
     let x = l .look-up .last .1 .1 .1 in
-    let left : Lent =
+    let left : LoadLists =
     record { store = record { floats = x .0; numbers = x .1 .0; hashes = x .1 .1 .0 }; work = x .1 .1 .1 .0; ids = x .1 .1 .1 .1 .0; distances = x .1 .1 .1 .1 .1 .0 } in
     finding k .comes (lent (find-task k)) (l .look-up .result) left (l .look-up .ensures)
 

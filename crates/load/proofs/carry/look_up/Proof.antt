@@ -1,7 +1,7 @@
 -- A refused build ends the record; after another the nearest are looked up.
 use mathlib.Core.Path.{refl}
 use Rattle.curator.specs.Arguments.{SearchCall}
-use Rattle.load.specs.Step.{Lent}
+use Rattle.load.specs.Step.{LoadLists}
 use Rattle.load.specs.Code.{lists, searchAt}
 use Rattle.load.proofs.Laws.{build-refused, build-searched}
 use borrow.Author.Needs.{needs}
@@ -12,10 +12,10 @@ use Rattle.load.proofs.carry.look_up.Tie as tie
 abbrev start : tie.After-build → tie.Start
 start c = c .before .before .before .before .before .before .before .before .before .before .before .before
 
-abbrev lent : tie.Start → Lent
+abbrev lent : tie.Start → LoadLists
 lent s = lists (s .args .floats) (s .args .numbers) (s .args .hashes) (s .args .work) (s .args .ids) (s .args .distances)
 
-abbrev asked : tie.Start → Lent → SearchCall
+abbrev asked : tie.Start → LoadLists → SearchCall
 asked s = searchAt (s .args .index .dimension) (s .args .file .now) (s .args .query)
 
 -- the build, from where its answer is known

@@ -6,7 +6,7 @@ use Rattle.curator.specs.declared.Changed.{Changed}
 use Rattle.curator.specs.Changes.{Creates}
 use Rattle.load.specs.declared.carry.Carried.{Carried}
 use Rattle.load.specs.File.{capacities}
-use Rattle.load.specs.Step.{openedBy, Opens}
+use Rattle.load.specs.Step.{openedBy, OpensIndex}
 use Rattle.load.proofs.Laws.{open-refused, open-wide, open-narrow}
 use borrow.Author.Needs.{needs}
 use Rattle.load.proofs.task.open.Statement.{statement}
@@ -34,7 +34,7 @@ enum-known-answer-2 c = search needs
 
 -- what comes of the answer of `new`
 opens : {dimension next : ℕ} {params : CuratorParams} {carried : Carried} (answer : Changed) → Creates dimension params capacities answer
-    → carried ≡ openedBy answer dimension next → Opens dimension params next carried
+    → carried ≡ openedBy answer dimension next → OpensIndex dimension params next carried
 opens answer creates comes = record { answer = answer; creates = creates; comes = comes }
 
 returns : tie.Need-returns
