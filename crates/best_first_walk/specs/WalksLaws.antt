@@ -1,4 +1,4 @@
--- The hits' part of the work list has room for every hit, and for one number more than there are hits. Assumes nothing.
+-- The hits' part of the work list has room for one number more than there are hits. Assumes nothing.
 use Prim.Native.Nat.{ℕ, _+_, _≤_, max}
 use native.Mathlib.Omega.{arith}
 use mathlib.Core.Path.{_≡_}

@@ -1,4 +1,4 @@
--- Laws of a build, for the theory of runs.
+-- Laws of a build: what an accepted one leaves, of an unbuilt index and of a built one.
 use Prim.Native.Nat.{ℕ}
 use mathlib.Core.Bool.{Bool, true, false}
 use mathlib.Core.List.{List}

@@ -45,7 +45,7 @@ use Rattle.curator.specs.OutcomeLaws.{carried-is, refused-is}
 
 -- What a build reads is the same: whether a list is too short, the vectors held, and the owners and hashes of the entries held. Document ids are not
 -- read.
-pub record SameBuilt (index : CuratorIndex) (s : Store) (work : List ℕ) (t : Store) (other : List ℕ) : Type 0 where
+pub record SameBuildRead (index : CuratorIndex) (s : Store) (work : List ℕ) (t : Store) (other : List ℕ) : Type 0 where
   pub short : listsShort (indexShape index) (lengthsOf s) (length work) ≡ listsShort (indexShape index) (lengthsOf t) (length other)
   pub vectors : heldVectors index s ≡ heldVectors index t
   pub entries : heldEntries index s ≡ heldEntries index t
@@ -91,7 +91,7 @@ check-by : (index : CuratorIndex) (store : Store) (work : List ℕ)
 unfolding buildCheck buildRows rowsBy
 check-by index store work = refl
 
-module _ (index : CuratorIndex) (s : Store) (work : List ℕ) (t : Store) (other : List ℕ) (same : SameBuilt index s work t other) where
+module _ (index : CuratorIndex) (s : Store) (work : List ℕ) (t : Store) (other : List ℕ) (same : SameBuildRead index s work t other) where
   owners-same : ownersDamaged index s ≡ ownersDamaged index t
   unfolding ownersDamaged
   owners-same = ap (λ (e : Entries). not (allPass (λ owner. ltb owner (index .counts .vectors)) (e .owners))) (same .entries)
@@ -160,7 +160,7 @@ fine-ready index store work f u =
     u
 
 -- what stands where in a store with nodes laid out
-record Standing (s : Shape) (c : Counts) (nodes : List Node) (store : Store) : Type 0 where
+record HeldStanding (s : Shape) (c : Counts) (nodes : List Node) (store : Store) : Type 0 where
   centroids : part (centroidsAt s) (c .nodes * s .dimension) (store .floats) ≡ joined (λ node. node .centroid) nodes
   order : part (orderAt s) (c .vectors) (store .numbers) ≡ joined (λ node. node .ids) nodes
   six : part (nodesAt s) (6 * c .nodes) (store .numbers) ≡ sixFrom 0 0 0 nodes
@@ -199,7 +199,7 @@ module _ (index : CuratorIndex) (store : Store) (work : List ℕ) (r : BuildRead
   unfolding tooManyNodes splitting
   few = ltb-false _ _ full
 
-  standing : Standing (indexShape index) (builtWith index (length (heldNodes index store)) .counts) (heldNodes index store) store′
+  standing : HeldStanding (indexShape index) (builtWith index (length (heldNodes index store)) .counts) (heldNodes index store) store′
   unfolding heldNodes splitting hashesOf
   standing =
       let s = indexShape index in
@@ -242,7 +242,7 @@ module _ (index : CuratorIndex) (store : Store) (work : List ℕ) (r : BuildRead
       }
 
 -- equal contents at the same places
-same-standing : (s : Shape) (c : Counts) (nodes : List Node) (a b : Store) → Standing s c nodes a → Standing s c nodes b → SameNodes s c a b
+same-standing : (s : Shape) (c : Counts) (nodes : List Node) (a b : Store) → HeldStanding s c nodes a → HeldStanding s c nodes b → SameNodes s c a b
 same-standing s c nodes a b x y =
     record {
       centroids = x .centroids ∙ sym (y .centroids);
@@ -266,7 +266,7 @@ fine-few index store work f u =
 -- Stores that agree on what a build reads give the same answer; where it makes an unbuilt index built, the same nodes are laid out in both, and they
 -- agree on these nodes afterwards.
 pub builds-same : (index : CuratorIndex) (s t : Store) (work other : List ℕ) (a b : Changed) (s′ t′ : Store) (work′ other′ : List ℕ)
-    → SameBuilt index s work t other → Builds index s work a s′ work′ → Builds index t other b t′ other′
+    → SameBuildRead index s work t other → Builds index s work a s′ work′ → Builds index t other b t′ other′
     → (a ≡ b)
     × ((index′ : CuratorIndex) → a ≡ Changed′.Index index′ → index .built ≡ false
     → SameWritten (indexShape index) s t s′ t′ × SameNodes (indexShape index) (index′ .counts) s′ t′)
@@ -292,5 +292,5 @@ builds-same index s t work other a b s′ t′ work′ other′ same x y = (answ
           record { nodes = nodes; first = first; second = laid-of index t other t′ other′ nodes (sym n) m },
           subst (λ (k : CuratorIndex). SameNodes (indexShape index) (k .counts) s′ t′) (sym i)
               (same-standing (indexShape index) (builtWith index (length nodes) .counts) nodes s′ t′ one
-              (subst (λ (l : List Node). Standing (indexShape index) (builtWith index (length l) .counts) l t′) (sym n) two)),
+              (subst (λ (l : List Node). HeldStanding (indexShape index) (builtWith index (length l) .counts) l t′) (sym n) two)),
         )

@@ -29,7 +29,7 @@ use Rattle.store.specs.Lent.{lengthsOf}
 use Rattle.curator.specs.Changes.{buildCheck, heldNodes, LaidOut, BuildsFine, BuildsBy, Builds}
 use Rattle.build.specs.Asked.{buildChecked, BuildReady}
 use Rattle.build.specs.CheckLaws.{left-alone, check-refused, check-full, check-fine}
-use Rattle.curator.specs.Outcome.{Carried}
+use Rattle.curator.specs.Outcome.{Succeeded}
 use Rattle.curator.specs.OutcomeLaws.{is-carried, is-refused}
 use Rattle.build.specs.WrittenLaws.{treeSize, too-many-is, length-held, left-full, all-made, room, laid-out}
 
@@ -42,7 +42,7 @@ builds-by index store work answer store′ work′ check e h =
     subst (λ (k : Check). BuildsBy k index store work answer store′ work′) (sym e) h
 
 unbuilt-fine : (index : CuratorIndex) (store : Store) (work : List ℕ) (answer : Changed) (store′ : Store) (work′ : List ℕ) → index .built ≡ false
-    → Carried (builtWith index (length (heldNodes index store))) answer × LaidOut index store work store′ work′
+    → Succeeded (builtWith index (length (heldNodes index store))) answer × LaidOut index store work store′ work′
     → BuildsFine (index .built) index store work answer store′ work′
 unfolding BuildsFine
 unbuilt-fine index store work answer store′ work′ e h = subst (λ (b : Bool). BuildsFine b index store work answer store′ work′) (sym e) h
@@ -89,7 +89,7 @@ unfolding BuildsBy
 builds-whole index store work floats′ numbers′ work′ made nodes r a numbers″ hashes″ work″ f =
     let check =
     check-fine index store work (r .passed) (r .unbuilt) (too-many-is index store ∙ le-ltb _ _ (a .fits)) in
-    let laid : Carried (builtWith index (length (heldNodes index store))) (Changed′.Index (builtWith index nodes))
+    let laid : Succeeded (builtWith index (length (heldNodes index store))) (Changed′.Index (builtWith index nodes))
     × LaidOut index store work (record { floats = floats′; numbers = numbers″; hashes = hashes″ }) work″ = (
       is-carried _ _ (ap (λ (n : ℕ). Changed′.Index (builtWith index n)) (a .count ∙ sym (length-held index store))),
       laid-out index store work floats′ numbers′ work′ made r (a .whole) nodes (a .count) (a .fits) numbers″ hashes″ work″ f,

@@ -12,7 +12,7 @@ use Rattle.lists.specs.Lists.{part, joined}
 use Rattle.lists.specs.Frame.{Part, freed-length, freed-more, freed-self, freed-twice}
 use Rattle.lists.specs.Parts.{getD-part, part-sets-before, part-sets-same, sets-comm, sets-sets-same}
 use Rattle.store.specs.declared.Shape.{Shape}
-use Rattle.store.specs.Store.{Store, ownersAt, orderAt, nodesAt, linksAt, entryOrderAt, filtersAt, numbersSize, workSize, workPart}
+use Rattle.store.specs.Store.{Store, ownersAt, orderAt, nodesAt, linksAt, entryOrderAt, filtersAt, numbersSize, workSize, workPart, orderPart, nodesPart, linksPart, entryOrderPart, filtersPart}
 use Rattle.cluster.specs.Vectors.{vectorsIn}
 use Rattle.cluster.specs.VectorsLaws.{length-vectorsIn}
 use Rattle.tree.specs.Tree.{treeOf, size}
@@ -76,17 +76,13 @@ pub left-full : (index : CuratorIndex) (store : Store) (work numbers′ : List �
 unfolding freeOf
 left-full index store work numbers′ floats′ work′ made r o =
     let s = indexShape index in
-    let order : Part = record { start = orderAt s; count = s .vectors } in
-    let nodes : Part = record { start = nodesAt s; count = 6 * s .nodes } in
-    let links : Part = record { start = linksAt s; count = s .nodes } in
-    let entries : Part = record { start = entryOrderAt s; count = s .entries } in
     let room = r .long .numbers in
     record {
       floats = o .floats-free;
       numbers =
-          freed-more (order ∷ nodes ∷ links ∷ []) entries (store .numbers) numbers′ (omega arith)
-          (freed-more (order ∷ nodes ∷ []) links (store .numbers) numbers′ (omega arith) (o .numbers-free));
-      hashes = freed-self (record { start = filtersAt s; count = 4 * s .nodes }) (store .hashes) (r .long .hashes);
+          freed-more (orderPart s ∷ nodesPart s ∷ linksPart s ∷ []) (entryOrderPart s) (store .numbers) numbers′ (omega arith)
+          (freed-more (orderPart s ∷ nodesPart s ∷ []) (linksPart s) (store .numbers) numbers′ (omega arith) (o .numbers-free));
+      hashes = freed-self (filtersPart s) (store .hashes) (r .long .hashes);
       work = o .work-free;
     }
 

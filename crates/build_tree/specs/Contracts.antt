@@ -7,7 +7,7 @@ use lib.ListN.{length, getD}
 use lib.Seq.{sets}
 use Rattle.lists.specs.Lists.{part, keep, joined}
 use Rattle.store.specs.declared.Shape.{Shape}
-use Rattle.store.specs.Store.{Limits, centroidsAt, centresAt, floatsSize, orderAt, nodesAt, numbersSize, workSize, workPart}
+use Rattle.store.specs.Store.{Limits, centroidsAt, centresAt, floatsSize, orderAt, nodesAt, numbersSize, workSize, workPart, centroidsPart, centresPart, orderPart, nodesPart}
 use Rattle.cluster.specs.Clusters.{clusters, meanOf}
 use Rattle.cluster.specs.Vectors.{vectorsIn}
 use Rattle.lists.specs.Frame.{AlikeBut, Freed}
@@ -103,8 +103,8 @@ pub record Whole (s : Shape) (leaf n : ℕ) (floats floats′ : List Float) (num
 -- 13: 'the defined tree has more than M nodes'. Free are the centroids and the centres, the leaf order of vectors and the six per node, and the work.
 pub record Overfull (s : Shape) (floats floats′ : List Float) (numbers numbers′ work work′ : List ℕ) (answer : Made) : Type 0 where
   pub answered : answer ≡ Made′.TooMany
-  pub floats-free : Freed (record { start = centroidsAt s; count = s .dimension * s .nodes } ∷ record { start = centresAt s; count = s .dimension * s .branching } ∷ []) floats floats′
-  pub numbers-free : Freed (record { start = orderAt s; count = s .vectors } ∷ record { start = nodesAt s; count = 6 * s .nodes } ∷ []) numbers numbers′
+  pub floats-free : Freed (centroidsPart s ∷ centresPart s ∷ []) floats floats′
+  pub numbers-free : Freed (orderPart s ∷ nodesPart s ∷ []) numbers numbers′
   pub work-free : Freed (workPart s ∷ []) work work′
 
 -- What `build_tree` does.

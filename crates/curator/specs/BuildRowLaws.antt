@@ -19,7 +19,7 @@ use Rattle.curator.specs.Calls.{factsOf, heldVectors, splittingOf}
 use Rattle.store.specs.Lent.{lengthsOf, listsShort}
 use Rattle.curator.specs.Changes.{ownersDamaged, tooManyNodes, buildCheck, BuildsFine, BuildsBy, Builds}
 use Rattle.curator.specs.Limits.{stateSound, indexShape}
-use Rattle.curator.specs.Outcome.{changedNumber, Carried}
+use Rattle.curator.specs.Outcome.{changedNumber, Succeeded}
 use Rattle.settings.specs.Refusals.{checkNumber}
 use Rattle.curator.specs.RowLaws.{NoneHolds, FirstAt, numbersOfRows, different, none-fine, fine-none, zero-fine, returned-exactly, test-failed, test-passed}
 use Rattle.curator.specs.Rows.{Row, firstOf, stateRow, buildRows}
@@ -88,12 +88,12 @@ module _ (index : CuratorIndex) (store : Store) (work : List ℕ) (answer : Chan
   -- ---- number by number
 
   -- 4 and 3 do not hold, and more
-  abbrev Asked : Type 0 → Type 0
-  Asked more = (stateSound index ≡ true) × ((listsShort (indexShape index) (lengthsOf store) (length work) ≡ false) × more)
+  abbrev BuildAsked : Type 0 → Type 0
+  BuildAsked more = (stateSound index ≡ true) × ((listsShort (indexShape index) (lengthsOf store) (length work) ≡ false) × more)
 
   -- and the index is not built and holds a vector
   abbrev Some : Type 0 → Type 0
-  Some more = Asked ((index .built ≡ false) × (0 < index .counts .vectors) × more)
+  Some more = BuildAsked ((index .built ≡ false) × (0 < index .counts .vectors) × more)
 
   pub build-4 : (changedNumber answer ≡ 4) ↔ (stateSound index ≡ false)
   build-4 = Iff·trans (build-returned 0 (omega arith)) (test-failed (stateSound index))
@@ -103,7 +103,7 @@ module _ (index : CuratorIndex) (store : Store) (work : List ℕ) (answer : Chan
   build-3 = Iff·trans (build-returned 1 (omega arith)) (Iff·and (test-passed (stateSound index)) Iff·rfl)
 
   -- 'build: n = 0'
-  pub build-12 : (changedNumber answer ≡ 12) ↔ Asked ((index .built ≡ false) × (index .counts .vectors ≡ 0))
+  pub build-12 : (changedNumber answer ≡ 12) ↔ BuildAsked ((index .built ≡ false) × (index .counts .vectors ≡ 0))
   unfolding buildRows
   build-12 =
       Iff·trans (build-returned 2 (omega arith))
@@ -163,7 +163,7 @@ module _ (index : CuratorIndex) (store : Store) (work : List ℕ) (answer : Chan
       )
 
   -- 'a built index then succeeds unchanged'
-  pub build-built : Asked (index .built ≡ true) → Carried index answer × (store′ ≡ store) × (work′ ≡ work)
+  pub build-built : BuildAsked (index .built ≡ true) → Succeeded index answer × (store′ ≡ store) × (work′ ≡ work)
   unfolding Builds BuildsBy BuildsFine buildRows
   build-built (sound, (long, built)) =
       subst (λ (b : Bool). BuildsFine b index store work answer store′ work′) built

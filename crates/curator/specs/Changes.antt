@@ -9,7 +9,7 @@ use lib.ListN.{length, set, replicate}
 use lib.Seq.{sets}
 use Rattle.vector.specs.Vector.{dot, Normalized}
 use Rattle.store.specs.declared.Shape.{Shape}
-use Rattle.store.specs.Store.{Store, centroidsAt, ownersAt, orderAt, nodesAt, linksAt, entryOrderAt, filtersAt, centresPart, workPart}
+use Rattle.store.specs.Store.{Store, centroidsAt, ownersAt, orderAt, nodesAt, linksAt, entryOrderAt, filtersAt, centresPart, workPart, centroidsPart, orderPart, nodesPart, linksPart, entryOrderPart, filtersPart}
 use Rattle.tree.specs.Tree.{treeOf, size}
 use Rattle.tree.specs.Nodes.{Node, nodesOf}
 use Rattle.tree.specs.Layout.{numbersOf, hashesOf, floatsOf}
@@ -26,7 +26,7 @@ use Rattle.settings.specs.declared.refusal.Refusal.{Refusal}
 use Rattle.settings.specs.declared.refusal.Refusal.the-variants as Refusal′
 use Rattle.settings.specs.declared.refusal.StoreRefusal.{StoreRefusal}
 use Rattle.settings.specs.declared.refusal.StoreRefusal.the-variants.{ListTooShort, VectorsFull, EntriesFull, NodesFull, Damaged}
-use Rattle.curator.specs.Outcome.{Carried, ChangeRefused}
+use Rattle.curator.specs.Outcome.{Succeeded, ChangeRefused}
 use Rattle.curator.specs.Limits.{stateSound, indexShape}
 use Rattle.store.specs.Lent.{lengthsOf}
 use Rattle.curator.specs.Arguments.{AddCall}
@@ -50,13 +50,9 @@ freeStore s VectorsFull = record { floats = []; numbers = []; hashes = []; work 
 freeStore s EntriesFull = record { floats = []; numbers = []; hashes = []; work = [] }
 freeStore s NodesFull =
     record {
-      floats = record { start = centroidsAt s; count = s .dimension * s .nodes } ∷ centresPart s ∷ [];
-      numbers =
-          record { start = orderAt s; count = s .vectors } ∷ record { start = nodesAt s; count = 6 * s .nodes }
-          ∷ record { start = linksAt s; count = s .nodes }
-          ∷ record { start = entryOrderAt s; count = s .entries }
-          ∷ [];
-      hashes = record { start = filtersAt s; count = 4 * s .nodes } ∷ [];
+      floats = centroidsPart s ∷ centresPart s ∷ [];
+      numbers = orderPart s ∷ nodesPart s ∷ linksPart s ∷ entryOrderPart s ∷ [];
+      hashes = filtersPart s ∷ [];
       work = workPart s ∷ [];
     }
 freeStore s Damaged = record { floats = []; numbers = []; hashes = []; work = workPart s ∷ [] }
@@ -87,7 +83,7 @@ unfolding newAnswer firstOf newRows
 created dimension params capacities = newAnswer (firstOf (newRows dimension params capacities)) dimension params capacities
 
 unfoldable pub NewBy : Check → ℕ → CuratorParams → Capacities → Changed → Type 0
-NewBy Check′.Fine dimension params capacities answer = Carried (fresh dimension params capacities) answer
+NewBy Check′.Fine dimension params capacities answer = Succeeded (fresh dimension params capacities) answer
 NewBy (Check′.Refused r) dimension params capacities answer = ChangeRefused r answer
 
 -- the whole result of `new`
@@ -115,7 +111,7 @@ pub record Wrote (index : CuratorIndex) (store : Store) (call : AddCall) (store�
 
 unfoldable pub AddsBy : Check → CuratorIndex → Store → AddCall → Changed → Store → Type 0
 AddsBy Check′.Fine index store call answer store′ =
-    Carried (grown index (length (call .lengths))) answer × Wrote index store call store′
+    Succeeded (grown index (length (call .lengths))) answer × Wrote index store call store′
 AddsBy (Check′.Refused r) index store call answer store′ = ChangeRefused r answer × (store′ ≡ store)
 
 -- the whole result of an add: state, store and call at entry; answer and store at exit
@@ -157,9 +153,9 @@ pub record LaidOut (index : CuratorIndex) (store : Store) (lent : List ℕ) (sto
   pub work : Freed (workPart (indexShape index) ∷ []) lent lent′
 
 unfoldable pub BuildsFine : Bool → CuratorIndex → Store → List ℕ → Changed → Store → List ℕ → Type 0
-BuildsFine true index store work answer store′ work′ = Carried index answer × (store′ ≡ store) × (work′ ≡ work)
+BuildsFine true index store work answer store′ work′ = Succeeded index answer × (store′ ≡ store) × (work′ ≡ work)
 BuildsFine false index store work answer store′ work′ =
-    Carried (builtWith index (length (heldNodes index store))) answer × LaidOut index store work store′ work′
+    Succeeded (builtWith index (length (heldNodes index store))) answer × LaidOut index store work store′ work′
 
 unfoldable pub BuildsBy : Check → CuratorIndex → Store → List ℕ → Changed → Store → List ℕ → Type 0
 unfolding BuildsFine

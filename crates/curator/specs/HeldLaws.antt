@@ -204,7 +204,7 @@ adds-has index store call = by (addCheck index store call)
 -- ---- 'Parts past the counts held are never read'
 
 -- two stores that agree on what an index holds
-pub record SameContents (index : CuratorIndex) (s t : Store) : Type 0 where
+pub record SameOfIndex (index : CuratorIndex) (s t : Store) : Type 0 where
   pub vectors : heldVectors index s ≡ heldVectors index t
   pub documents : heldDocuments index s ≡ heldDocuments index t
   pub entries : heldEntries index s ≡ heldEntries index t
@@ -220,8 +220,8 @@ abbrev pub stateAfter : CuratorIndex → Changed → CuratorIndex
 stateAfter index (Changed′.Index next) = next
 stateAfter index (Changed′.Refused r) = index
 
-grown-same : (index : CuratorIndex) (s t : Store) (call : AddCall) → SameContents index s t → AddRoom index s call → AddRoom index t call
-    → SameContents (grown index (length (call .lengths))) (added index s call) (added index t call)
+grown-same : (index : CuratorIndex) (s t : Store) (call : AddCall) → SameOfIndex index s t → AddRoom index s call → AddRoom index t call
+    → SameOfIndex (grown index (length (call .lengths))) (added index s call) (added index t call)
 grown-same index s t call h r q =
     let w = added-wrote index s call in
     let v = added-wrote index t call in
@@ -247,8 +247,8 @@ grown-same index s t call h r q =
     }
 
 -- stores that agree on what is held give the same answer, are written alike, and agree afterwards on what is held
-pub adds-same : (index : CuratorIndex) (s t : Store) (call : AddCall) (a b : Changed) (s′ t′ : Store) → lengthsOf s ≡ lengthsOf t → SameContents index s t
-    → Adds index s call a s′ → Adds index t call b t′ → (a ≡ b) × SameContents (stateAfter index a) s′ t′
+pub adds-same : (index : CuratorIndex) (s t : Store) (call : AddCall) (a b : Changed) (s′ t′ : Store) → lengthsOf s ≡ lengthsOf t → SameOfIndex index s t
+    → Adds index s call a s′ → Adds index t call b t′ → (a ≡ b) × SameOfIndex (stateAfter index a) s′ t′
 adds-same index s t call a b s′ t′ l h x y =
     let check = add-check-same index s t call l in
     let (e, f) = adds-is index s call a s′ x in
@@ -258,6 +258,6 @@ adds-same index s t call a b s′ t′ l h x y =
     (e ∙ sym g′, rw (e, f, k′) (after (addCheck index s call) refl (sym check)))
   where
     after : (c : Check) → addCheck index s call ≡ c → addCheck index t call ≡ c
-        → SameContents (stateAfter index (addedAnswer c index call)) (addedStore c index s call) (addedStore c index t call)
+        → SameOfIndex (stateAfter index (addedAnswer c index call)) (addedStore c index s call) (addedStore c index t call)
     after Fine m n = grown-same index s t call h (add-facts index s call m .room) (add-facts index t call n .room)
     after (Refused r) m n = h

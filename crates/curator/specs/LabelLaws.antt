@@ -1,4 +1,4 @@
--- Laws of the labels of an add: the i-th label starts at the sum of the lengths before it.
+-- Laws of the labels of an add: lengths from a place on, how many labels, and the hash of each.
 use Prim.Native.Nat.{ℕ, suc, _+_, _<_}
 use mathlib.Core.Path.{_≡_, refl, ap, _∙_}
 use mathlib.Core.List.{List, [], _∷_, map}
@@ -17,16 +17,16 @@ total-drop l i h = ap total (drop-cons l i 0 h)
 
 -- ---- labels
 
-pub length-labelsOf : (lengths bytes : List ℕ) → length (pieces lengths bytes) ≡ length lengths
+pub length-pieces : (lengths bytes : List ℕ) → length (pieces lengths bytes) ≡ length lengths
 unfolding pieces
-length-labelsOf [] bytes = refl
-length-labelsOf (n ∷ lengths) bytes = ap suc (length-labelsOf lengths (drop n bytes))
+length-pieces [] bytes = refl
+length-pieces (n ∷ lengths) bytes = ap suc (length-pieces lengths (drop n bytes))
 
 -- ---- their hashes
 
 pub length-hashesOfLabels : (lengths bytes : List ℕ) → length (hashesOfLabels lengths bytes) ≡ length lengths
 unfolding hashesOfLabels
-length-hashesOfLabels lengths bytes = length-map (pieces lengths bytes) fnv ∙ length-labelsOf lengths bytes
+length-hashesOfLabels lengths bytes = length-map (pieces lengths bytes) fnv ∙ length-pieces lengths bytes
 
 -- the hashes from a place on, where its label starts
 pub hashes-drop : (lengths bytes : List ℕ) (i start : ℕ) → i < length lengths

@@ -32,7 +32,7 @@ foundValues (Found′.Refused r) = []
 -- ---- answers by number and values: the promises say answers in these words
 
 -- carried out: 0, and the state from now on
-pub record Carried (index : CuratorIndex) (answer : Changed) : Type 0 where
+pub record Succeeded (index : CuratorIndex) (answer : Changed) : Type 0 where
   pub number-is : changedNumber answer ≡ 0
   pub values-are : changedValues answer ≡ index ∷ []
 

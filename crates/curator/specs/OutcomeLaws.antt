@@ -16,7 +16,7 @@ use Rattle.settings.specs.declared.refusal.SettingsRefusal.the-variants.{Invali
 use Rattle.settings.specs.declared.refusal.StateRefusal.the-variants.{InvalidState, AlreadyBuilt, NotBuilt, EmptyIndex}
 use Rattle.settings.specs.declared.refusal.InputRefusal.the-variants.{DimensionMismatch, NonFiniteInput, LabelLengths, AnswerTooShort, BadRecord, SettingsOrder, FileTooLong}
 use Rattle.settings.specs.declared.refusal.StoreRefusal.the-variants.{ListTooShort, VectorsFull, EntriesFull, NodesFull, Damaged}
-use Rattle.curator.specs.Outcome.{changedNumber, changedValues, foundNumber, foundValues, Carried, ChangeRefused, SearchFound, SearchRefused}
+use Rattle.curator.specs.Outcome.{changedNumber, changedValues, foundNumber, foundValues, Succeeded, ChangeRefused, SearchFound, SearchRefused}
 use Rattle.settings.specs.Refusals.{number}
 
 -- ---- the number tells the refusals apart
@@ -63,11 +63,11 @@ head-is e = cc
 short : {A : Type 0} {x : A} {l : List A} → [] ≡ x ∷ l → ⊥
 short {l = l} e = let n : 0 ≡ length l = cc in let z : _≡_ {A = ℕ} 0 1 = cc in omega arith
 
-pub carried-is : (index : CuratorIndex) (answer : Changed) → Carried index answer → answer ≡ Changed′.Index index
+pub carried-is : (index : CuratorIndex) (answer : Changed) → Succeeded index answer → answer ≡ Changed′.Index index
 carried-is index (Changed′.Index next) c = ap Changed′.Index (head-is (c .values-are))
 carried-is index (Changed′.Refused r) c = absurd (short (c .values-are))
 
-pub is-carried : (index : CuratorIndex) (answer : Changed) → answer ≡ Changed′.Index index → Carried index answer
+pub is-carried : (index : CuratorIndex) (answer : Changed) → answer ≡ Changed′.Index index → Succeeded index answer
 is-carried index answer e = record { number-is = ap changedNumber e; values-are = ap changedValues e }
 
 pub refused-is : (r : Refusal) (answer : Changed) → ChangeRefused r answer → answer ≡ Changed′.Refused r

@@ -26,7 +26,7 @@ use Rattle.settings.specs.Limits.{builtAllowed}
 use Rattle.curator.specs.RowLaws.{fine-none}
 use Rattle.curator.specs.Rows.{row, firstOf, stateRow, searchRows}
 use Rattle.curator.specs.SearchRowLaws.{walkFor, walkOf, earlySearchRows, search-check-rows}
-use Rattle.curator.specs.Searches.{SearchEnd, wantedOf, searchCheck, Walked, WalkedTo, SearchesBy, Searches}
+use Rattle.curator.specs.Searches.{SearchEnd, wantedOf, searchCheck, SearchWalked, WalkedTo, SearchesBy, Searches}
 use Rattle.curator.specs.Arguments.{SearchCall}
 use Rattle.curator.specs.StateLaws.{sound-facts}
 use Rattle.lists.specs.Tests.{and-both}
@@ -74,7 +74,7 @@ module _ (index : CuratorIndex) (call : SearchCall) (work other : List ℕ) (a b
   ended (going p) x y = record { answer = found-is _ _ _ _ (x .answer) ∙ sym (found-is _ _ _ _ (y .answer)); ids = x .ids ∙ sym (y .ids); distances = x .distances ∙ sym (y .distances) }
 
   -- by the walk for the normalised query
-  walked-of : (store : Store) (work : List ℕ) (end : SearchEnd) → Walked index store work call end → WalkedTo (walkOf index store call) index work call end
+  walked-of : (store : Store) (work : List ℕ) (end : SearchEnd) → SearchWalked index store work call end → WalkedTo (walkOf index store call) index work call end
   walked-of store work end w =
       subst (λ (q : List _). WalkedTo (walkFor index store call q) index work call end) (normalized-is (call .question .query) (w .query) (w .normalized)) (w .walked)
 

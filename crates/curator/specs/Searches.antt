@@ -74,7 +74,7 @@ WalkedTo damaged index work call end = Broken index work call end
 WalkedTo (going p) index work call end = Answered index work call (answer (call .k) p) end
 
 -- 'Normalise the query', then the walk over what the store shows
-pub record Walked (index : CuratorIndex) (store : Store) (work : List ℕ) (call : SearchCall) (end : SearchEnd) : Type 0 where
+pub record SearchWalked (index : CuratorIndex) (store : Store) (work : List ℕ) (call : SearchCall) (end : SearchEnd) : Type 0 where
   pub query : List Float
   pub normalized : Normalized (dot (call .question .query) (call .question .query)) (call .question .query) query
   pub walked :
@@ -86,7 +86,7 @@ pub record Walked (index : CuratorIndex) (store : Store) (work : List ℕ) (call
       end
 
 unfoldable pub SearchesBy : Check → CuratorIndex → Store → List ℕ → SearchCall → SearchEnd → Type 0
-SearchesBy Check′.Fine index store work call end = Walked index store work call end
+SearchesBy Check′.Fine index store work call end = SearchWalked index store work call end
 SearchesBy (Check′.Refused r) index store work call end = Untouched work call r end
 
 -- the whole result of a search: state, store, work and call at entry; answer, work and answer lists at exit

@@ -18,8 +18,8 @@ use Rattle.settings.specs.Refusals.{number}
 use Rattle.curator.specs.Changes.{Adds, Builds}
 use Rattle.curator.specs.Arguments.{AddCall, SearchCall}
 use Rattle.curator.specs.Searches.{SearchEnd, Searches}
-use Rattle.curator_c.specs.declared.state.Held.{Held}
-use Rattle.curator_c.specs.declared.state.Held.the-variants.{State, Nothing}
+use Rattle.curator_c.specs.declared.state.StateRead.{StateRead}
+use Rattle.curator_c.specs.declared.state.StateRead.the-variants.{State, Nothing}
 use Rattle.curator_c.specs.State.{places, stateList, stateIn}
 use Rattle.curator_c.specs.Results.{invalid, storable, Returns, AddsIn, AddResult, BuildsIn, BuildResult, hitsAsked, withHits, asking, ended, SearchesIn, SearchResult}
 use Rattle.curator_c.specs.ResultLaws.{storable-held}
@@ -53,7 +53,7 @@ unfolding AddsIn
 add-nothing list store call e =
     record {
       answer = Changed′.Refused invalid;
-      adds = subst (λ (held : Held). AddsIn held store call (Changed′.Refused invalid) store) (sym e) (is-refused invalid _ refl, refl);
+      adds = subst (λ (held : StateRead). AddsIn held store call (Changed′.Refused invalid) store) (sym e) (is-refused invalid _ refl, refl);
       returns = record { number = refl; list = refl };
     }
 
@@ -64,7 +64,7 @@ unfolding AddsIn
 add-held list index store call answer n list′ store′ e adds returns =
     record {
       answer = answer;
-      adds = subst (λ (held : Held). AddsIn held store call answer store′) (sym e) adds;
+      adds = subst (λ (held : StateRead). AddsIn held store call answer store′) (sym e) adds;
       returns = subst (λ (a : Changed). Returns a list n list′) (storable-held list index answer e) returns;
     }
 
@@ -75,7 +75,7 @@ unfolding BuildsIn
 build-nothing list store work e =
     record {
       answer = Changed′.Refused invalid;
-      builds = subst (λ (held : Held). BuildsIn held store work (Changed′.Refused invalid) store work) (sym e) (is-refused invalid _ refl, refl, refl);
+      builds = subst (λ (held : StateRead). BuildsIn held store work (Changed′.Refused invalid) store work) (sym e) (is-refused invalid _ refl, refl, refl);
       returns = record { number = refl; list = refl };
     }
 
@@ -86,7 +86,7 @@ unfolding BuildsIn
 build-held list index store work answer n list′ store′ work′ e builds returns =
     record {
       answer = answer;
-      builds = subst (λ (held : Held). BuildsIn held store work answer store′ work′) (sym e) builds;
+      builds = subst (λ (held : StateRead). BuildsIn held store work answer store′ work′) (sym e) builds;
       returns = subst (λ (a : Changed). Returns a list n list′) (storable-held list index answer e) returns;
     }
 
@@ -99,7 +99,7 @@ search-nothing list store work call values e =
     record {
       found = Found′.Refused invalid;
       searches =
-          subst (λ (held : Held). SearchesIn held store work (asking values call) (ended (Found′.Refused invalid) work (call .ids) (call .distances)))
+          subst (λ (held : StateRead). SearchesIn held store work (asking values call) (ended (Found′.Refused invalid) work (call .ids) (call .distances)))
           (sym e)
           (record { answer = is-search-refused invalid _ refl; work = refl; ids = refl; distances = refl });
       number = refl;
@@ -119,7 +119,7 @@ unfolding SearchesIn
 search-held list index store work call values found n work′ ids′ distances′ values′ e searches number told =
     record {
       found = found;
-      searches = subst (λ (held : Held). SearchesIn held store work (asking values call) (ended found work′ ids′ distances′)) (sym e) searches;
+      searches = subst (λ (held : StateRead). SearchesIn held store work (asking values call) (ended found work′ ids′ distances′)) (sym e) searches;
       number = number;
       values = told;
     }

@@ -23,14 +23,14 @@ use Rattle.curator.specs.Changes.{AddsBy, addCheck, Adds, ownersDamaged, tooMan
 use Rattle.lists.specs.Frame.{Freed}
 use Rattle.curator.specs.Arguments.{AddCall, SearchCall, askingOf}
 use Rattle.curator.specs.Searches.{Untouched, SearchesBy, searchCheck, Searches}
-use Rattle.curator_c.specs.declared.state.Held.{Held}
-use Rattle.curator_c.specs.declared.state.Held.the-variants.{State, Nothing}
+use Rattle.curator_c.specs.declared.state.StateRead.{StateRead}
+use Rattle.curator_c.specs.declared.state.StateRead.the-variants.{State, Nothing}
 use Rattle.curator_c.specs.State.{stateIn}
 use Rattle.curator_c.specs.Results.{invalid, Returns, AddsIn, AddResult, BuildsIn, BuildResult, asking, ended, SearchesIn, SearchResult}
 use Rattle.curator.specs.OutcomeLaws.{search-refused-is, refused-is}
 
 -- whether a list holds a sound state
-unfoldable pub soundIn : Held → Bool
+unfoldable pub soundIn : StateRead → Bool
 unfolding stateSound
 soundIn Nothing = false
 soundIn (State index) = stateSound index
@@ -70,7 +70,7 @@ add-invalid state store call n state′ store′ u result =
     let (number, list) = refused-invalid (result .answer) state n state′ (refused-is invalid (result .answer) refused) (result .returns) in
     (number, list, kept)
   where
-    by : (held : Held) → soundIn held ≡ false → AddsIn held store call (result .answer) store′
+    by : (held : StateRead) → soundIn held ≡ false → AddsIn held store call (result .answer) store′
         → ChangeRefused invalid (result .answer) × (store′ ≡ store)
     by Nothing e adds = adds
     by (State index) e adds =
@@ -91,7 +91,7 @@ build-invalid state store work n state′ store′ work′ u result =
     let (number, list) = refused-invalid (result .answer) state n state′ (refused-is invalid (result .answer) refused) (result .returns) in
     (number, list, kept, free)
   where
-    by : (held : Held) → soundIn held ≡ false → BuildsIn held store work (result .answer) store′ work′
+    by : (held : StateRead) → soundIn held ≡ false → BuildsIn held store work (result .answer) store′ work′
         → ChangeRefused invalid (result .answer) × (store′ ≡ store) × (work′ ≡ work)
     by Nothing e builds = builds
     by (State index) e builds =
@@ -112,7 +112,7 @@ search-invalid state store work call answer n work′ ids′ distances′ answer
       result .values ∙ ap (λ (f : Found). sets answer 0 (foundValues f)) (search-refused-is invalid _ (left .answer)),
     )
   where
-    by : (held : Held) → soundIn held ≡ false → SearchesIn held store work (asking answer call) (ended (result .found) work′ ids′ distances′)
+    by : (held : StateRead) → soundIn held ≡ false → SearchesIn held store work (asking answer call) (ended (result .found) work′ ids′ distances′)
         → Untouched work (asking answer call) invalid (ended (result .found) work′ ids′ distances′)
     by Nothing e searches = searches
     by (State index) e searches =

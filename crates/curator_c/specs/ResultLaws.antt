@@ -24,7 +24,7 @@ use Rattle.curator.specs.Calls.{factsOf}
 use Rattle.store.specs.Lent.{lengthsOf}
 use Rattle.curator.specs.Searches.{SearchEnd, Untouched, SearchesBy, searchCheck, Searches}
 use Rattle.curator.specs.Arguments.{SearchCall}
-use Rattle.curator_c.specs.declared.state.Held.the-variants.{State}
+use Rattle.curator_c.specs.declared.state.StateRead.the-variants.{State}
 use Rattle.curator_c.specs.State.{places, stateIn}
 use Rattle.curator_c.specs.StateLaws.{in-holds}
 use Rattle.curator_c.specs.Results.{storable, asking}

@@ -20,8 +20,8 @@ use Rattle.curator.specs.Outcome.{changedNumber, foundNumber, foundValues, Chan
 use Rattle.curator.specs.Changes.{Creates, Adds, Builds}
 use Rattle.curator.specs.Arguments.{AddCall, SearchCall}
 use Rattle.curator.specs.Searches.{SearchEnd, Untouched, Searches}
-use Rattle.curator_c.specs.declared.state.Held.{Held}
-use Rattle.curator_c.specs.declared.state.Held.the-variants.{State, Nothing}
+use Rattle.curator_c.specs.declared.state.StateRead.{StateRead}
+use Rattle.curator_c.specs.declared.state.StateRead.the-variants.{State, Nothing}
 use Rattle.curator_c.specs.State.{places, stateList, stateIn}
 
 -- row 4: no state in the list, or one that is not sound
@@ -52,7 +52,7 @@ pub record NewResult (dimension : ℕ) (params : CuratorParams) (capacities : Ca
   pub returns : Returns (storable state answer) state returned state′
 
 -- an add to the state that a list holds
-unfoldable pub AddsIn : Held → Store → AddCall → Changed → Store → Type 0
+unfoldable pub AddsIn : StateRead → Store → AddCall → Changed → Store → Type 0
 unfolding Adds
 AddsIn Nothing store call answer store′ = ChangeRefused invalid answer × (store′ ≡ store)
 AddsIn (State index) store call answer store′ = Adds index store call answer store′
@@ -64,7 +64,7 @@ pub record AddResult (state : List ℕ) (store : Store) (call : AddCall) (return
   pub returns : Returns answer state returned state′
 
 -- a build of the state that a list holds
-unfoldable pub BuildsIn : Held → Store → List ℕ → Changed → Store → List ℕ → Type 0
+unfoldable pub BuildsIn : StateRead → Store → List ℕ → Changed → Store → List ℕ → Type 0
 unfolding Builds
 BuildsIn Nothing store work answer store′ work′ = ChangeRefused invalid answer × (store′ ≡ store) × (work′ ≡ work)
 BuildsIn (State index) store work answer store′ work′ = Builds index store work answer store′ work′
@@ -90,7 +90,7 @@ abbrev pub asking : List ℕ → SearchCall → SearchCall
 asking answer call = withHits (hitsAsked (length answer) (length (call .ids)) (call .k)) call
 
 -- a search in the state that a list holds
-unfoldable pub SearchesIn : Held → Store → List ℕ → SearchCall → SearchEnd → Type 0
+unfoldable pub SearchesIn : StateRead → Store → List ℕ → SearchCall → SearchEnd → Type 0
 unfolding Searches
 SearchesIn Nothing store work call end = Untouched work call invalid end
 SearchesIn (State index) store work call end = Searches index store work call end

@@ -5,8 +5,8 @@ use mathlib.Core.List.{List, [], _∷_}
 use lib.Dec.{ltb, eqb}
 use lib.ListN.{length, getD}
 use Rattle.curator.specs.declared.CuratorIndex.{CuratorIndex}
-use Rattle.curator_c.specs.declared.state.Held.{Held}
-use Rattle.curator_c.specs.declared.state.Held.the-variants.{State, Nothing}
+use Rattle.curator_c.specs.declared.state.StateRead.{StateRead}
+use Rattle.curator_c.specs.declared.state.StateRead.the-variants.{State, Nothing}
 
 -- how many places a state takes
 abbrev pub places : ℕ
@@ -44,7 +44,7 @@ stateOf list built =
     }
 
 -- What state a list holds: none where it has fewer places or its built flag is neither 0 nor 1. Whether the state is sound is row 4 of the calls.
-unfoldable pub stateIn : List ℕ → Held
+unfoldable pub stateIn : List ℕ → StateRead
 stateIn list =
     cond (ltb (length list) places)
     Nothing

@@ -9,7 +9,7 @@ use lib.Dec.{ltb, eqb}
 use lib.ListN.{length, getD, take, drop}
 use lib.Seq.{sets, sets-eq, drop-cons}
 use Rattle.curator.specs.declared.CuratorIndex.{CuratorIndex}
-use Rattle.curator_c.specs.declared.state.Held.the-variants.{State}
+use Rattle.curator_c.specs.declared.state.StateRead.the-variants.{State}
 use Rattle.curator_c.specs.State.{places, stateList, stateOf, stateIn}
 
 -- a list that begins with the numbers of a state holds that state

@@ -19,7 +19,7 @@ use curator::CuratorIndex;
 use curator::Found;
 use settings::Capacities;
 use settings::CuratorParams;
-use state::Held;
+use state::StateRead;
 
 // What is returned where the call is answered, and where the list holds no state.
 const ANSWERED: u32 = 0;
@@ -92,8 +92,8 @@ pub extern "C" fn curator_add(
         (now (state .exit)) (lent (floats .exit) (numbers .exit) (hashes .exit)) ⌝ }
 {
     match state::state_in(state) {
-        Held::Nothing => INVALID_STATE,
-        Held::State(index) => keep(
+        StateRead::Nothing => INVALID_STATE,
+        StateRead::State(index) => keep(
             index.add(floats, numbers, hashes, doc_id, vector, lengths, bytes),
             state,
         ),
@@ -114,8 +114,8 @@ pub extern "C" fn curator_build(
         (now (state .exit)) (lent (floats .exit) (numbers .exit) (hashes .exit)) (now (work .exit)) ⌝ }
 {
     match state::state_in(state) {
-        Held::Nothing => INVALID_STATE,
-        Held::State(index) => keep(build::build(index, floats, numbers, hashes, work), state),
+        StateRead::Nothing => INVALID_STATE,
+        StateRead::State(index) => keep(build::build(index, floats, numbers, hashes, work), state),
     }
 }
 
@@ -169,8 +169,8 @@ pub extern "C" fn curator_search_filtered(
         (now (work .exit)) (now (ids .exit)) (now (distances .exit)) (now (answer .exit)) ⌝ }
 {
     match state::state_in(state) {
-        Held::Nothing => INVALID_STATE,
-        Held::State(index) => {
+        StateRead::Nothing => INVALID_STATE,
+        StateRead::State(index) => {
             let hits = hits_asked(answer.len(), ids.len(), k);
             tell(
                 search::search_filtered(
@@ -211,8 +211,8 @@ pub extern "C" fn curator_search(
         (now (work .exit)) (now (ids .exit)) (now (distances .exit)) (now (answer .exit)) ⌝ }
 {
     match state::state_in(state) {
-        Held::Nothing => INVALID_STATE,
-        Held::State(index) => {
+        StateRead::Nothing => INVALID_STATE,
+        StateRead::State(index) => {
             let hits = hits_asked(answer.len(), ids.len(), k);
             tell(
                 search::search(

@@ -15,7 +15,7 @@ use store::Counts;
 pub const STATE: usize = 12;
 
 // What a list holds: a state, sound or not, or none.
-pub enum Held {
+pub enum StateRead {
     State(CuratorIndex),
     Nothing,
 }
@@ -58,19 +58,19 @@ fn state_of(state: &[usize], built: bool) -> CuratorIndex
 }
 
 // The state that a list holds.
-pub fn state_in(state: &[usize]) -> Held
+pub fn state_in(state: &[usize]) -> StateRead
     ensures { λ r. ⌜ r ≡ stateIn (now (state .entry)) ⌝ }
 {
     if state.len() < STATE {
-        return Held::Nothing;
+        return StateRead::Nothing;
     }
     if state[11] == 0 {
-        return Held::State(state_of(state, false));
+        return StateRead::State(state_of(state, false));
     }
     if state[11] == 1 {
-        return Held::State(state_of(state, true));
+        return StateRead::State(state_of(state, true));
     }
-    Held::Nothing
+    StateRead::Nothing
 }
 
 // Writes a state into the first twelve places.

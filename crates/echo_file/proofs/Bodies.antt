@@ -11,7 +11,7 @@ use Rattle.echo_file.specs.declared.Known.{Known}
 use Rattle.echo_file.specs.declared.counted.Counted.the-variants.{Cut, Part}
 use Rattle.echo_file.specs.declared.Reading.the-variants.{Bad, Found}
 use Rattle.echo_file.specs.declared.Located.the-variants.{Settings, Vector, Filtered, Search}
-use Rattle.echo_file.specs.Format.{Record}
+use Rattle.echo_file.specs.Format.{FileRecord}
 use Rattle.echo_file.specs.Decode.{Decoded, none, andThen, value, counted, numbers, settingsOf, decodeSettings, decodeVector, decodeFiltered, decodeUnfiltered, decodeAfter, decode}
 use Rattle.lists.specs.Lists.{total}
 use Rattle.echo_file.specs.Places.{NumberAt, CountedAt, Shows}
@@ -54,7 +54,7 @@ module _ {file : List ℕ} {at from count : ℕ} (one : Skip file at 1 from) (co
   }
 
 -- nothing is decoded
-pub bad : {decoded : Decoded Record} (known : Known) (file : List ℕ) (at : ℕ) → decoded ≡ none → Shows known file at decoded Bad
+pub bad : {decoded : Decoded FileRecord} (known : Known) (file : List ℕ) (at : ℕ) → decoded ≡ none → Shows known file at decoded Bad
 bad known file at e = record { same = e; placed = tt }
 
 module _ (known : Known) (file : List ℕ) (at : ℕ) where

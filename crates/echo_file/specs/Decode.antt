@@ -7,7 +7,7 @@ use lib.ListN.{length, getD, take, drop}
 use lib.Dec.{eqb, leb}
 use Rattle.lists.specs.Lists.{pieces, total}
 use Rattle.echo_file.specs.declared.Known.{Known}
-use Rattle.echo_file.specs.Format.{Record, settings, vector, filtered, unfiltered}
+use Rattle.echo_file.specs.Format.{FileRecord, settings, vector, filtered, unfiltered}
 
 -- what stands at the front of some bytes, and the rest; or nothing that fits
 pub data Decoded (A : Type 0) : Type 0 where
@@ -39,16 +39,16 @@ numbers zero bytes = []
 numbers (suc n) bytes = value (take 4 bytes) ∷ numbers n (drop 4 bytes)
 
 -- five numbers, as settings
-unfoldable pub settingsOf : List ℕ → Record
+unfoldable pub settingsOf : List ℕ → FileRecord
 settingsOf ns = settings (getD ns 0 0) (getD ns 1 0) (getD ns 2 0) (getD ns 3 0) (getD ns 4 0)
 
--- what comes after each mark
+-- ---- what comes after each mark
 
-unfoldable pub decodeSettings : List ℕ → Decoded Record
+unfoldable pub decodeSettings : List ℕ → Decoded FileRecord
 unfolding andThen split numbers settingsOf
 decodeSettings bytes = andThen (split 20 bytes) (λ five rest. found (settingsOf (numbers 5 five)) rest)
 
-unfoldable pub decodeVector : Known → List ℕ → Decoded Record
+unfoldable pub decodeVector : Known → List ℕ → Decoded FileRecord
 unfolding andThen split value counted numbers pieces total
 decodeVector known bytes =
     andThen (split 4 bytes) (λ document rest.
@@ -57,7 +57,7 @@ decodeVector known bytes =
     andThen (split (4 * known .dimension) rest) (λ floats rest.
     found (vector (value document) (pieces lengths labels) (numbers (known .dimension) floats)) rest))))
 
-unfoldable pub decodeFiltered : Known → List ℕ → Decoded Record
+unfoldable pub decodeFiltered : Known → List ℕ → Decoded FileRecord
 unfolding andThen split value counted numbers
 decodeFiltered known bytes =
     andThen (split 2 bytes) (λ k rest.
@@ -65,7 +65,7 @@ decodeFiltered known bytes =
     andThen (split (4 * known .dimension) rest) (λ floats rest.
     found (filtered (value k) label (numbers (known .dimension) floats)) rest)))
 
-unfoldable pub decodeUnfiltered : Known → List ℕ → Decoded Record
+unfoldable pub decodeUnfiltered : Known → List ℕ → Decoded FileRecord
 unfolding andThen split value numbers
 decodeUnfiltered known bytes =
     andThen (split 2 bytes) (λ k rest.
@@ -73,7 +73,7 @@ decodeUnfiltered known bytes =
     found (unfiltered (value k) (numbers (known .dimension) floats)) rest))
 
 -- by the mark, read as a number
-unfoldable pub decodeAfter : Known → ℕ → List ℕ → Decoded Record
+unfoldable pub decodeAfter : Known → ℕ → List ℕ → Decoded FileRecord
 unfolding decodeSettings decodeVector decodeFiltered decodeUnfiltered
 decodeAfter known mark =
     cond (eqb mark 0x015A) decodeSettings
@@ -82,6 +82,6 @@ decodeAfter known mark =
     (cond (eqb mark 0x055A) (decodeUnfiltered known)
     (λ bytes. none))))
 
-unfoldable pub decode : Known → List ℕ → Decoded Record
+unfoldable pub decode : Known → List ℕ → Decoded FileRecord
 unfolding andThen split value decodeAfter
 decode known bytes = andThen (split 2 bytes) (λ mark rest. decodeAfter known (value mark) rest)

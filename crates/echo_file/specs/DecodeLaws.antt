@@ -12,7 +12,7 @@ use lib.Dec.{eqb, leb}
 use borrow.Author.Tests.{leb-true, le-leb, eqb-true}
 use Rattle.lists.specs.Counting.{getD-Memᴰ}
 use Rattle.echo_file.specs.declared.Known.{Known}
-use Rattle.echo_file.specs.Format.{Record, settings, vector, filtered, unfiltered, mark, number, fours, labelBytes, encode, Each, Bytes, Floats, Fits, Begins}
+use Rattle.echo_file.specs.Format.{FileRecord, settings, vector, filtered, unfiltered, mark, number, fours, labelBytes, encode, Each, Bytes, Floats, Fits, Begins}
 use Rattle.echo_file.specs.Decode.{Decoded, none, found, andThen, split, value, counted, numbers, settingsOf, decodeSettings, decodeVector, decodeFiltered, decodeUnfiltered, decodeAfter, decode}
 use Rattle.lists.specs.Lists.{pieces, total}
 use Rattle.echo_file.specs.FieldLaws.{each-cons, each-nil, bytes-take, bytes-drop, length-number, value-number, number-of, value-below, length-fours, length-numbers, numbers-fours, fours-numbers, numbers-width, length-labelBytes, pieces-labelBytes, labelBytes-pieces, lengths-pieces, length-pieces, each-label}
@@ -129,7 +129,7 @@ complete-unfiltered known k patterns rest h =
     ∙ same-unfiltered rest (value-number 2 k (h .0)) (floats-back known patterns (h .1))
 
 -- A record that fits is found at the front of its bytes, with what comes after them.
-pub complete : (known : Known) (r : Record) (rest : List ℕ) → Fits known r → decode known (encode r ++ rest) ≡ found r rest
+pub complete : (known : Known) (r : FileRecord) (rest : List ℕ) → Fits known r → decode known (encode r ++ rest) ≡ found r rest
 unfolding decodeAfter mark value
 complete known (settings d b l e w) rest h =
     ap (decode known) (settings-parts d b l e w rest) ∙ after-mark known 0x01 _ ∙ complete-settings known d b l e w rest h
@@ -143,12 +143,12 @@ complete known (unfiltered k patterns) rest h =
 -- ---- what is found was written
 
 -- what is decoded is none, or a record that the bytes begin with
-data Sound (known : Known) (bytes : List ℕ) : Decoded Record → Type 0 where
+data Sound (known : Known) (bytes : List ℕ) : Decoded FileRecord → Type 0 where
   nothing : Sound known bytes none
-  something : {r : Record} {rest : List ℕ} → Begins known bytes r rest → Sound known bytes (found r rest)
+  something : {r : FileRecord} {rest : List ℕ} → Begins known bytes r rest → Sound known bytes (found r rest)
 
 -- one part: whatever is made of the part and the rest is sound, so long as the part and the rest are the bytes
-sound-part : (known : Known) (all : List ℕ) (n : ℕ) (bytes : List ℕ) (next : List ℕ → List ℕ → Decoded Record) → Bytes bytes
+sound-part : (known : Known) (all : List ℕ) (n : ℕ) (bytes : List ℕ) (next : List ℕ → List ℕ → Decoded FileRecord) → Bytes bytes
     → ((front rest : List ℕ) → length front ≡ n → bytes ≡ front ++ rest → Bytes front → Bytes rest → Sound known all (next front rest))
     → Sound known all (andThen (split n bytes) next)
 unfolding andThen split
@@ -167,7 +167,7 @@ andThen-assoc none f g = refl
 andThen-assoc (found a rest) f g = refl
 
 -- a count and the bytes that it counts
-sound-counted : (known : Known) (all bytes : List ℕ) (next : List ℕ → List ℕ → Decoded Record) → Bytes bytes
+sound-counted : (known : Known) (all bytes : List ℕ) (next : List ℕ → List ℕ → Decoded FileRecord) → Bytes bytes
     → ((front rest : List ℕ) → length front < 256 → bytes ≡ number 1 (length front) ++ (front ++ rest) → Bytes front → Bytes rest
     → Sound known all (next front rest))
     → Sound known all (andThen (counted bytes) next)
@@ -274,7 +274,7 @@ unfolding decodeAfter mark number
 sound-after known front rest h e hr =
     go (eqb (value front) 0x015A) (eqb (value front) 0x025A) (eqb (value front) 0x045A) (eqb (value front) 0x055A) refl refl refl refl
   where
-    at : (second n : ℕ) {d : Decoded Record} → number 2 n ≡ mark second → eqb (value front) n ≡ true → Sound known (mark second ++ rest) d
+    at : (second n : ℕ) {d : Decoded FileRecord} → number 2 n ≡ mark second → eqb (value front) n ≡ true → Sound known (mark second ++ rest) d
         → Sound known (front ++ rest) d
     at second n {d} m v =
         subst (λ (l : List ℕ). Sound known (l ++ rest) d) (sym m ∙ ap (number 2) (sym (eqb-true (value front) n v)) ∙ number-of 2 front h e)
@@ -295,49 +295,49 @@ sound-decode known bytes h =
     subst (λ (l : List ℕ). Sound known l (decodeAfter known (value front) rest)) (sym q) (sound-after known front rest hf e hr))
 
 -- What is found begins the bytes.
-pub sound : (known : Known) (bytes : List ℕ) (r : Record) (rest : List ℕ) → Bytes bytes → decode known bytes ≡ found r rest → Begins known bytes r rest
+pub sound : (known : Known) (bytes : List ℕ) (r : FileRecord) (rest : List ℕ) → Bytes bytes → decode known bytes ≡ found r rest → Begins known bytes r rest
 sound known bytes r rest h e = take-out (subst (Sound known bytes) e (sound-decode known bytes h))
   where
     take-out : Sound known bytes (found r rest) → Begins known bytes r rest
     take-out (something b) = b
 
 -- What begins the bytes is found.
-pub finds : (known : Known) (bytes : List ℕ) (r : Record) (rest : List ℕ) → Begins known bytes r rest → decode known bytes ≡ found r rest
+pub finds : (known : Known) (bytes : List ℕ) (r : FileRecord) (rest : List ℕ) → Begins known bytes r rest → decode known bytes ≡ found r rest
 finds known bytes r rest b = ap (decode known) (b .split) ∙ complete known r rest (b .fits)
 
 -- `decode` finds a record and a rest exactly if the bytes begin with that record and go on with that rest.
-pub found-exactly : (known : Known) (bytes : List ℕ) (r : Record) (rest : List ℕ) → Bytes bytes
+pub found-exactly : (known : Known) (bytes : List ℕ) (r : FileRecord) (rest : List ℕ) → Bytes bytes
     → (decode known bytes ≡ found r rest) ↔ Begins known bytes r rest
 found-exactly known bytes r rest h = (sound known bytes r rest h, finds known bytes r rest)
 
 -- It finds nothing exactly if the bytes begin with no record.
 pub none-exactly : (known : Known) (bytes : List ℕ) → Bytes bytes
-    → (decode known bytes ≡ none) ↔ ((r : Record) (rest : List ℕ) → Begins known bytes r rest → ⊥)
+    → (decode known bytes ≡ none) ↔ ((r : FileRecord) (rest : List ℕ) → Begins known bytes r rest → ⊥)
 none-exactly known bytes h =
     (λ e r rest b. none-found (sym e ∙ finds known bytes r rest b), λ never. only (decode known bytes) refl never)
   where
-    none-found : {r : Record} {rest : List ℕ} → none ≡ found r rest → ⊥
+    none-found : {r : FileRecord} {rest : List ℕ} → none ≡ found r rest → ⊥
     none-found e = let z : _≡_ {A = ℕ} 0 1 = cc in omega arith
 
-    only : (d : Decoded Record) → decode known bytes ≡ d → ((r : Record) (rest : List ℕ) → Begins known bytes r rest → ⊥) → d ≡ none
+    only : (d : Decoded FileRecord) → decode known bytes ≡ d → ((r : FileRecord) (rest : List ℕ) → Begins known bytes r rest → ⊥) → d ≡ none
     only none e never = refl
     only (found r rest) e never = absurd (never r rest (sound known bytes r rest h e))
 
 -- Bytes begin with one record at most, and the rest is then one too.
-pub unique : (known : Known) (bytes : List ℕ) (r r′ : Record) (rest rest′ : List ℕ) → Begins known bytes r rest → Begins known bytes r′ rest′
+pub unique : (known : Known) (bytes : List ℕ) (r r′ : FileRecord) (rest rest′ : List ℕ) → Begins known bytes r rest → Begins known bytes r′ rest′
     → (r ≡ r′) × (rest ≡ rest′)
 unique known bytes r r′ rest rest′ b b′ =
     let e : found r rest ≡ found r′ rest′ = sym (finds known bytes r rest b) ∙ finds known bytes r′ rest′ b′ in (cc, cc)
 
 -- A record has bytes, so that the rest is shorter.
-encode-some : (r : Record) → 0 < length (encode r)
+encode-some : (r : FileRecord) → 0 < length (encode r)
 unfolding encode mark
 encode-some (settings d b l e w) = omega arith
 encode-some (vector document labels patterns) = omega arith
 encode-some (filtered k label patterns) = omega arith
 encode-some (unfiltered k patterns) = omega arith
 
-pub rest-shorter : {known : Known} {bytes : List ℕ} {r : Record} {rest : List ℕ} → Begins known bytes r rest → length rest < length bytes
+pub rest-shorter : {known : Known} {bytes : List ℕ} {r : FileRecord} {rest : List ℕ} → Begins known bytes r rest → length rest < length bytes
 rest-shorter {r = r} {rest} b =
     let size = ap length (b .split) ∙ length-append (encode r) rest in
     omega (arith, size, encode-some r)

@@ -7,15 +7,15 @@ use Rattle.lists.specs.Lists.{joined}
 use Rattle.echo_file.specs.declared.Known.{Known}
 
 -- A record of the file. A float is its bit pattern.
-pub data Record : Type 0 where
+pub data FileRecord : Type 0 where
   -- 'D, B, leaf size, ef, beam'
-  settings : (dimension branching leaf-size ef beam : ℕ) → Record
+  settings : (dimension branching leaf-size ef beam : ℕ) → FileRecord
   -- 'document id, label count, that many length bytes, label bytes, D floats'
-  vector : (document : ℕ) (labels : List (List ℕ)) (patterns : List ℕ) → Record
+  vector : (document : ℕ) (labels : List (List ℕ)) (patterns : List ℕ) → FileRecord
   -- 'k, label length, label, D floats'
-  filtered : (k : ℕ) (label : List ℕ) (patterns : List ℕ) → Record
+  filtered : (k : ℕ) (label : List ℕ) (patterns : List ℕ) → FileRecord
   -- 'k, D floats'
-  unfiltered : (k : ℕ) (patterns : List ℕ) → Record
+  unfiltered : (k : ℕ) (patterns : List ℕ) → FileRecord
 
 -- 'Each record has a two-byte mark before it': 5A and a second byte
 unfoldable pub mark : ℕ → List ℕ
@@ -37,7 +37,7 @@ unfolding joined
 labelBytes labels = joined (λ label. label) labels
 
 -- the bytes of a record
-unfoldable pub encode : Record → List ℕ
+unfoldable pub encode : FileRecord → List ℕ
 unfolding mark number fours labelBytes
 encode (settings dimension branching leaf-size ef beam) = mark 0x01 ++ fours (dimension ∷ branching ∷ leaf-size ∷ ef ∷ beam ∷ [])
 encode (vector document labels patterns) =
@@ -64,7 +64,7 @@ pub record Floats (known : Known) (patterns : List ℕ) : Type 0 where
   pub width : Each (λ p. p < 2 ^ 32) patterns
 
 -- A record that the format can hold: each number fits its bytes, and there are D floats.
-abbrev pub Fits : Known → Record → Type 0
+abbrev pub Fits : Known → FileRecord → Type 0
 Fits known (settings dimension branching leaf-size ef beam) =
     (dimension < 2 ^ 32) × (branching < 2 ^ 32) × (leaf-size < 2 ^ 32) × (ef < 2 ^ 32) × (beam < 2 ^ 32)
 Fits known (vector document labels patterns) = (document < 2 ^ 32) × (length labels < 256) × Each Label labels × Floats known patterns
@@ -72,6 +72,6 @@ Fits known (filtered k label patterns) = (k < 2 ^ 16) × Label label × Floats k
 Fits known (unfiltered k patterns) = (k < 2 ^ 16) × Floats known patterns
 
 -- The bytes begin with the record, and the rest comes after it.
-pub record Begins (known : Known) (bytes : List ℕ) (r : Record) (rest : List ℕ) : Type 0 where
+pub record Begins (known : Known) (bytes : List ℕ) (r : FileRecord) (rest : List ℕ) : Type 0 where
   pub fits : Fits known r
   pub split : bytes ≡ encode r ++ rest

@@ -14,7 +14,7 @@ use Rattle.echo_file.specs.declared.counted.Counted.{Counted}
 use Rattle.echo_file.specs.declared.counted.Counted.the-variants.{Cut, Part}
 use Rattle.echo_file.specs.declared.skip.Skipped.{Skipped}
 use Rattle.echo_file.specs.declared.skip.Skipped.the-variants.{Past, To}
-use Rattle.echo_file.specs.Format.{Record, settings, vector, filtered, unfiltered}
+use Rattle.echo_file.specs.Format.{FileRecord, settings, vector, filtered, unfiltered}
 use Rattle.echo_file.specs.Decode.{Decoded, none, found, value, counted}
 use Rattle.echo_file.specs.Reads.{between, patternsAt}
 
@@ -41,7 +41,7 @@ pub record CountedAt (file : List ℕ) (at : ℕ) (r : Counted) : Type 0 where
   pub placed : CountedPlaced file at r
 
 -- The record that a reading stands for, its lists cut from the file.
-abbrev pub shown : Known → List ℕ → Reading → Decoded Record
+abbrev pub shown : Known → List ℕ → Reading → Decoded FileRecord
 shown known file Bad = none
 shown known file (Found (Settings dimension branching leaf-size ef beam next)) = found (settings dimension branching leaf-size ef beam) (drop next file)
 shown known file (Found (Vector document lengths-at labels-at floats-at next)) =
@@ -67,10 +67,10 @@ Placed known file at (Found (Filtered k label-at floats-at next)) =
 Placed known file at (Found (Search k floats-at next)) = (at ≤ floats-at) × (floats-at + 4 * known .dimension ≡ next) × (next ≤ length file)
 
 -- The reading is what is decoded.
-pub record Shows (known : Known) (file : List ℕ) (at : ℕ) (decoded : Decoded Record) (reading : Reading) : Type 0 where
+pub record Shows (known : Known) (file : List ℕ) (at : ℕ) (decoded : Decoded FileRecord) (reading : Reading) : Type 0 where
   pub same : decoded ≡ shown known file reading
   pub placed : Placed known file at reading
 
 -- whatever the reader knows
-abbrev pub ShowsAlways : List ℕ → ℕ → Decoded Record → Reading → Type 0
+abbrev pub ShowsAlways : List ℕ → ℕ → Decoded FileRecord → Reading → Type 0
 ShowsAlways file at decoded reading = (known : Known) → Shows known file at decoded reading

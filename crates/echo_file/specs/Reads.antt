@@ -8,7 +8,7 @@ use Rattle.echo_file.specs.declared.Known.{Known}
 use Rattle.echo_file.specs.declared.Reading.{Reading}
 use Rattle.echo_file.specs.declared.Reading.the-variants.{Bad, Found}
 use Rattle.echo_file.specs.declared.Located.the-variants.{Settings, Vector, Filtered, Search}
-use Rattle.echo_file.specs.Format.{Record, settings, vector, filtered, unfiltered, labelBytes, Begins}
+use Rattle.echo_file.specs.Format.{FileRecord, settings, vector, filtered, unfiltered, labelBytes, Begins}
 use Rattle.echo_file.specs.Decode.{numbers}
 
 -- the bytes from a place to another, `&file[from..to]`
@@ -20,7 +20,7 @@ abbrev pub patternsAt : Known → List ℕ → ℕ → List ℕ
 patternsAt known file at = numbers (known .dimension) (drop at file)
 
 -- A record stands in the file from one place to another.
-pub record Stands (known : Known) (file : List ℕ) (at : ℕ) (r : Record) (next : ℕ) : Type 0 where
+pub record Stands (known : Known) (file : List ℕ) (at : ℕ) (r : FileRecord) (next : ℕ) : Type 0 where
   pub begins : Begins known (drop at file) r (drop next file)
   pub forward : at < next
   pub inside : next ≤ length file
@@ -48,7 +48,7 @@ pub record SearchStands (known : Known) (file : List ℕ) (at k floats-at next :
 
 -- The reading of a file at a place: `Bad` exactly where no record begins there ('unknown mark, or it ends inside a record').
 abbrev pub Reads : Known → List ℕ → ℕ → Reading → Type 0
-Reads known file at Bad = (r : Record) (rest : List ℕ) → Begins known (drop at file) r rest → ⊥
+Reads known file at Bad = (r : FileRecord) (rest : List ℕ) → Begins known (drop at file) r rest → ⊥
 Reads known file at (Found (Settings dimension branching leaf-size ef beam next)) = Stands known file at (settings dimension branching leaf-size ef beam) next
 Reads known file at (Found (Vector document lengths-at labels-at floats-at next)) = VectorStands known file at document lengths-at labels-at floats-at next
 Reads known file at (Found (Filtered k label-at floats-at next)) = FilteredStands known file at k label-at floats-at next

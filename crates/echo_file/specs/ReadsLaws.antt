@@ -10,7 +10,7 @@ use Rattle.echo_file.specs.declared.Known.{Known}
 use Rattle.echo_file.specs.declared.Reading.{Reading}
 use Rattle.echo_file.specs.declared.Reading.the-variants.{Bad, Found}
 use Rattle.echo_file.specs.declared.Located.the-variants.{Settings, Vector, Filtered, Search}
-use Rattle.echo_file.specs.Format.{Record, Bytes}
+use Rattle.echo_file.specs.Format.{FileRecord, Bytes}
 use Rattle.echo_file.specs.Decode.{none, found, decode}
 use Rattle.lists.specs.Lists.{pieces, total}
 use Rattle.echo_file.specs.Places.{Shows}
@@ -76,6 +76,6 @@ pub bad-decode : (known : Known) (file : List ℕ) (at : ℕ) → Bytes file →
 bad-decode known file at h r = none-exactly known (drop at file) (bytes-drop at file h) .1 r
 
 -- A record that stands there is decoded, and the rest goes on at the next place.
-pub stands-decode : {known : Known} {file : List ℕ} {at : ℕ} {r : Record} {next : ℕ} → Stands known file at r next
+pub stands-decode : {known : Known} {file : List ℕ} {at : ℕ} {r : FileRecord} {next : ℕ} → Stands known file at r next
     → decode known (drop at file) ≡ found r (drop next file)
 stands-decode {known} {file} {at} {r} {next} s = finds known (drop at file) r (drop next file) (s .begins)

@@ -3,7 +3,7 @@ use Prim.Native.Nat.{ℕ}
 use mathlib.Core.Path.{_≡_, refl}
 use mathlib.Core.List.{List, [], _∷_, _++_}
 use Rattle.echo_file.specs.declared.Known.{Known}
-use Rattle.echo_file.specs.Format.{Record, settings, vector, filtered, unfiltered, encode}
+use Rattle.echo_file.specs.Format.{FileRecord, settings, vector, filtered, unfiltered, encode}
 use Rattle.echo_file.specs.Decode.{none, found, decode}
 
 -- what is known before settings, and after them
@@ -14,19 +14,19 @@ abbrev two : Known
 two = record { dimension = 2 }
 
 -- 'D 2, B 2, leaf size 1, ef 5, beam 4; 7: (1, 0) `a`; 8: (0, 2) `b`; 9: (3, 4) `a`; search k 4, `a`, (1, 0)'
-abbrev given : Record
+abbrev given : FileRecord
 given = settings 2 2 1 5 4
 
-abbrev first : Record
+abbrev first : FileRecord
 first = vector 7 ((0x61 ∷ []) ∷ []) (0x3F800000 ∷ 0 ∷ [])
 
-abbrev second : Record
+abbrev second : FileRecord
 second = vector 8 ((0x62 ∷ []) ∷ []) (0 ∷ 0x40000000 ∷ [])
 
-abbrev third : Record
+abbrev third : FileRecord
 third = vector 9 ((0x61 ∷ []) ∷ []) (0x40400000 ∷ 0x40800000 ∷ [])
 
-abbrev asked : Record
+abbrev asked : FileRecord
 asked = filtered 4 (0x61 ∷ []) (0x3F800000 ∷ 0 ∷ [])
 
 -- the bytes of a settings record, a vector and a search, as 01 names them

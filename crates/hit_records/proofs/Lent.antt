@@ -71,7 +71,7 @@ pub byte-fits : (i n : ℕ) → i < n → n * 8 < 2 ^ 63 → i * 8 < 2 ^ 64
 byte-fits i n h k = omega arith
 
 -- what the function is lent and passed: the lifetimes, what is held of them, where the list stands, the lists, the count, and the room that they have
-pub record Lent : Type 0 where
+pub record HitsLent : Type 0 where
   pub κ₁ : Lft
   pub κ₂ : Lft
   pub κ₃ : Lft
@@ -101,7 +101,7 @@ module _ {M : Type 1} (𝓤 : URA M) (H : Heap 𝓤) (A : Atoms 𝓤) (at-mem : 
   abbrev pub HitAt : Contract 𝓤
   HitAt = tripleOf 𝓤 H A hit-at.signature (hit-at.spec 𝓤 H A at-mem run)
 
-module _ (s : Lent) where
+module _ (s : HitsLent) where
   abbrev pub n₁ : ℕ
   n₁ = length (s .hits)
 

@@ -22,7 +22,7 @@ use Rattle.lists.specs.Writes.{write-turn, write-end, unwritten}
 
 -- ---- k centres, the first j of them written
 
-pub record Writing (d k at : ℕ) (floats₀ : List Float) (new : List (List Float)) (floats : List Float) (j : ℕ) : Type 0 where
+pub record WritingCentres (d k at : ℕ) (floats₀ : List Float) (new : List (List Float)) (floats : List Float) (j : ℕ) : Type 0 where
   pub upto : j ≤ k
   pub same : length floats ≡ length floats₀
   pub alike : AlikeBut at (k * d) floats₀ floats
@@ -32,20 +32,20 @@ module _ (d k at : ℕ) (floats₀ : List Float) (new : List (List Float)) (coun
   abbrev old : List (List Float)
   old = vectorsFrom d k at floats₀
 
-  pub writing-none : Writing d k at floats₀ new floats₀ 0
-  writing-none = record { upto = omega arith; same = refl; alike = alike-refl at (k * d) floats₀; centres = refl }
+  pub centres-none : WritingCentres d k at floats₀ new floats₀ 0
+  centres-none = record { upto = omega arith; same = refl; alike = alike-refl at (k * d) floats₀; centres = refl }
 
   -- the centre that is written next is still as it was
-  pub writing-own : (floats : List Float) (j : ℕ) → Writing d k at floats₀ new floats j → j < k → part (at + j * d) d floats ≡ vectorOf old j
-  writing-own floats j inv h =
+  pub centres-own : (floats : List Float) (j : ℕ) → WritingCentres d k at floats₀ new floats j → j < k → part (at + j * d) d floats ≡ vectorOf old j
+  centres-own floats j inv h =
       sym (vectorOf-vectorsFrom d k at floats j h)
       ∙ ap (λ (i : ℕ). vectorOf (vectorsFrom d k at floats) i) (sym (zero-add j))
       ∙ unwritten old (vectorsFrom d k at floats) 0 j new [] (inv .centres)
       ∙ ap (λ (i : ℕ). vectorOf old i) (zero-add j)
 
-  pub writing-turn : (floats floats′ : List Float) (j : ℕ) (v : List Float) → Writing d k at floats₀ new floats j → j < k
-      → floats′ ≡ sets floats (at + j * d) v → v ≡ vectorOf new j → length v ≡ d → Writing d k at floats₀ new floats′ (j + 1)
-  writing-turn floats floats′ j v inv h q e n =
+  pub centres-turn : (floats floats′ : List Float) (j : ℕ) (v : List Float) → WritingCentres d k at floats₀ new floats j → j < k
+      → floats′ ≡ sets floats (at + j * d) v → v ≡ vectorOf new j → length v ≡ d → WritingCentres d k at floats₀ new floats′ (j + 1)
+  centres-turn floats floats′ j v inv h q e n =
       let end = row-end d j k h in
       record {
         upto = omega arith;
@@ -59,7 +59,7 @@ module _ (d k at : ℕ) (floats₀ : List Float) (new : List (List Float)) (coun
             ∙ write-turn old (vectorsFrom d k at floats) 0 j new [] v (inv .centres) (omega arith) e;
       }
 
-  pub writing-end : (floats : List Float) (j : ℕ) → Writing d k at floats₀ new floats j → k ≤ j → Centred d k at floats₀ new floats
+  pub writing-end : (floats : List Float) (j : ℕ) → WritingCentres d k at floats₀ new floats j → k ≤ j → Centred d k at floats₀ new floats
   writing-end floats j inv h =
       let n : length old ≡ k = length-vectorsIn d k (drop at floats₀) in
       let w : sets old 0 new ≡ new =
@@ -84,10 +84,10 @@ module _ (floats₀ : List Float) (ids : List ℕ) (d n at k : ℕ) (room : Behi
   abbrev vectors : List (List Float)
   vectors = vectorsIn d n floats₀
 
-  pub first-turn : (floats floats′ : List Float) (i : ℕ) → Writing d k at floats₀ (firstCentres vectors ids k) floats i → i < k
+  pub first-turn : (floats floats′ : List Float) (i : ℕ) → WritingCentres d k at floats₀ (firstCentres vectors ids k) floats i → i < k
       → i * (length ids / k) < length ids
       → floats′ ≡ sets floats (at + i * d) (part (getD ids (i * (length ids / k)) 0 * d) d floats)
-      → Writing d k at floats₀ (firstCentres vectors ids k) floats′ (i + 1)
+      → WritingCentres d k at floats₀ (firstCentres vectors ids k) floats′ (i + 1)
   first-turn floats floats′ i inv h b q =
       let p : ℕ = i * (length ids / k) in
       let id : ℕ = getD ids p 0 in
@@ -98,7 +98,7 @@ module _ (floats₀ : List Float) (ids : List ℕ) (d n at k : ℕ) (room : Behi
       ∙ ap (λ (vs : List (List Float)). vectorOf vs id) (alike-vectors d n at (k * d) floats₀ floats (inv .alike) (room .behind))
       ∙ sym (vectorOf-firstCentres vectors ids k i h) in
       let size : length v ≡ d = length-part (id * d) d floats (omega (arith, inv .same, room .within, before)) in
-      writing-turn d k at floats₀ (firstCentres vectors ids k) (length-firstCentres vectors ids k) (room .within) floats floats′ i v inv h q e size
+      centres-turn d k at floats₀ (firstCentres vectors ids k) (length-firstCentres vectors ids k) (room .within) floats floats′ i v inv h q e size
 
 -- ---- one centre becomes the mean of its cluster
 
@@ -175,14 +175,14 @@ module _ (floats₀ : List Float) (ids work₀ : List ℕ) (d n at k : ℕ) (roo
         within = omega (arith, room .within, end, e);
       }
 
-  pub recentre-turn : (floats floats′ : List Float) (work : List ℕ) (j : ℕ) → Writing d k at floats₀ new floats j
+  pub recentre-turn : (floats floats′ : List Float) (work : List ℕ) (j : ℕ) → WritingCentres d k at floats₀ new floats j
       → AlikeBut (length ids) (length ids) work₀ work → j < k
       → floats′ ≡ sets floats (at + j * d) (recentred d (vectorsIn d n floats) (part (at + j * d) d floats) (withMark j (take (length ids) work) ids))
-      → Writing d k at floats₀ new floats′ (j + 1)
+      → WritingCentres d k at floats₀ new floats′ (j + 1)
   recentre-turn floats floats′ work j inv same h q =
       let vectors : List (List Float) = vectorsIn d n floats₀ in
       let centres : List (List Float) = vectorsFrom d k at floats₀ in
-      let own : part (at + j * d) d floats ≡ vectorOf centres j = writing-own d k at floats₀ new length-new (room .within) floats j inv h in
+      let own : part (at + j * d) d floats ≡ vectorOf centres j = centres-own d k at floats₀ new length-new (room .within) floats j inv h in
       let size : length (part (at + j * d) d floats) ≡ d = let end = row-end d j k h in length-part (at + j * d) d floats (omega (arith, inv .same, room .within, end)) in
       let who : withMark j (take (length ids) work) ids ≡ members vectors centres j ids =
       ap (λ (ms : List ℕ). withMark j ms ids) (same .front ∙ marks) ∙ withMark-assignment vectors centres j ids in
@@ -192,7 +192,7 @@ module _ (floats₀ : List Float) (ids work₀ : List ℕ) (d n at k : ℕ) (roo
       (alike-vectors d n at (k * d) floats₀ floats (inv .alike) (room .behind)) who
       ∙ ap (λ (c : List Float). recentred d vectors c (members vectors centres j ids)) own
       ∙ sym (vectorOf-recentre d vectors ids centres j (rw length-vectorsIn h)) in
-      writing-turn d k at floats₀ new length-new (room .within) floats floats′ j v inv h q e
+      centres-turn d k at floats₀ new length-new (room .within) floats floats′ j v inv h q e
       (length-recentred d (vectorsIn d n floats) (part (at + j * d) d floats) (withMark j (take (length ids) work) ids) size)
 
 -- ---- the rounds

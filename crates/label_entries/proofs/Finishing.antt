@@ -7,13 +7,12 @@ use lib.ListN.{length, getD, set, drop}
 use lib.Seq.{sets, length-sets, take-length, drop-drop, drop-set-lt}
 use Rattle.lists.specs.Lists.{part, joined, countFrom}
 use Rattle.lists.specs.Counting.{sumOf, sumOf-map, length-joined}
-use Rattle.lists.specs.Partition.{count, List·Permᴰ}
+use Rattle.lists.specs.Partition.{count, List·Permᴰ, once-perm, once-countFrom}
 use Rattle.lists.specs.Parts.{length-part, getD-part, getD-sets-before, set-sets-before, sets-self}
 use Rattle.store.specs.declared.Shape.{Shape}
 use Rattle.store.specs.Store.{ownersAt, orderAt, nodesAt, linksAt, entryOrderAt, workSize}
 use Rattle.tree.specs.Nodes.{Entries, Node}
 use Rattle.tree.specs.Layout.{sixFrom, numbersOf}
-use Rattle.tree.specs.TreeLaws.{once-perm, once-countFrom}
 use Rattle.tree.specs.NodeLaws.{length-ids, length-nodesOf}
 use Rattle.tree.specs.NodeEntryLaws.{perm-entries}
 use Rattle.tree.specs.Links.{Linked, linkUp, linkUp-nodesOf, length-linked}

@@ -13,10 +13,9 @@ use borrow.Author.Tests.{eqb-true, eqb-false}
 use Rattle.lists.specs.Lists.{keep, joined, countFrom, isIn}
 use Rattle.lists.specs.Counting.{getD-Memᴰ, Memᴰ-getD, Memᴰ-isIn, isIn-Memᴰ, isIn-countFrom, Memᴰ-countFrom, Memᴰ-joined, keep-congr}
 use Rattle.lists.specs.Tests.{which}
-use Rattle.lists.specs.Partition.{Permᴰ·symm, perm-Memᴰ, count-one-place}
+use Rattle.lists.specs.Partition.{Permᴰ·symm, perm-Memᴰ, count-one-place, Different, once-perm, once-countFrom}
 use Rattle.tree.specs.Tree.{Splitting, treeOf}
 use Rattle.tree.specs.Nodes.{Entries, Node, nodesOf, entriesOf}
-use Rattle.tree.specs.TreeLaws.{OnceEach, once-perm, once-countFrom}
 use Rattle.tree.specs.NodeLaws.{perm-ids, length-ids, id-one-leaf}
 use Rattle.tree.specs.NumberedNodes.{node-entries}
 use Rattle.node_table.specs.Table.{written, sumTo}
@@ -56,7 +55,7 @@ marked-at places counts (suc n) l d b i m h g =
         ∙ rest c g
 
 module _ (s : Splitting) (vectors : List (List Float)) (e : Entries) (b : 1 ≤ s .branching) (d : Node) where
-  order-once : OnceEach (joined (λ node. node .ids) (nodesOf s vectors e))
+  order-once : Different (joined (λ node. node .ids) (nodesOf s vectors e))
   order-once = once-perm (joined (λ node. node .ids) (nodesOf s vectors e)) (countFrom 0 (length vectors)) (perm-ids s vectors e b) (once-countFrom 0 (length vectors))
 
   -- the leaf order names no vector twice, and only vectors

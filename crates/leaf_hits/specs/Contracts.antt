@@ -6,6 +6,7 @@ use mathlib.Core.Bool.{Bool, true, false, _&&_}
 use mathlib.Core.List.{List, _++_, map}
 use lib.Dec.{ltb, eqb}
 use lib.ListN.{length, getD, take}
+use Rattle.walk.specs.StoreView.{entriesIn}
 use Rattle.lists.specs.Lists.{keep}
 use Rattle.lists.specs.Tests.{allPass}
 use Rattle.store.specs.declared.Shape.{Shape}
@@ -78,10 +79,6 @@ AddedEntries c numbers hashes hash owners l before found r found′ =
     GathersBy (λ x. ltb x (c .entries) && ltb (getD numbers (owners + x) 0) (c .vectors)) (λ x. eqb (getD hashes x 0) hash)
     (λ x. getD numbers (owners + x) 0) (c .entries) l before found r found′
 
--- what is read of the entries of a store
-abbrev pub entryList : Shape → List ℕ → List ℕ → EntryRead
-entryList s numbers hashes = record { hash = λ x. getD hashes x 0; owner = λ x. getD numbers (ownersAt s + x) 0 }
-
 abbrev pub AddedHits : Shape → Counts → List ℕ → List ℕ → Wanted → List ℕ → ℕ → List ℕ → Added → List ℕ → Type 0
 AddedHits s c numbers hashes wanted l before found r found′ =
-    Gathers (allPass (passes wanted c (entryList s numbers hashes)) l) (given wanted (entryList s numbers hashes) l) (most wanted c) before found r found′
+    Gathers (allPass (passes wanted c (entriesIn s numbers hashes)) l) (given wanted (entriesIn s numbers hashes) l) (most wanted c) before found r found′

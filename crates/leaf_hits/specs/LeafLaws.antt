@@ -11,12 +11,11 @@ use Rattle.store.specs.Lent.{storeOf}
 use Rattle.walk.specs.declared.Wanted.{Wanted}
 use Rattle.walk.specs.Walk.{hits, damage}
 use Rattle.walk.specs.Wanted.{passes, given}
-use Rattle.walk.specs.StoreView.{hitAt, listShown}
-use Rattle.leaf_hits.specs.Contracts.{entryList}
+use Rattle.walk.specs.StoreView.{hitAt, listShown, entriesIn}
 
 -- what a leaf's list shows: hits of the vectors that it gives, if all its numbers pass
 pub list-shown : (s : Shape) (c : Counts) (floats : List Float) (numbers hashes : List ℕ) (query : List Float) (wanted : Wanted) (l : List ℕ)
     → listShown s c (storeOf floats numbers hashes) query wanted l
-    ≡ cond (allPass (passes wanted c (entryList s numbers hashes)) l) (hits (map (hitAt s floats numbers query) (given wanted (entryList s numbers hashes) l))) damage
+    ≡ cond (allPass (passes wanted c (entriesIn s numbers hashes)) l) (hits (map (hitAt s floats numbers query) (given wanted (entriesIn s numbers hashes) l))) damage
 unfolding listShown
 list-shown s c floats numbers hashes query wanted l = refl

@@ -12,9 +12,9 @@ use native.Mathlib.Omega.{arith}
 use mathlib.Core.List.{List, [], _∷_, _++_, append-assoc, List·Memᴰ, List·Memᴰ·head, List·Memᴰ·tail}
 pub use mathlib.Core.List.{List·Permᴰ, List·Permᴰ·nil, List·Permᴰ·cons, List·Permᴰ·swap, List·Permᴰ·trans, Permᴰ·refl, Permᴰ·symm, Permᴰ·append-left, Permᴰ·append-right, Permᴰ·middle, List·Permᴰ·append-comm, Permᴰ·map}
 use lib.ListN.{length, getD}
-use lib.Dec.{eqb}
+use lib.Dec.{eqb, leb, ltb}
 use lib.Arith.{lt-of-le-ne}
-use borrow.Author.Tests.{eqb-true, eqb-false, eq-eqb, ne-eqb}
+use borrow.Author.Tests.{eqb-true, eqb-false, eq-eqb, ne-eqb, leb-true, leb-false, ltb-true, ltb-false}
 use Rattle.lists.specs.Lists.{keep, joined, countFrom, isIn}
 use Rattle.lists.specs.Counting.{getD-Memᴰ, isIn-ext, isIn-Memᴰ, Memᴰ-isIn, isIn-keep, countFrom-cons, countFrom-append, isIn-countFrom-not, Memᴰ-countFrom, keep-nil, keep-pass, keep-fail, joined-cons, joined-append, joined-congr, joined-none, sumOf, sumOf-append}
 use Rattle.lists.specs.Tests.{which}
@@ -315,3 +315,25 @@ count-perm (x ∷ xs) ys h =
     let s = Memᴰ-split (count-Memᴰ x ys b) in
     List·Permᴰ·trans (List·Permᴰ·cons refl (count-perm xs (s .0 ++ s .1) (λ z. without x xs ys (s .0) (s .1) z (h z) (s .2))))
     (List·Permᴰ·trans (Permᴰ·symm (Permᴰ·middle x (s .0) (s .1))) (perm-of-eq (sym (s .2))))
+
+-- ---- no number twice
+
+abbrev pub Different : List ℕ → Type 0
+Different l = (x : ℕ) → count x l ≤ 1
+
+pub once-perm : (xs ys : List ℕ) → List·Permᴰ xs ys → Different ys → Different xs
+once-perm xs ys p h x = let e = perm-count x xs ys p in let k = h x in omega arith
+
+pub once-left : (xs ys : List ℕ) → Different (xs ++ ys) → Different xs
+once-left xs ys h x = let e = count-append x xs ys in let k = h x in omega arith
+
+pub once-right : (xs ys : List ℕ) → Different (xs ++ ys) → Different ys
+once-right xs ys h x = let e = count-append x xs ys in let k = h x in omega arith
+
+pub once-countFrom : (i n : ℕ) → Different (countFrom i n)
+once-countFrom i n x = go (leb i x) (ltb x (i + n)) refl refl
+  where
+    go : (a b : Bool) → leb i x ≡ a → ltb x (i + n) ≡ b → count x (countFrom i n) ≤ 1
+    go true true p q = let e = count-countFrom x i n (leb-true i x p) (ltb-true x (i + n) q) in omega arith
+    go true false p q = let e = count-countFrom-not x i n (inr (ltb-false x (i + n) q)) in omega arith
+    go false b p q = let e = count-countFrom-not x i n (inl (leb-false i x p)) in omega arith

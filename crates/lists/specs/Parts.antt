@@ -37,7 +37,7 @@ module _ {ℓ} {A : Type ℓ} where
   pub part-zero : (s : ℕ) (l : List A) → part s zero l ≡ []
   part-zero s l = refl
 
-  -- one more element in front, and at the end
+  -- one more element in front
   pub part-cons : (s c : ℕ) (l : List A) (d : A) → s < length l → part s (suc c) l ≡ getD l s d ∷ part (suc s) c l
   part-cons s c l d h = ap (λ (r : List A). take (suc c) r) (drop-cons l s d h)
 
@@ -84,7 +84,7 @@ module _ {ℓ} {A : Type ℓ} where
       ∙ ap (λ (r : List A). take (length ys) r) (drop-at xs (ys ++ zs) (length xs) refl)
       ∙ take-append-seam ys zs
 
-  -- a store before a part, after it, and in it
+  -- a store before a part
   pub part-set-before : (s c : ℕ) (l : List A) (i : ℕ) (x : A) → i < s → part s c (set l i x) ≡ part s c l
   part-set-before s c l i x h = ap (λ (r : List A). take c r) (drop-set-lt s l i x h)
 

@@ -63,18 +63,18 @@ open-narrow x index d next e h =
 
 -- ---- the record at a place
 
-pub stands-carried : (file : List ℕ) (at : ℕ) (loading : Loading) (lent : LoadLists) (carried : Carried) (lent′ : LoadLists) (r : format.Record) (next : ℕ)
+pub stands-carried : (file : List ℕ) (at : ℕ) (loading : Loading) (lent : LoadLists) (carried : Carried) (lent′ : LoadLists) (r : format.FileRecord) (next : ℕ)
     → Stands (known loading) file at r next → CarriesOut loading r next lent carried lent′
     → CarriesRead (decode (known loading) (drop at file)) file at loading lent carried lent′
 stands-carried file at loading lent carried lent′ r next s out =
-    subst (λ (d : Decoded format.Record). CarriesRead d file at loading lent carried lent′)
+    subst (λ (d : Decoded format.FileRecord). CarriesRead d file at loading lent carried lent′)
     (sym (finds (known loading) (drop at file) r (drop next file) (s .begins))) (next, refl, s .forward, s .inside, out)
 
 pub bad-carried : (file : List ℕ) (at : ℕ) (loading : Loading) (lent : LoadLists) (carried : Carried) (lent′ : LoadLists) → Bytes file
-    → ((r : format.Record) (rest : List ℕ) → Begins (known loading) (drop at file) r rest → ⊥) → KeepsLists lent (Refused (Input BadRecord)) carried lent′
+    → ((r : format.FileRecord) (rest : List ℕ) → Begins (known loading) (drop at file) r rest → ⊥) → KeepsLists lent (Refused (Input BadRecord)) carried lent′
     → CarriesRead (decode (known loading) (drop at file)) file at loading lent carried lent′
 bad-carried file at loading lent carried lent′ b never keeps =
-    subst (λ (d : Decoded format.Record). CarriesRead d file at loading lent carried lent′)
+    subst (λ (d : Decoded format.FileRecord). CarriesRead d file at loading lent carried lent′)
     (sym (none-exactly (known loading) (drop at file) (bytes-drop at file b) .1 never)) keeps
 
 -- ---- a build, and the search after it

@@ -50,13 +50,13 @@ use Rattle.runs.specs.ChangeLaws.{ChangeEnds}
 use Rattle.runs.specs.Builds.{build-lengths}
 use Rattle.runs.specs.Reached.{change-keeps, search-step}
 use Rattle.runs.specs.Contents.{alike-expected}
-use Rattle.echo_file.specs.Format.{Record, settings, vector, filtered, unfiltered}
+use Rattle.echo_file.specs.Format.{FileRecord, settings, vector, filtered, unfiltered}
 use Rattle.text.specs.Lines.{hitLines, hitLineAt, hitLine, closingLine, refusedLine}
 use Rattle.load.specs.declared.Loading.{Loading}
 use Rattle.load.specs.declared.Loading.the-variants.{Unset, Running}
 use Rattle.load.specs.declared.carry.Carried.{Carried}
 use Rattle.load.specs.declared.carry.Carried.the-variants.{Refused, Silent, Answered}
-use Rattle.load.specs.declared.Step.the-variants.{Next}
+use Rattle.load.specs.declared.LoadStep.the-variants.{Next}
 use Rattle.load.specs.File as file
 use Rattle.load.specs.File.{FileProgress, unset, running, Outcome, stops, printed, largest, fronts, capacities, answerPlaces, searchCall, adding, searching, refusedText, answerText, before, called, outcomeOf, opened, carried}
 use Rattle.load.specs.Step as step
@@ -259,7 +259,7 @@ module _ (s : Setting) (allowed : Allowed s) (index : CuratorIndex) (k : ℕ) (a
 
 -- ---- every record
 
-pub record-agrees : (progress : FileProgress) (loading : Loading) (r : Record) (next : ℕ) (lent : step.LoadLists) (c : Carried) (lent′ : step.LoadLists) → Sized lent
+pub record-agrees : (progress : FileProgress) (loading : Loading) (r : FileRecord) (next : ℕ) (lent : step.LoadLists) (c : Carried) (lent′ : step.LoadLists) → Sized lent
     → StandsAs progress loading (lent .store) → CarriesOut loading r next lent c lent′ → Agrees (carried progress r) next c lent′
 unfolding carried
 record-agrees unset Unset (settings d b l e w) next lent c lent′ z h out =

@@ -26,8 +26,8 @@ use Rattle.load.specs.declared.task.Vector.{Vector}
 use Rattle.load.specs.declared.task.Query.{Query}
 use Rattle.load.specs.declared.task.Task.{Task}
 use Rattle.load.specs.declared.task.Task.the-variants.{Done, Add, Find}
-use Rattle.load.specs.declared.Step.{Step}
-use Rattle.load.specs.declared.Step.the-variants.{Ended, Next}
+use Rattle.load.specs.declared.LoadStep.{LoadStep}
+use Rattle.load.specs.declared.LoadStep.the-variants.{Ended, Next}
 use Rattle.load.specs.File.{floats}
 use Rattle.load.specs.Step.{LoadLists, known, addedBy, SearchesBuilt, searchWith, CarriesRead}
 
@@ -37,16 +37,16 @@ lists floats numbers hashes work ids distances =
     record { store = store.lent floats numbers hashes; work = now work; ids = now ids; distances = now distances }
 
 -- what a search asks for: a label where it is filtered
-abbrev pub asking : Bool → List ℕ → Asked
-asking true label = labelled label
-asking false label = everything
+abbrev pub askedFor : Bool → List ℕ → Asked
+askedFor true label = labelled label
+askedFor false label = everything
 
 -- an index that a load opened: its vectors have at most 16 components
 abbrev pub Narrow : Loading → Type 0
 Narrow Unset = Unit {0}
 Narrow (Running index) = index .dimension ≤ 16
 
-abbrev pub NarrowStep : Step → Type 0
+abbrev pub NarrowStep : LoadStep → Type 0
 NarrowStep (Ended n) = Unit {0}
 NarrowStep (Next loading at n) = Narrow loading
 
@@ -100,7 +100,7 @@ pub record QueryIn (file : List ℕ) (dimension : ℕ) (q : Query) : Type 0 wher
 
 abbrev pub searchAt : ℕ → List ℕ → Query → LoadLists → SearchCall
 searchAt dimension file q =
-    searchWith (floatsAt dimension file (q .«floats_at»)) (q .k) (asking (q .filtered) (between (q .«label_at») (q .«floats_at») file))
+    searchWith (floatsAt dimension file (q .«floats_at»)) (q .k) (askedFor (q .filtered) (between (q .«label_at») (q .«floats_at») file))
 
 -- what it comes to after a build
 abbrev pub SearchesAt : CuratorIndex → List ℕ → Query → LoadLists → Carried → LoadLists → Type 0

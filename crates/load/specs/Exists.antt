@@ -27,7 +27,7 @@ use Rattle.store.specs.Fronts.{zeros}
 use Rattle.runs.specs.Calls.{add, build}
 use Rattle.runs.specs.Reached.{change-laws}
 use Rattle.runs.specs.Exists.{search-outcome}
-use Rattle.echo_file.specs.Format.{Record, settings, vector, filtered, unfiltered, encode, Bytes}
+use Rattle.echo_file.specs.Format.{FileRecord, settings, vector, filtered, unfiltered, encode, Bytes}
 use Rattle.echo_file.specs.FieldLaws.{bytes-drop}
 use Rattle.echo_file.specs.Decode.{Decoded, none, found, decode}
 use Rattle.echo_file.specs.DecodeLaws.{sound, rest-shorter}
@@ -36,8 +36,8 @@ use Rattle.load.specs.declared.Loading.{Loading}
 use Rattle.load.specs.declared.Loading.the-variants.{Unset, Running}
 use Rattle.load.specs.declared.carry.Carried.{Carried}
 use Rattle.load.specs.declared.carry.Carried.the-variants.{End, Refused}
-use Rattle.load.specs.declared.Step.{Step}
-use Rattle.load.specs.declared.Step.the-variants.{Ended, Next}
+use Rattle.load.specs.declared.LoadStep.{LoadStep}
+use Rattle.load.specs.declared.LoadStep.the-variants.{Ended, Next}
 use Rattle.load.specs.File.{largest, answerPlaces, capacities, floats, addCall, fileText}
 use Rattle.load.specs.Step.{LoadLists, known, openedBy, OpensIndex, addedBy, foundBy, searchWith, AddsVector, SearchesBuilt, KeepsLists, CarriesOut, CarriesRead, CarriesAt, Steps, stepOf, stepText}
 use Rattle.load.specs.Onward.{Onward, steps-onward}
@@ -47,18 +47,18 @@ use Rattle.load.specs.Prints.{prints}
 -- ---- a record can be carried out
 
 -- what a record comes to, and the lists of the store keep their lengths
-record Outcome (P : Carried → LoadLists → Type 0) (lent : LoadLists) : Type 0 where
+record RecordOutcome (P : Carried → LoadLists → Type 0) (lent : LoadLists) : Type 0 where
   carried : Carried
   lent′ : LoadLists
   holds : P carried lent′
   lengths : lengthsOf (lent .store) ≡ lengthsOf (lent′ .store)
 
-kept : (lent : LoadLists) (what : Carried) → Outcome (KeepsLists lent what) lent
+kept : (lent : LoadLists) (what : Carried) → RecordOutcome (KeepsLists lent what) lent
 kept lent what = record { carried = what; lent′ = lent; holds = (refl, refl); lengths = refl }
 
 -- settings that come first
 opened : (dimension : ℕ) (params : CuratorParams) (next : ℕ) (lent : LoadLists)
-    → Outcome (λ carried lent′. OpensIndex dimension params next carried × (lent′ ≡ lent)) lent
+    → RecordOutcome (λ carried lent′. OpensIndex dimension params next carried × (lent′ ≡ lent)) lent
 opened dimension params next lent =
     let answer = created dimension params capacities in
     record {
@@ -70,7 +70,7 @@ opened dimension params next lent =
 
 -- after a build
 built : (index : CuratorIndex) (call : LoadLists → SearchCall) (next : ℕ) (lent : LoadLists) (answer : Changed) (store : Store) (work : List ℕ)
-    → Builds index (lent .store) (lent .work) answer store work → lengthsOf (lent .store) ≡ lengthsOf store → Outcome (SearchesBuilt index call next lent) lent
+    → Builds index (lent .store) (lent .work) answer store work → lengthsOf (lent .store) ≡ lengthsOf store → RecordOutcome (SearchesBuilt index call next lent) lent
 built index call next lent (Changed′.Refused r) store work b same =
     record {
       carried = Refused r;
@@ -87,13 +87,13 @@ built index call next lent (Changed′.Index ready) store work b same =
       lengths = same;
     }
 
-looked-up : (index : CuratorIndex) (call : LoadLists → SearchCall) (next : ℕ) (lent : LoadLists) → Outcome (SearchesBuilt index call next lent) lent
+looked-up : (index : CuratorIndex) (call : LoadLists → SearchCall) (next : ℕ) (lent : LoadLists) → RecordOutcome (SearchesBuilt index call next lent) lent
 looked-up index call next lent =
     let b = change-laws build .outcome index (lent .store) (lent .work) in
     built index call next lent (b .answer) (b .store′) (b .work′) (b .changes)
     (change-laws build .lengths index (lent .store) (lent .work) (b .answer) (b .store′) (b .work′) (b .changes))
 
-added : (index : CuratorIndex) (call : AddCall) (next : ℕ) (lent : LoadLists) → Outcome (AddsVector index call next lent) lent
+added : (index : CuratorIndex) (call : AddCall) (next : ℕ) (lent : LoadLists) → RecordOutcome (AddsVector index call next lent) lent
 added index call next lent =
     let a = change-laws (add call) .outcome index (lent .store) [] in
     record {
@@ -103,7 +103,7 @@ added index call next lent =
       lengths = change-laws (add call) .lengths index (lent .store) [] (a .answer) (a .store′) (a .work′) (a .changes);
     }
 
-carried-out : (loading : Loading) (r : Record) (next : ℕ) (lent : LoadLists) → Outcome (CarriesOut loading r next lent) lent
+carried-out : (loading : Loading) (r : FileRecord) (next : ℕ) (lent : LoadLists) → RecordOutcome (CarriesOut loading r next lent) lent
 carried-out Unset (settings d b l e w) next lent = opened d (paramsOf b l e w) next lent
 carried-out Unset (vector document labels patterns) next lent = kept lent (Refused (Input SettingsOrder))
 carried-out Unset (filtered k label patterns) next lent = kept lent (Refused (Input SettingsOrder))
@@ -115,8 +115,8 @@ carried-out (Running index) (unfiltered k patterns) next lent = looked-up index 
 
 module _ (file : List ℕ) (bytes : Bytes file) where
   -- the record at a place
-  carried-read : (d : Decoded Record) (at : ℕ) (loading : Loading) (lent : LoadLists) → decode (known loading) (drop at file) ≡ d
-      → Outcome (CarriesRead d file at loading lent) lent
+  carried-read : (d : Decoded FileRecord) (at : ℕ) (loading : Loading) (lent : LoadLists) → decode (known loading) (drop at file) ≡ d
+      → RecordOutcome (CarriesRead d file at loading lent) lent
   carried-read none at loading lent e = kept lent (Refused (Input BadRecord))
   carried-read (found r rest) at loading lent e =
       let b = sound (known loading) (drop at file) r rest (bytes-drop at file bytes) e in
@@ -133,7 +133,7 @@ module _ (file : List ℕ) (bytes : Bytes file) where
         lengths = o .lengths;
       }
 
-  carried-at : (long ended : Bool) (at : ℕ) (loading : Loading) (lent : LoadLists) → Outcome (CarriesAt long ended file at loading lent) lent
+  carried-at : (long ended : Bool) (at : ℕ) (loading : Loading) (lent : LoadLists) → RecordOutcome (CarriesAt long ended file at loading lent) lent
   carried-at true ended at loading lent = kept lent (Refused (Input FileTooLong))
   carried-at false true at loading lent = kept lent End
   carried-at false false at loading lent = carried-read (decode (known loading) (drop at file)) at loading lent refl
@@ -147,7 +147,7 @@ module _ (file : List ℕ) (bytes : Bytes file) where
       record { list = refl; end = sym (zero-add (length t)); within = fits; front = sym (length-take-le (length t) _ fits) }
 
   record Stepped (at : ℕ) (loading : Loading) (lent : LoadLists) : Type 0 where
-    step : Step
+    step : LoadStep
     lent′ : LoadLists
     text : List ℕ
     text′ : List ℕ
@@ -180,7 +180,7 @@ module _ (file : List ℕ) (bytes : Bytes file) where
   abbrev Goes-on : ℕ → Loading → Store → Type 0
   Goes-on at loading store = (texts : List (List ℕ)) × Chain file at loading store texts
 
-  step-by : (left at : ℕ) → length file - at ≤ left → (loading : Loading) (lent : LoadLists) → Sized lent → (step : Step) (lent′ : LoadLists) (text text′ : List ℕ)
+  step-by : (left at : ℕ) → length file - at ≤ left → (loading : Loading) (lent : LoadLists) → Sized lent → (step : LoadStep) (lent′ : LoadLists) (text text′ : List ℕ)
       → Steps file at loading lent text step lent′ text′ → lengthsOf (lent .store) ≡ lengthsOf (lent′ .store) → Onward file at step
       → ((at′ : ℕ) (loading′ : Loading) (lent′ : LoadLists) → length file - at′ < left → Sized lent′ → Goes-on at′ loading′ (lent′ .store))
       → Goes-on at loading (lent .store)

@@ -28,7 +28,7 @@ use Rattle.runs.specs.Calls.{add, build, Call, change, search}
 use Rattle.runs.specs.Model.{Setting, Model, emptyModel, Expected, returns, answers, nothing, expected, after}
 use Rattle.echo_file.specs.declared.Known.{Known}
 use Rattle.echo_file.specs.Format as format
-use Rattle.echo_file.specs.Format.{Record, settings, vector, filtered, unfiltered}
+use Rattle.echo_file.specs.Format.{FileRecord, settings, vector, filtered, unfiltered}
 use Rattle.echo_file.specs.Decode.{Decoded, none, found, decode}
 use Rattle.text.specs.Lines.{hitLines, closingLine, refusedLine}
 
@@ -137,7 +137,7 @@ opened (Changed′.Index index) dimension params =
     (printed [] (running (record { dimension = dimension; params = params; capacities = capacities }) emptyModel))
 
 -- a complete record; 17: 'settings not first, or given again'
-unfoldable pub carried : FileProgress → Record → Outcome
+unfoldable pub carried : FileProgress → FileRecord → Outcome
 unfolding created opened outcomeOf refusedText
 carried unset (settings dimension branching leaf-size ef beam) =
     let params = paramsOf branching leaf-size ef beam in
@@ -159,7 +159,7 @@ unfoldable pub then : Outcome → List ℕ → Front
 then (stops text) rest = ends text
 then (printed text progress) rest = goes text progress rest
 
-unfoldable pub read : Decoded Record → FileProgress → Front
+unfoldable pub read : Decoded FileRecord → FileProgress → Front
 unfolding then carried refusedText
 read none progress = ends (refusedText (Input BadRecord))
 read (found r rest) progress = then (carried progress r) rest

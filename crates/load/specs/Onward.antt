@@ -15,18 +15,18 @@ use Rattle.settings.specs.declared.refusal.Refusal.{Refusal}
 use Rattle.settings.specs.declared.refusal.Refusal.the-variants.{Settings}
 use Rattle.settings.specs.declared.refusal.SettingsRefusal.the-variants.{InvalidConfig}
 use Rattle.curator.specs.Arguments.{SearchCall}
-use Rattle.echo_file.specs.Format.{Record, settings, vector, filtered, unfiltered}
+use Rattle.echo_file.specs.Format.{FileRecord, settings, vector, filtered, unfiltered}
 use Rattle.echo_file.specs.Decode.{Decoded, none, found, decode}
 use Rattle.load.specs.declared.Loading.{Loading}
 use Rattle.load.specs.declared.Loading.the-variants.{Unset, Running}
 use Rattle.load.specs.declared.carry.Carried.{Carried}
 use Rattle.load.specs.declared.carry.Carried.the-variants.{End, Refused, Silent, Answered}
-use Rattle.load.specs.declared.Step.{Step}
-use Rattle.load.specs.declared.Step.the-variants.{Ended, Next}
+use Rattle.load.specs.declared.LoadStep.{LoadStep}
+use Rattle.load.specs.declared.LoadStep.the-variants.{Ended, Next}
 use Rattle.load.specs.Step.{LoadLists, known, openedBy, addedBy, foundBy, SearchesBuilt, AfterBuild, CarriesOut, CarriesRead, CarriesAt, Steps, stepOf, printedOf}
 
 -- the file goes on at a place behind the record, within a file that is not too long
-abbrev pub Onward : List ℕ → ℕ → Step → Type 0
+abbrev pub Onward : List ℕ → ℕ → LoadStep → Type 0
 Onward file at (Ended n) = Unit {0}
 Onward file at (Next loading next n) = (at < next) × (next ≤ length file) × (length file ≤ 65536)
 
@@ -71,7 +71,7 @@ module _ (file : List ℕ) (at next : ℕ) (short : length file ≤ 65536) (furt
       → SearchesBuilt index call next lent carried lent′ → Goes file at carried
   built-goes {index} {call} {lent} {carried} {lent′} h = after-goes (h .answer) (h .work) call lent carried lent′ (h .searches)
 
-  out-goes : (loading : Loading) (r : Record) (lent : LoadLists) (carried : Carried) (lent′ : LoadLists) → CarriesOut loading r next lent carried lent′
+  out-goes : (loading : Loading) (r : FileRecord) (lent : LoadLists) (carried : Carried) (lent′ : LoadLists) → CarriesOut loading r next lent carried lent′
       → Goes file at carried
   out-goes Unset (settings d branching leaf-size ef beam) lent carried lent′ h =
       goes-as file at (h .0 .comes) (opened-goes (h .0 .answer) d)
@@ -83,7 +83,7 @@ module _ (file : List ℕ) (at next : ℕ) (short : length file ≤ 65536) (furt
   out-goes (Running index) (filtered k label patterns) lent carried lent′ h = built-goes h
   out-goes (Running index) (unfiltered k patterns) lent carried lent′ h = built-goes h
 
-read-goes : (d : Decoded Record) (file : List ℕ) (at : ℕ) → length file ≤ 65536 → (loading : Loading) (lent : LoadLists) (carried : Carried) (lent′ : LoadLists)
+read-goes : (d : Decoded FileRecord) (file : List ℕ) (at : ℕ) → length file ≤ 65536 → (loading : Loading) (lent : LoadLists) (carried : Carried) (lent′ : LoadLists)
     → CarriesRead d file at loading lent carried lent′ → Goes file at carried
 read-goes none file at short loading lent carried lent′ h = goes-as file at (h .0) (λ n. tt)
 read-goes (found r rest) file at short loading lent carried lent′ h = out-goes file at (h .0) short (h .2) (h .3) loading r lent carried lent′ (h .4)
@@ -95,15 +95,15 @@ at-goes false true file at e loading lent carried lent′ h = goes-as file at (h
 at-goes false false file at e loading lent carried lent′ h =
     read-goes (decode (known loading) (drop at file)) file at (ltb-false 65536 (length file) e) loading lent carried lent′ h
 
-module _ {file : List ℕ} {at : ℕ} {loading : Loading} {lent lent′ : LoadLists} {text text′ : List ℕ} {step : Step}
+module _ {file : List ℕ} {at : ℕ} {loading : Loading} {lent lent′ : LoadLists} {text text′ : List ℕ} {step : LoadStep}
     (st : Steps file at loading lent text step lent′ text′) where
   pub steps-onward : Onward file at step
   steps-onward =
-      subst (λ (s : Step). Onward file at s) (sym (st .comes))
+      subst (λ (s : LoadStep). Onward file at s) (sym (st .comes))
       (at-goes (ltb 65536 (length file)) (leb (length file) at) file at refl loading lent (st .carried) lent′ (st .carries) (st .printed))
 
   -- what a step printed stands in the text
   pub steps-printed : printedOf step ≤ length text′
   steps-printed =
-      subst (λ (s : Step). printedOf s ≤ length text′) (sym (st .comes))
+      subst (λ (s : LoadStep). printedOf s ≤ length text′) (sym (st .comes))
       (subst (λ (n : ℕ). n ≤ length text′) (sym (printed-step (st .carried) (st .printed))) (st .writes .within))

@@ -17,7 +17,7 @@ use Rattle.settings.specs.declared.refusal.Refusal.{Refusal}
 use Rattle.settings.specs.declared.refusal.Refusal.the-variants.{Input}
 use Rattle.settings.specs.declared.refusal.InputRefusal.the-variants.{BadRecord, FileTooLong}
 use Rattle.echo_file.specs.declared.Known.{Known}
-use Rattle.echo_file.specs.Format.{Record}
+use Rattle.echo_file.specs.Format.{FileRecord}
 use Rattle.echo_file.specs.Decode.{Decoded, none, found, decode}
 use Rattle.text.specs.Lines.{Written}
 use Rattle.text.specs.LinesLaws.{length-written}
@@ -25,8 +25,8 @@ use Rattle.load.specs.declared.Loading.{Loading}
 use Rattle.load.specs.declared.Loading.the-variants.{Unset, Running}
 use Rattle.load.specs.declared.carry.Carried.{Carried}
 use Rattle.load.specs.declared.carry.Carried.the-variants.{End, Refused}
-use Rattle.load.specs.declared.Step.{Step}
-use Rattle.load.specs.declared.Step.the-variants.{Ended, Next}
+use Rattle.load.specs.declared.LoadStep.{LoadStep}
+use Rattle.load.specs.declared.LoadStep.the-variants.{Ended, Next}
 use Rattle.load.specs.File.{FileProgress, unset, running, knownOf, Outcome, stops, printed, carried, Front, ends, goes, then, read, front, refusedText, textOf, textFrom, fileText}
 use Rattle.load.specs.Step.{LoadLists, Steps, known, CarriesRead, CarriesAt, carriedText, stepOf, printedOf}
 use Rattle.load.specs.Onward.{printed-step}
@@ -61,7 +61,7 @@ unfolding then
 outcome-comes (stops text) rest file at next c lent e l a = a
 outcome-comes (printed text progress) rest file at next c lent e l a = (a .0, next, a .1, a .2, a .3, e, l)
 
-read-comes : (d : Decoded Record) (file : List ℕ) (at : ℕ) (progress : FileProgress) (loading : Loading) (lent : LoadLists) (c : Carried) (lent′ : LoadLists) → Sized lent
+read-comes : (d : Decoded FileRecord) (file : List ℕ) (at : ℕ) (progress : FileProgress) (loading : Loading) (lent : LoadLists) (c : Carried) (lent′ : LoadLists) → Sized lent
     → StandsAs progress loading (lent .store) → CarriesRead d file at loading lent c lent′ → Comes (read d progress) file at c lent′
 unfolding read
 read-comes none file at progress loading lent c lent′ z h by = (Input BadRecord, by .0, refl)
@@ -78,19 +78,19 @@ front-comes file at progress loading lent c lent′ z h by =
 
 -- ---- what a step says
 
-abbrev loadingOf : Step → Loading
+abbrev loadingOf : LoadStep → Loading
 loadingOf (Ended n) = Unset
 loadingOf (Next loading at n) = loading
 
-abbrev placeOf : Step → ℕ
+abbrev placeOf : LoadStep → ℕ
 placeOf (Ended n) = 0
 placeOf (Next loading at n) = at
 
-abbrev goesOn : Step → Bool
+abbrev goesOn : LoadStep → Bool
 goesOn (Ended n) = false
 goesOn (Next loading at n) = true
 
-module _ (file : List ℕ) {at : ℕ} {loading : Loading} {lent lent′ : LoadLists} {text text′ : List ℕ} {step : Step} (st : Steps file at loading lent text step lent′ text′) where
+module _ (file : List ℕ) {at : ℕ} {loading : Loading} {lent lent′ : LoadLists} {text text′ : List ℕ} {step : LoadStep} (st : Steps file at loading lent text step lent′ text′) where
   -- the text of a step
   step-text : take (printedOf step) text′ ≡ carriedText (st .carried) (lent′ .ids) (lent′ .distances)
   step-text =
@@ -116,7 +116,7 @@ module _ (file : List ℕ) {at : ℕ} {loading : Loading} {lent lent′ : LoadLi
       (subst (λ (b : Bool). CarriesAt b (leb (length file) at) file at loading lent (st .carried) lent′) long (st .carries)) .0
 
 -- a step that ended did not go on
-not-both : {C : Type 0} (s t : Step) → goesOn s ≡ false → goesOn t ≡ true → s ≡ t → C
+not-both : {C : Type 0} (s t : LoadStep) → goesOn s ≡ false → goesOn t ≡ true → s ≡ t → C
 not-both s t p q e = absurd (false≢true (sym p ∙ ap goesOn e ∙ q))
 
 -- ---- the rest of the file

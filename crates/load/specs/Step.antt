@@ -21,15 +21,15 @@ use Rattle.curator.specs.Changes.{Creates, Adds, Builds}
 use Rattle.curator.specs.Arguments.{AddCall, SearchCall, Asked, everything, labelled}
 use Rattle.curator.specs.Searches.{SearchEnd, Searches}
 use Rattle.echo_file.specs.declared.Known.{Known}
-use Rattle.echo_file.specs.Format.{Record, settings, vector, filtered, unfiltered}
+use Rattle.echo_file.specs.Format.{FileRecord, settings, vector, filtered, unfiltered}
 use Rattle.echo_file.specs.Decode.{Decoded, none, found, decode}
 use Rattle.text.specs.Lines.{hitLines, closingLine, Written}
 use Rattle.load.specs.declared.Loading.{Loading}
 use Rattle.load.specs.declared.Loading.the-variants.{Unset, Running}
 use Rattle.load.specs.declared.carry.Carried.{Carried}
 use Rattle.load.specs.declared.carry.Carried.the-variants.{End, Refused, Silent, Answered}
-use Rattle.load.specs.declared.Step.{Step}
-use Rattle.load.specs.declared.Step.the-variants.{Ended, Next}
+use Rattle.load.specs.declared.LoadStep.{LoadStep}
+use Rattle.load.specs.declared.LoadStep.the-variants.{Ended, Next}
 use Rattle.load.specs.File.{capacities, floats, addCall, refusedText}
 
 -- the lists that the calls of a record are lent
@@ -51,6 +51,7 @@ abbrev pub openedBy : Changed → ℕ → ℕ → Carried
 openedBy (Changed′.Refused r) dimension next = Refused r
 openedBy (Changed′.Index index) dimension next = cond (ltb 16 dimension) (Refused (Settings InvalidConfig)) (Silent (Running index) next)
 
+-- what comes of it: by the answer of `new`
 pub record OpensIndex (dimension : ℕ) (params : CuratorParams) (next : ℕ) (carried : Carried) : Type 0 where
   pub answer : Changed
   pub creates : Creates dimension params capacities answer
@@ -99,7 +100,7 @@ abbrev pub KeepsLists : LoadLists → Carried → Carried → LoadLists → Type
 KeepsLists lent what carried lent′ = (carried ≡ what) × (lent′ ≡ lent)
 
 -- a complete record, after which the file goes on at a place; 17: 'settings not first, or given again'
-abbrev pub CarriesOut : Loading → Record → ℕ → LoadLists → Carried → LoadLists → Type 0
+abbrev pub CarriesOut : Loading → FileRecord → ℕ → LoadLists → Carried → LoadLists → Type 0
 CarriesOut Unset (settings dimension branching leaf-size ef beam) next lent carried lent′ =
     OpensIndex dimension (paramsOf branching leaf-size ef beam) next carried × (lent′ ≡ lent)
 CarriesOut Unset (vector document labels patterns) next lent carried lent′ = KeepsLists lent (Refused (Input SettingsOrder)) carried lent′
@@ -117,7 +118,7 @@ CarriesOut (Running index) (unfiltered k patterns) next lent carried lent′ =
 -- ---- the record at a place of the file
 
 -- 16: 'unknown mark, or it ends inside a record'; otherwise the file goes on behind the record
-abbrev pub CarriesRead : Decoded Record → List ℕ → ℕ → Loading → LoadLists → Carried → LoadLists → Type 0
+abbrev pub CarriesRead : Decoded FileRecord → List ℕ → ℕ → Loading → LoadLists → Carried → LoadLists → Type 0
 CarriesRead none file at loading lent carried lent′ = KeepsLists lent (Refused (Input BadRecord)) carried lent′
 CarriesRead (found r rest) file at loading lent carried lent′ =
     (next : ℕ) × (rest ≡ drop next file) × (at < next) × (next ≤ length file) × CarriesOut loading r next lent carried lent′
@@ -141,14 +142,14 @@ carriedText (Refused r) ids distances = refusedText r
 carriedText (Silent loading next) ids distances = []
 carriedText (Answered index next count opened complete) ids distances = hitLines ids distances count ++ closingLine complete opened
 
-abbrev pub stepOf : Carried → ℕ → Step
+abbrev pub stepOf : Carried → ℕ → LoadStep
 stepOf End printed = Ended printed
 stepOf (Refused r) printed = Ended printed
 stepOf (Silent loading next) printed = Next loading next printed
 stepOf (Answered index next count opened complete) printed = Next (Running index) next printed
 
 -- the bytes that a step wrote
-abbrev pub printedOf : Step → ℕ
+abbrev pub printedOf : LoadStep → ℕ
 printedOf (Ended n) = n
 printedOf (Next loading at n) = n
 
@@ -156,7 +157,7 @@ abbrev pub stepText : Carried → LoadLists → List ℕ
 stepText carried lent = carriedText carried (lent .ids) (lent .distances)
 
 -- the whole result of a step: where the file stands, its lists and the text list at entry; the step and the lists at exit
-pub record Steps (file : List ℕ) (at : ℕ) (loading : Loading) (lent : LoadLists) (text : List ℕ) (step : Step) (lent′ : LoadLists) (text′ : List ℕ) : Type 0 where
+pub record Steps (file : List ℕ) (at : ℕ) (loading : Loading) (lent : LoadLists) (text : List ℕ) (step : LoadStep) (lent′ : LoadLists) (text′ : List ℕ) : Type 0 where
   pub carried : Carried
   pub carries : Carries file at loading lent carried lent′
   pub printed : ℕ

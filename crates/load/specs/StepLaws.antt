@@ -174,7 +174,7 @@ built-fit index call next lent carried lent′ n h =
     after-fit (h .answer) (h .work) call next lent carried lent′
     (narrow-builds (buildCheck index (lent .store) (lent .work)) index (lent .store) (lent .work) (h .answer) (lent′ .store) (h .work) n (h .builds)) (h .searches)
 
-out-fit : (loading : Loading) (r : format.Record) (next : ℕ) (lent : LoadLists) (carried : Carried) (lent′ : LoadLists) → Narrow loading
+out-fit : (loading : Loading) (r : format.FileRecord) (next : ℕ) (lent : LoadLists) (carried : Carried) (lent′ : LoadLists) → Narrow loading
     → CarriesOut loading r next lent carried lent′ → CarriedFit carried lent′
 unfolding Adds
 out-fit Unset (format.settings d b l e w) next lent carried lent′ n h =
@@ -192,7 +192,7 @@ out-fit (Running index) (format.filtered k label patterns) next lent carried len
 out-fit (Running index) (format.unfiltered k patterns) next lent carried lent′ n h =
     built-fit index (searchWith (floats patterns) k everything) next lent carried lent′ n h
 
-read-fit : (d : Decoded format.Record) (file : List ℕ) (at : ℕ) (loading : Loading) (lent : LoadLists) (carried : Carried) (lent′ : LoadLists) → Narrow loading
+read-fit : (d : Decoded format.FileRecord) (file : List ℕ) (at : ℕ) (loading : Loading) (lent : LoadLists) (carried : Carried) (lent′ : LoadLists) → Narrow loading
     → CarriesRead d file at loading lent carried lent′ → CarriedFit carried lent′
 read-fit none file at loading lent carried lent′ n h = refused-fit (Input BadRecord) carried lent′ (h .0)
 read-fit (found r rest) file at loading lent carried lent′ n h = out-fit loading r (h .0) lent carried lent′ n (h .4)

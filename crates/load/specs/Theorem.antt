@@ -8,7 +8,7 @@ use Rattle.store.specs.Store.{Store, workSize}
 use Rattle.store.specs.Lent.{lengthsOf, sizesOf}
 use Rattle.load.specs.declared.Loading.{Loading}
 use Rattle.load.specs.declared.Loading.the-variants.{Unset}
-use Rattle.load.specs.declared.Step.the-variants.{Ended, Next}
+use Rattle.load.specs.declared.LoadStep.the-variants.{Ended, Next}
 use Rattle.load.specs.File.{largest, answerPlaces, fileText}
 use Rattle.load.specs.Step.{LoadLists, Steps}
 

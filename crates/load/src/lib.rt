@@ -18,7 +18,7 @@ pub enum Loading {
 }
 
 // How many bytes were printed, and where the file goes on.
-pub enum Step {
+pub enum LoadStep {
     Ended {
         printed: usize,
     },
@@ -30,18 +30,18 @@ pub enum Step {
 }
 
 // The step that a record comes to.
-fn step_of(carried: Carried, printed: usize) -> Step
+fn step_of(carried: Carried, printed: usize) -> LoadStep
     ensures { λ r. ⌜ r ≡ stepOf carried printed ⌝ }
 {
     match carried {
-        Carried::End => Step::Ended { printed },
-        Carried::Refused(_) => Step::Ended { printed },
-        Carried::Silent { loading, next } => Step::Next {
+        Carried::End => LoadStep::Ended { printed },
+        Carried::Refused(_) => LoadStep::Ended { printed },
+        Carried::Silent { loading, next } => LoadStep::Next {
             loading,
             at: next,
             printed,
         },
-        Carried::Answered { index, next, .. } => Step::Next {
+        Carried::Answered { index, next, .. } => LoadStep::Next {
             loading: Loading::Running(index),
             at: next,
             printed,
@@ -61,7 +61,7 @@ pub fn load_record(
     ids: &mut [u32],
     distances: &mut [f32],
     text: &mut [u8],
-) -> Step
+) -> LoadStep
     requires { ⌜ Narrow loading ⌝ }
     requires { ⌜ 20 * length (now ids) + 27 ≤ length (now text) ⌝ }
     ensures narrow { λ r. ⌜ NarrowStep r ⌝ }

@@ -9,8 +9,8 @@ use Rattle.store.specs.Store.{Store}
 use Rattle.echo_file.specs.Format.{Bytes}
 use Rattle.load.specs.declared.Loading.{Loading}
 use Rattle.load.specs.declared.Loading.the-variants.{Unset}
-use Rattle.load.specs.declared.Step.{Step}
-use Rattle.load.specs.declared.Step.the-variants.{Ended, Next}
+use Rattle.load.specs.declared.LoadStep.{LoadStep}
+use Rattle.load.specs.declared.LoadStep.the-variants.{Ended, Next}
 use Rattle.load.specs.File.{fileText}
 use Rattle.load.specs.Step.{LoadLists, Steps, printedOf}
 use Rattle.load.specs.Theorem.{Sized, Chain, last, more}
@@ -37,7 +37,7 @@ begins file store = record { before = []; count = refl; rest = λ texts chain. s
 module _ {file : List ℕ} {done at : ℕ} {loading : Loading} {lent lent′ : LoadLists} {text text′ : List ℕ} (here : Reached file done at loading (lent .store))
     (z : Sized lent) where
   -- its text comes next: after the last step nothing does, and after any other some chain goes on
-  pub text-due : Bytes file → Sized lent′ → (step : Step) → Steps file at loading lent text step lent′ text′ → Due file done (take (printedOf step) text′)
+  pub text-due : Bytes file → Sized lent′ → (step : LoadStep) → Steps file at loading lent text step lent′ text′ → Due file done (take (printedOf step) text′)
   unfolding joined
   text-due bytes z′ (Ended n) st =
       record { before = here .before; after = []; count = here .count; whole = here .rest (take n text′ ∷ []) (last z st) }
@@ -51,12 +51,12 @@ module _ {file : List ℕ} {done at : ℕ} {loading : Loading} {lent lent′ : L
       }
 
   -- how far the file has been printed with it
-  pub goes-on : {step : Step} {loading′ : Loading} {at′ n done′ : ℕ} → Steps file at loading lent text step lent′ text′ → step ≡ Next loading′ at′ n
+  pub goes-on : {step : LoadStep} {loading′ : Loading} {at′ n done′ : ℕ} → Steps file at loading lent text step lent′ text′ → step ≡ Next loading′ at′ n
       → done′ ≡ done + length (take (printedOf step) text′) → Reached file done′ at′ loading′ (lent′ .store)
   unfolding joined
   goes-on {step} {loading′} {at′} {n} {done′} st e d =
-      let is = subst (λ (s : Step). Steps file at loading lent text s lent′ text′) e st in
-      let more-done : done′ ≡ done + length (take n text′) = d ∙ ap (λ (s : Step). done + length (take (printedOf s) text′)) e in
+      let is = subst (λ (s : LoadStep). Steps file at loading lent text s lent′ text′) e st in
+      let more-done : done′ ≡ done + length (take n text′) = d ∙ ap (λ (s : LoadStep). done + length (take (printedOf s) text′)) e in
       record {
         before = here .before ++ take n text′;
         count = length-append (here .before) (take n text′) ∙ ap (λ (k : ℕ). k + length (take n text′)) (here .count) ∙ sym more-done;
@@ -65,11 +65,11 @@ module _ {file : List ℕ} {done at : ℕ} {loading : Loading} {lent lent′ : L
       }
 
   -- and with the last one all of it
-  pub all-printed : {step : Step} {n done′ : ℕ} → Steps file at loading lent text step lent′ text′ → step ≡ Ended n
+  pub all-printed : {step : LoadStep} {n done′ : ℕ} → Steps file at loading lent text step lent′ text′ → step ≡ Ended n
       → done′ ≡ done + length (take (printedOf step) text′) → done′ ≡ length (fileText file)
   unfolding joined
   all-printed {step} {n} {done′} st e d =
-      let is = subst (λ (s : Step). Steps file at loading lent text s lent′ text′) e st in
+      let is = subst (λ (s : LoadStep). Steps file at loading lent text s lent′ text′) e st in
       let whole = here .rest (take n text′ ∷ []) (last z is) ∙ ap (λ (l : List ℕ). here .before ++ l) (append-nil (take n text′)) in
-      d ∙ ap (λ (s : Step). done + length (take (printedOf s) text′)) e
+      d ∙ ap (λ (s : LoadStep). done + length (take (printedOf s) text′)) e
       ∙ sym (ap length whole ∙ length-append (here .before) (take n text′) ∙ ap (λ (k : ℕ). k + length (take n text′)) (here .count))

@@ -6,16 +6,16 @@ ghost use Rattle.load.specs.File.{fileText};
 ghost use Rattle.load.specs.Step.{printedOf};
 ghost use Rattle.printer.specs.Due.{Due};
 use libc::STDOUT_FILENO;
+use load::LoadStep;
 use load::Loading;
-use load::Step;
 
 // The bytes that a step wrote.
-fn printed_of(step: Step) -> usize
+fn printed_of(step: LoadStep) -> usize
     ensures { λ r. ⌜ r ≡ printedOf step ⌝ }
 {
     match step {
-        Step::Ended { printed } => printed,
-        Step::Next {
+        LoadStep::Ended { printed } => printed,
+        LoadStep::Next {
             loading,
             at,
             printed,
@@ -62,7 +62,7 @@ pub fn print_file(file: &[u8]) -> usize
         );
         let end = printed_of(step);
         done = print_next(file, done, &text[..end]);
-        let Step::Next {
+        let LoadStep::Next {
             loading: running,
             at: next,
             ..

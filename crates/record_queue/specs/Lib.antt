@@ -1,4 +1,4 @@
--- What the contracts of `order` say: ordered lists of records with their laws, records in a list of u32 with theirs, the queue, and the
+-- What the contracts of `record_queue` say: ordered lists of records with their laws, records in a list of u32 with theirs, the queue, and the
 -- steps that it is made of.
 pub mod Sorted
 pub mod SortedLaws

@@ -12,12 +12,12 @@ use lib.Ieee.{Float}
 use lib.ListN.{length, getD, length-map}
 use Rattle.lists.specs.Lists.{joined, countFrom}
 use Rattle.lists.specs.Counting.{getD-Memᴰ, length-countFrom, joined-map, map-joined}
-use Rattle.lists.specs.Partition.{List·Permᴰ, List·Permᴰ·trans, Permᴰ·refl, Permᴰ·symm, Permᴰ·map, perm-of-eq, perm-append, perm-length}
+use Rattle.lists.specs.Partition.{List·Permᴰ, List·Permᴰ·trans, Permᴰ·refl, Permᴰ·symm, Permᴰ·map, perm-of-eq, perm-append, perm-length, Different, once-left, once-right, once-perm}
 use Rattle.record_queue.specs.Sorted.{sort}
 use Rattle.record_queue.specs.SortedLaws.{perm-sort}
 use Rattle.tree.specs.Tree.{Tree, Forest, leaf, inner, none, more, Splitting, treeOf, size}
 use Rattle.tree.specs.Nodes.{Node, Entries, roots, entriesOf, filterOf}
-use Rattle.tree.specs.TreeLaws.{keptIds, leafIds, forestIds, Fair, OnceEach, once-left, once-right, once-perm, once-treeOf, fair-treeOf, perm-leafIds, kept-grow, size-some, size-treeOf}
+use Rattle.tree.specs.TreeLaws.{keptIds, leafIds, forestIds, Fair, once-treeOf, fair-treeOf, perm-leafIds, kept-grow, size-some, size-treeOf}
 use Rattle.tree.specs.NodeLaws.{treesOf}
 use Rattle.tree.specs.NodeEntryLaws.{entriesOf-nil, entriesOf-perm, entriesOf-append}
 use Rattle.tree.specs.NodeFilterLaws.{perm-children-ids}
@@ -40,23 +40,23 @@ due m query wanted ids = map (rowHit m query) (given wanted (rowRead m) (listOve
 
 -- ---- no id is twice below a node
 
-once-either : (xs ys : List Tree) (sub : Tree) → List·Memᴰ sub xs ⊎ List·Memᴰ sub ys → (List·Memᴰ sub xs → OnceEach (leafIds sub))
-    → (List·Memᴰ sub ys → OnceEach (leafIds sub)) → OnceEach (leafIds sub)
+once-either : (xs ys : List Tree) (sub : Tree) → List·Memᴰ sub xs ⊎ List·Memᴰ sub ys → (List·Memᴰ sub xs → Different (leafIds sub))
+    → (List·Memᴰ sub ys → Different (leafIds sub)) → Different (leafIds sub)
 once-either xs ys sub (inl k) f g = f k
 once-either xs ys sub (inr k) f g = g k
 
-once-first : (t sub : Tree) {l : List Tree} → OnceEach (leafIds t) → (sub ≡ t) ⊎ List·Memᴰ sub l → (List·Memᴰ sub l → OnceEach (leafIds sub)) → OnceEach (leafIds sub)
-once-first t sub h (inl e) later = subst (λ (x : Tree). OnceEach (leafIds x)) (sym e) h
+once-first : (t sub : Tree) {l : List Tree} → Different (leafIds t) → (sub ≡ t) ⊎ List·Memᴰ sub l → (List·Memᴰ sub l → Different (leafIds sub)) → Different (leafIds sub)
+once-first t sub h (inl e) later = subst (λ (x : Tree). Different (leafIds x)) (sym e) h
 once-first t sub h (inr k) later = later k
 
 mutual
   unfolding subs forestSubs leafIds forestIds
 
-  once-sub : (t sub : Tree) → OnceEach (leafIds t) → List·Memᴰ sub (subs t) → OnceEach (leafIds sub)
+  once-sub : (t sub : Tree) → Different (leafIds t) → List·Memᴰ sub (subs t) → Different (leafIds sub)
   once-sub (leaf ids) sub h k = once-first (leaf ids) sub h (List·Memᴰ·cases-cons k) (λ n. absurd (List·Memᴰ·not-nil n))
   once-sub (inner ids f) sub h k = once-first (inner ids f) sub h (List·Memᴰ·cases-cons k) (λ n. once-forest f sub h n)
 
-  once-forest : (f : Forest) (sub : Tree) → OnceEach (forestIds f) → List·Memᴰ sub (forestSubs f) → OnceEach (leafIds sub)
+  once-forest : (f : Forest) (sub : Tree) → Different (forestIds f) → List·Memᴰ sub (forestSubs f) → Different (leafIds sub)
   once-forest none sub h k = absurd (List·Memᴰ·not-nil k)
   once-forest (more t f) sub h k =
       once-either (subs t) (forestSubs f) sub (List·Memᴰ·append-cases (subs t) k)
@@ -64,7 +64,7 @@ mutual
 
 -- ---- due of parts
 
-entries-parts : (e : Entries) (l : List (List ℕ)) → OnceEach (joined (λ ids. ids) l) → List·Permᴰ (joined (entriesOf e) l) (entriesOf e (joined (λ ids. ids) l))
+entries-parts : (e : Entries) (l : List (List ℕ)) → Different (joined (λ ids. ids) l) → List·Permᴰ (joined (entriesOf e) l) (entriesOf e (joined (λ ids. ids) l))
 unfolding joined
 entries-parts e [] h = perm-of-eq (sym (entriesOf-nil e))
 entries-parts e (ids ∷ l) h =
@@ -72,7 +72,7 @@ entries-parts e (ids ∷ l) h =
     (entriesOf-append e ids (joined (λ x. x) l) h)
 
 -- the lists of some leaves, joined, are the list over all their rows
-lists-parts : (list : LeafList) (m : Model) (ids : List ℕ) (l : List (List ℕ)) → List·Permᴰ (joined (λ x. x) l) ids → OnceEach ids
+lists-parts : (list : LeafList) (m : Model) (ids : List ℕ) (l : List (List ℕ)) → List·Permᴰ (joined (λ x. x) l) ids → Different ids
     → List·Permᴰ (joined (listOver list m) l) (listOver list m ids)
 unfolding listOver
 lists-parts vector-list m ids l p h = p
@@ -80,7 +80,7 @@ lists-parts entry-list m ids l p h =
     let e = rowEntries m in
     List·Permᴰ·trans (entries-parts e l (once-perm (joined (λ x. x) l) ids p h)) (perm-of-eq (entriesOf-perm e (joined (λ x. x) l) ids p))
 
-pub due-parts : (m : Model) (query : List Float) (wanted : Wanted) (ids : List ℕ) (l : List (List ℕ)) → List·Permᴰ (joined (λ x. x) l) ids → OnceEach ids
+pub due-parts : (m : Model) (query : List Float) (wanted : Wanted) (ids : List ℕ) (l : List (List ℕ)) → List·Permᴰ (joined (λ x. x) l) ids → Different ids
     → List·Permᴰ (joined (due m query wanted) l) (due m query wanted ids)
 unfolding due
 due-parts m query wanted ids l p h =
@@ -123,7 +123,7 @@ module _ (s : Setting) (m : Model) (a : Allowed s) (w : Within s m) where
   fair-at : (i : ℕ) → IsNode s m i → Fair (subtree s m i)
   fair-at i h = fair-sub (rowTree s m) (subtree s m i) (fair-treeOf (split s m) (rowVectors m) one-branch) (in-subs i h)
 
-  once-at : (i : ℕ) → IsNode s m i → OnceEach (keptIds (subtree s m i))
+  once-at : (i : ℕ) → IsNode s m i → Different (keptIds (subtree s m i))
   once-at i h =
       once-perm (keptIds (subtree s m i)) (leafIds (subtree s m i)) (Permᴰ·symm (perm-leafIds (subtree s m i) (fair-at i h)))
       (once-sub (rowTree s m) (subtree s m i) (once-treeOf (split s m) (rowVectors m) one-branch) (in-subs i h))

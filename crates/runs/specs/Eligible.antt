@@ -6,6 +6,7 @@ use mathlib.Core.List.{List, [], _∷_, map, map-map, List·Memᴰ, List·Memᴰ
 use mathlib.Core.Path.{_≡_, refl, sym, ap, _∙_}
 use lib.Ieee.{Float}
 use lib.ListN.{length, getD}
+use Rattle.lists.specs.Partition.{Different}
 use Rattle.lists.specs.Lists.{keep, countFrom, isIn}
 use Rattle.lists.specs.Maps.{map-on}
 use Rattle.lists.specs.Tests.{either}
@@ -13,7 +14,7 @@ use Rattle.lists.specs.Counting.{isIn-nil, isIn-later, Memᴰ-keep}
 use Rattle.total_order.specs.TotalOrder.{keyOf}
 use Rattle.vector.specs.Normalized.{normalized}
 use Rattle.walk.specs.declared.Wanted.{Wanted}
-use Rattle.walk.specs.DifferentLaws.{Different, different-nil, different-cons}
+use Rattle.walk.specs.DifferentLaws.{different-nil, different-cons}
 use Rattle.curator.specs.Arguments.{Question}
 use Rattle.curator.specs.Searches.{wantedOf}
 use Rattle.runs.specs.Model.{Setting, Model, ModelRow, noRow, rowHit}

@@ -9,7 +9,7 @@ use lib.Ieee.{Float}
 use lib.ListN.{length, getD}
 use Rattle.lists.specs.Maps.{map-on, Memᴰ-map}
 use Rattle.lists.specs.Counting.{sumOf, sumOf-map, getD-Memᴰ, Memᴰ-keep}
-use Rattle.lists.specs.Partition.{hit, count, count-Memᴰ, Memᴰ-count}
+use Rattle.lists.specs.Partition.{hit, count, count-Memᴰ, Memᴰ-count, Different}
 use Rattle.record_queue.specs.Sorted.{sort}
 use Rattle.distance.specs.DistanceLaws.{distance-fits}
 use Rattle.total_order.specs.TotalOrder.{keyOf, ofKey}
@@ -18,7 +18,6 @@ use Rattle.vector.specs.Normalized.{normalized}
 use Rattle.walk.specs.declared.Wanted.{Wanted}
 use Rattle.walk.specs.Walk.{View, Progress, going, walk, whole}
 use Rattle.walk.specs.Answer.{documentOf, distanceOf, ranked}
-use Rattle.walk.specs.DifferentLaws.{Different}
 use Rattle.walk.specs.SoundWalk.{sound-part, sound-whole}
 use Rattle.walk.specs.AnswerLaws.{ranked-all}
 use Rattle.curator.specs.Searches.{wantedOf}

@@ -29,7 +29,7 @@ use Rattle.curator.specs.Limits.{stateSound, indexShape}
 use Rattle.settings.specs.Limits.{builtAllowed}
 use Rattle.curator.specs.RowLaws.{NoneHolds, fine-none}
 use Rattle.curator.specs.Rows.{Row, stateRow, searchRows}
-use Rattle.curator.specs.Searches.{wantedOf, SearchEnd, searchCheck, WalkedTo, Walked, SearchesBy, Searches}
+use Rattle.curator.specs.Searches.{wantedOf, SearchEnd, searchCheck, WalkedTo, SearchWalked, SearchesBy, Searches}
 use Rattle.curator.specs.Arguments.{SearchCall, askingOf}
 use Rattle.curator.specs.StateLaws.{sound-facts}
 use Rattle.lists.specs.Tests.{and-both, or-left, or-right}
@@ -122,7 +122,7 @@ pub walked-of : (index : CuratorIndex) (store : Store) (work : List ℕ) (call :
     (end .work)
     (end .ids)
     (end .distances)
-    → Walked index store work call end
+    → SearchWalked index store work call end
 walked-of index store work call end s squares query stored wanted searched es eq ew ed normal room answers h =
     let viewed : Shape → List Float → Wanted → State =
     λ s q w. walk (storeView s (index .counts) store q w) (index .params .«ef_search») in

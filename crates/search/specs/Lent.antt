@@ -20,15 +20,15 @@ use Rattle.curator.specs.Limits.{stateSound, indexShape}
 use Rattle.curator.specs.Rows.{firstOf, stateRow, searchRows}
 use Rattle.store.specs.declared.Lengths.{Lengths}
 use Rattle.curator.specs.Calls.{factsOf}
-use Rattle.curator.specs.Searches.{wantedOf, SearchEnd, Walked, Searches}
+use Rattle.curator.specs.Searches.{wantedOf, SearchEnd, SearchWalked, Searches}
 use Rattle.curator.specs.Arguments.{Asking, Asked, everything, labelled, SearchCall}
 
 -- what the rows of a search come to, by the lengths of the lists
 abbrev pub searchChecked : CuratorIndex → Lengths → ℕ → Asking → Check
 searchChecked index lent work asked = firstOf (stateRow (stateSound index) ∷ searchRows (factsOf index) lent work asked)
 
-abbrev pub asking : RefT (List Float) → ℕ → ℕ → ℕ → Asking
-asking query k ids distances = record { query = now query; k = k; ids = ids; distances = distances }
+abbrev pub askingWith : RefT (List Float) → ℕ → ℕ → ℕ → Asking
+askingWith query k ids distances = record { query = now query; k = k; ids = ids; distances = distances }
 
 -- what a search brings, once it is known what it asks for
 abbrev pub looking : RefT (List Float) → ℕ → RefT (List ℕ) → RefT (List Float) → Asked → SearchCall
@@ -62,7 +62,7 @@ pub record SearchReady (index : CuratorIndex) (store : Store) (scratch : List �
 
 -- the walk, and the whole search, for whatever asks for what is wanted
 abbrev pub WalkedFor : CuratorIndex → Store → List ℕ → Wanted → (Asked → SearchCall) → SearchEnd → Type 0
-WalkedFor index store work wanted call end = (asked : Asked) → wantedOf asked ≡ wanted → Walked index store work (call asked) end
+WalkedFor index store work wanted call end = (asked : Asked) → wantedOf asked ≡ wanted → SearchWalked index store work (call asked) end
 
 abbrev pub SearchesFor : CuratorIndex → Store → List ℕ → Wanted → (Asked → SearchCall) → SearchEnd → Type 0
 SearchesFor index store work wanted call end = (asked : Asked) → wantedOf asked ≡ wanted → Searches index store work (call asked) end

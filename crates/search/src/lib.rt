@@ -2,7 +2,7 @@
 ghost use mathlib.Core.Path.{_≡_};
 ghost use Rattle.store.specs.Lent.{lent};
 ghost use Rattle.curator.specs.Searches.{Searches};
-ghost use Rattle.search.specs.Lent.{asking, searchChecked, SearchReady, foundOf, looking, leaving, filtered, unfiltered, SearchesFor, WalkedFor};
+ghost use Rattle.search.specs.Lent.{askingWith, searchChecked, SearchReady, foundOf, looking, leaving, filtered, unfiltered, SearchesFor, WalkedFor};
 use curator::CuratorIndex;
 use curator::Found;
 use curator::limits;
@@ -25,7 +25,7 @@ fn search_check(
     ids: usize,
     distances: usize,
 ) -> Check
-    ensures { λ r. ⌜ r ≡ searchChecked index lent work (asking (query .entry) k ids distances) ⌝ }
+    ensures { λ r. ⌜ r ≡ searchChecked index lent work (askingWith (query .entry) k ids distances) ⌝ }
 {
     if !limits::state_sound(index) {
         return Check::Refused(Refusal::State(StateRefusal::InvalidState));

@@ -1,4 +1,4 @@
--- Lists that are not too short are as long as the sizes, and the other way round. Assumes nothing.
+-- Lists that are not too short are as long as the sizes. Assumes nothing.
 use Prim.Native.Nat.{ℕ, _≤_}
 use mathlib.Core.Bool.{Bool, true, false, not, _&&_}
 use mathlib.Core.Path.{_≡_}

@@ -79,9 +79,27 @@ hitsAt s = 3 * s .nodes
 abbrev pub workSize : Shape → ℕ
 workSize s = 3 * s .nodes + 3 * max (s .vectors) (s .entries)
 
--- parts that a call may leave free: cluster centres, work
+-- the parts that a call may leave free, by start and length
+abbrev pub centroidsPart : Shape → Part
+centroidsPart s = record { start = centroidsAt s; count = s .dimension * s .nodes }
+
 abbrev pub centresPart : Shape → Part
 centresPart s = record { start = centresAt s; count = s .dimension * s .branching }
+
+abbrev pub orderPart : Shape → Part
+orderPart s = record { start = orderAt s; count = s .vectors }
+
+abbrev pub nodesPart : Shape → Part
+nodesPart s = record { start = nodesAt s; count = 6 * s .nodes }
+
+abbrev pub linksPart : Shape → Part
+linksPart s = record { start = linksAt s; count = s .nodes }
+
+abbrev pub entryOrderPart : Shape → Part
+entryOrderPart s = record { start = entryOrderAt s; count = s .entries }
+
+abbrev pub filtersPart : Shape → Part
+filtersPart s = record { start = filtersAt s; count = 4 * s .nodes }
 
 abbrev pub workPart : Shape → Part
 workPart s = record { start = 0; count = workSize s }

@@ -14,7 +14,7 @@ use Rattle.lists.specs.Lists.{joined, countFrom}
 use Rattle.lists.specs.Counting.{countFrom-snoc, joined-snoc}
 use Rattle.lists.specs.Parts.{sets-append}
 use Rattle.text.specs.Digits.{decimalOf, hexOf}
-use Rattle.text.specs.DigitsLaws.{decimal-is, hex-is, decimal-one, hex-one, hex-lt, length-hexOf, decimal-le-10, decimal-le-20}
+use Rattle.text.specs.DigitsLaws.{decimal-is, hex-is, decimal-one, hex-one, hex-lt, length-hexOf, decimal-le-10}
 use Rattle.text.specs.Lines.{codes, closingWord, refusedWord, HitLine, ClosingLine, RefusedLine, hitLine, numberEnd, closingLine, refusedLine, hitLineAt, hitLines, Written}
 
 -- ---- each line meets its definition, and no other does
@@ -63,27 +63,6 @@ pub length-closingWord : (whole : Bool) → length (closingWord whole) ≤ 6
 unfolding closingWord codes
 length-closingWord true = omega arith
 length-closingWord false = omega arith
-
-pub length-numberEnd : (n : ℕ) → length (numberEnd n) ≡ length (decimalOf n) + 1
-unfolding numberEnd codes
-length-numberEnd n = length-append (decimalOf n) (codes "\n")
-
-pub length-closingLine : (whole : Bool) (opened : ℕ) → length (closingLine whole opened) ≡ length (closingWord whole) + (length (decimalOf opened) + 1)
-unfolding closingLine
-length-closingLine whole opened = length-append (closingWord whole) (numberEnd opened) ∙ ap (λ (k : ℕ). length (closingWord whole) + k) (length-numberEnd opened)
-
-pub closing-le-17 : (whole : Bool) (opened : ℕ) → opened < 2 ^ 32 → length (closingLine whole opened) ≤ 17
-closing-le-17 whole opened h = omega (arith, length-closingLine whole opened, length-closingWord whole, decimal-le-10 opened h)
-
-pub closing-le-27 : (whole : Bool) (opened : ℕ) → opened < 2 ^ 64 → length (closingLine whole opened) ≤ 27
-closing-le-27 whole opened h = omega (arith, length-closingLine whole opened, length-closingWord whole, decimal-le-20 opened h)
-
-pub length-refusedLine : (number : ℕ) → length (refusedLine number) ≡ 8 + (length (decimalOf number) + 1)
-unfolding refusedLine refusedWord codes
-length-refusedLine number = length-append refusedWord (numberEnd number) ∙ ap (λ (k : ℕ). 8 + k) (length-numberEnd number)
-
-pub refused-le-19 : (number : ℕ) → number < 2 ^ 32 → length (refusedLine number) ≤ 19
-refused-le-19 number h = omega (arith, length-refusedLine number, decimal-le-10 number h)
 
 -- ---- the lines of several hits
 

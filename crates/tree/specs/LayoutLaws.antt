@@ -1,5 +1,4 @@
--- Reading the nodes of a tree back from the lent lists: the six numbers of a node, its blocks, its filter and its centroid; and what the nodes
--- leave as it was.
+-- Reading the nodes of a tree back from the lent lists: the six numbers of a node, its blocks, its filter and its centroid.
 use Prim.Native.Nat.{ℕ, zero, suc, _+_, _*_, _≤_, _<_}
 use mathlib.Core.Path.{_≡_, refl, sym, ap, ap₂, _∙_}
 use mathlib.Core.List.{List, [], _∷_, _++_, List·Memᴰ, List·Memᴰ·head, List·Memᴰ·tail}

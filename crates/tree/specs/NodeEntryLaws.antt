@@ -9,10 +9,10 @@ use lib.Ieee.{Float}
 use lib.ListN.{length, getD}
 use Rattle.lists.specs.Lists.{keep, joined, countFrom, isIn}
 use Rattle.lists.specs.Counting.{getD-Memᴰ, isIn-append, isIn-countFrom, Memᴰ-countFrom, length-countFrom, keep-nil, keep-pass, keep-fail, keep-congr, keep-all, keep-none, isIn-nil, Memᴰ-keep, joined-append}
-use Rattle.lists.specs.Partition.{List·Permᴰ, List·Permᴰ·cons, List·Permᴰ·trans, Permᴰ·middle, perm-of-eq, perm-append, perm-length, perm-isIn, isIn-count, count-append}
+use Rattle.lists.specs.Partition.{List·Permᴰ, List·Permᴰ·cons, List·Permᴰ·trans, Permᴰ·middle, perm-of-eq, perm-append, perm-length, perm-isIn, isIn-count, count-append, Different, once-left, once-right}
 use Rattle.tree.specs.Tree.{Tree, Forest, leaf, inner, none, more, Splitting, treeOf, size}
 use Rattle.tree.specs.Nodes.{Entries, nodesFrom, forestNodes, nodesOf, entriesOf}
-use Rattle.tree.specs.TreeLaws.{of-both, leafIds, forestIds, OnceEach, once-left, once-right, once-treeOf, perm-treeOf}
+use Rattle.tree.specs.TreeLaws.{of-both, leafIds, forestIds, once-treeOf, perm-treeOf}
 
 -- what passes one of two tests that nothing passes both
 pub keep-or {ℓ} : {A : Type ℓ} (p q : A → Bool) (l : List A) → ((x : A) → List·Memᴰ x l → p x ≡ true → q x ≡ true → ⊥)
@@ -61,7 +61,7 @@ module _ (e : Entries) where
   unfolding entriesOf
   entries-rise ids = keep-rising (λ number. isIn (getD (e .owners) number 0) ids) 0 (length (e .owners))
 
-  -- an entry number is below the count, and is in the list exactly if its owner is among the ids
+  -- an entry number is below the count
   pub entry-below : (ids : List ℕ) (x : ℕ) → List·Memᴰ x (entriesOf e ids) → x < length (e .owners)
   unfolding entriesOf
   entry-below ids x m =
@@ -76,7 +76,7 @@ module _ (e : Entries) where
       (λ x m. perm-isIn (getD (e .owners) x 0) xs ys p)
 
   -- the entries of ids that are cut into two lists, none in both
-  pub entriesOf-append : (xs ys : List ℕ) → OnceEach (xs ++ ys) → List·Permᴰ (entriesOf e xs ++ entriesOf e ys) (entriesOf e (xs ++ ys))
+  pub entriesOf-append : (xs ys : List ℕ) → Different (xs ++ ys) → List·Permᴰ (entriesOf e xs ++ entriesOf e ys) (entriesOf e (xs ++ ys))
   unfolding entriesOf
   entriesOf-append xs ys h =
       List·Permᴰ·trans
@@ -115,12 +115,12 @@ module _ (s : Splitting) (vectors : List (List Float)) (e : Entries) where
   mutual
     unfolding nodesFrom forestNodes joined leafIds forestIds
 
-    pub entries-nodesFrom : (i : ℕ) (t : Tree) → OnceEach (leafIds t)
+    pub entries-nodesFrom : (i : ℕ) (t : Tree) → Different (leafIds t)
         → List·Permᴰ (joined (λ node. node .entries) (nodesFrom s vectors e i t)) (entriesOf e (leafIds t))
     entries-nodesFrom i (leaf ids) h = perm-of-eq (append-nil (entriesOf e ids))
     entries-nodesFrom i (inner ids children) h = entries-forestNodes (suc i) children h
 
-    pub entries-forestNodes : (i : ℕ) (f : Forest) → OnceEach (forestIds f)
+    pub entries-forestNodes : (i : ℕ) (f : Forest) → Different (forestIds f)
         → List·Permᴰ (joined (λ node. node .entries) (forestNodes s vectors e i f)) (entriesOf e (forestIds f))
     entries-forestNodes i none h = perm-of-eq (sym (entriesOf-nil e))
     entries-forestNodes i (more tree rest) h =

@@ -9,10 +9,10 @@ use lib.Ieee.{Float}
 use lib.ListN.{length, getD, length-append}
 use Rattle.lists.specs.Lists.{joined, countFrom}
 use Rattle.lists.specs.Counting.{getD-Memᴰ, Memᴰ-countFrom, countFrom-cons, countFrom-append, length-countFrom, joined-append, joined-Memᴰ}
-use Rattle.lists.specs.Partition.{List·Permᴰ, List·Permᴰ·nil, List·Permᴰ·cons, List·Permᴰ·trans, Permᴰ·append-right, List·Permᴰ·append-comm, perm-of-eq, perm-append, perm-length, perm-Memᴰ, count, Memᴰ-count, count-append}
+use Rattle.lists.specs.Partition.{List·Permᴰ, List·Permᴰ·nil, List·Permᴰ·cons, List·Permᴰ·trans, Permᴰ·append-right, List·Permᴰ·append-comm, perm-of-eq, perm-append, perm-length, perm-Memᴰ, count, Memᴰ-count, count-append, once-perm, once-countFrom}
 use Rattle.tree.specs.Tree.{Tree, Forest, leaf, inner, none, more, Splitting, treeOf, size, sizes}
 use Rattle.tree.specs.Nodes.{Entries, Node, nodesFrom, forestNodes, nodesOf, roots}
-use Rattle.tree.specs.TreeLaws.{leafIds, forestIds, once-perm, once-countFrom, perm-treeOf, size-some, size-treeOf}
+use Rattle.tree.specs.TreeLaws.{leafIds, forestIds, perm-treeOf, size-some, size-treeOf}
 
 -- ---- how many nodes, and their ids
 

@@ -58,8 +58,8 @@ unfolding joined groupsFrom
 made s vectors waiting = joined (λ g. groupsFrom s vectors (g .levels) (g .ids)) waiting
 
 -- the tree of a group
-abbrev pub grown : Splitting → List (List Float) → Group → Tree
-grown s vectors g = grow s vectors (g .levels) (g .ids)
+abbrev pub grownTree : Splitting → List (List Float) → Group → Tree
+grownTree s vectors g = grow s vectors (g .levels) (g .ids)
 
 module _ (s : Splitting) (vectors : List (List Float)) where
   pub childGroups-leaf : (g : Group) → isLeaf s (g .levels) (g .ids) ≡ true → childGroups s vectors g ≡ []
@@ -121,21 +121,21 @@ module _ (s : Splitting) (vectors : List (List Float)) where
 
   -- ---- the tree of a group
 
-  subs-cond : (b : Bool) (t : Tree) (ids : List ℕ) (f : Forest) (l : List Group) → t ≡ cond b (leaf ids) (inner ids f) → forestSubs f ≡ map (grown s vectors) l
-      → subs t ≡ t ∷ map (grown s vectors) (cond b [] l)
+  subs-cond : (b : Bool) (t : Tree) (ids : List ℕ) (f : Forest) (l : List Group) → t ≡ cond b (leaf ids) (inner ids f) → forestSubs f ≡ map (grownTree s vectors) l
+      → subs t ≡ t ∷ map (grownTree s vectors) (cond b [] l)
   unfolding subs
   subs-cond true t ids f l e h = ap subs e ∙ ap (λ (r : Tree). r ∷ []) (sym e)
   subs-cond false t ids f l e h = ap subs e ∙ ap₂ _∷_ (sym e) h
 
-  subs-forest : (levels : ℕ) (l : List (List ℕ)) → ((ids : List ℕ) → subs (grow s vectors levels ids) ≡ map (grown s vectors) (groupsFrom s vectors levels ids))
-      → forestSubs (forestOf (grow s vectors levels) l) ≡ map (grown s vectors) (joined (groupsFrom s vectors levels) l)
+  subs-forest : (levels : ℕ) (l : List (List ℕ)) → ((ids : List ℕ) → subs (grow s vectors levels ids) ≡ map (grownTree s vectors) (groupsFrom s vectors levels ids))
+      → forestSubs (forestOf (grow s vectors levels) l) ≡ map (grownTree s vectors) (joined (groupsFrom s vectors levels) l)
   unfolding forestOf forestSubs joined
   subs-forest levels [] h = refl
   subs-forest levels (ids ∷ l) h =
       ap₂ (λ (a b : List Tree). a ++ b) (h ids) (subs-forest levels l h)
-      ∙ sym (map-append (grown s vectors) (groupsFrom s vectors levels ids) (joined (groupsFrom s vectors levels) l))
+      ∙ sym (map-append (grownTree s vectors) (groupsFrom s vectors levels ids) (joined (groupsFrom s vectors levels) l))
 
-  subs-groupsFrom : (levels : ℕ) (ids : List ℕ) → subs (grow s vectors levels ids) ≡ map (grown s vectors) (groupsFrom s vectors levels ids)
+  subs-groupsFrom : (levels : ℕ) (ids : List ℕ) → subs (grow s vectors levels ids) ≡ map (grownTree s vectors) (groupsFrom s vectors levels ids)
   unfolding grow subs groupsFrom
   subs-groupsFrom zero ids = refl
   subs-groupsFrom (suc levels) ids =
@@ -143,12 +143,12 @@ module _ (s : Splitting) (vectors : List (List Float)) where
       (joined (groupsFrom s vectors levels) (groups s vectors ids)) refl (subs-forest levels (groups s vectors ids) (subs-groupsFrom levels))
 
   -- What is made of one group is, in order, the subtrees of its tree.
-  pub subs-made : (g : Group) → subs (grown s vectors g) ≡ map (grown s vectors) (made s vectors (g ∷ []))
-  subs-made g = subs-groupsFrom (g .levels) (g .ids) ∙ ap (map (grown s vectors)) (sym (made-one g))
+  pub subs-made : (g : Group) → subs (grownTree s vectors g) ≡ map (grownTree s vectors) (made s vectors (g ∷ []))
+  subs-made g = subs-groupsFrom (g .levels) (g .ids) ∙ ap (map (grownTree s vectors)) (sym (made-one g))
 
-  pub length-made : (g : Group) → length (made s vectors (g ∷ [])) ≡ size (grown s vectors g)
+  pub length-made : (g : Group) → length (made s vectors (g ∷ [])) ≡ size (grownTree s vectors g)
   length-made g =
-      sym (length-map (made s vectors (g ∷ [])) (grown s vectors)) ∙ ap (λ (l : List Tree). length l) (sym (subs-made g)) ∙ length-subs (grown s vectors g)
+      sym (length-map (made s vectors (g ∷ [])) (grownTree s vectors)) ∙ ap (λ (l : List Tree). length l) (sym (subs-made g)) ∙ length-subs (grownTree s vectors g)
 
   -- the group of the root
   abbrev pub rootGroup : Group
@@ -159,12 +159,12 @@ module _ (s : Splitting) (vectors : List (List Float)) where
   -- the trees of a list of groups
   unfoldable pub forestGrown : List Group → Forest
   forestGrown [] = none
-  forestGrown (g ∷ rest) = more (grown s vectors g) (forestGrown rest)
+  forestGrown (g ∷ rest) = more (grownTree s vectors g) (forestGrown rest)
 
-  treesOf-grown : (l : List Group) → treesOf (forestGrown l) ≡ map (grown s vectors) l
+  treesOf-grown : (l : List Group) → treesOf (forestGrown l) ≡ map (grownTree s vectors) l
   unfolding forestGrown treesOf
   treesOf-grown [] = refl
-  treesOf-grown (g ∷ rest) = ap (λ (r : List Tree). grown s vectors g ∷ r) (treesOf-grown rest)
+  treesOf-grown (g ∷ rest) = ap (λ (r : List Tree). grownTree s vectors g ∷ r) (treesOf-grown rest)
 
   forestOf-grown : (levels : ℕ) (l : List (List ℕ))
       → forestOf (grow s vectors levels) l ≡ forestGrown (map (λ group. record { levels = levels; ids = group }) l)
@@ -173,7 +173,7 @@ module _ (s : Splitting) (vectors : List (List Float)) where
   forestOf-grown levels (ids ∷ l) = ap (λ (r : Forest). more (grow s vectors levels ids) r) (forestOf-grown levels l)
 
   -- a group's tree is a leaf, or an inner node over the trees of its children's groups
-  pub grown-leaf : (g : Group) → isLeaf s (g .levels) (g .ids) ≡ true → grown s vectors g ≡ leaf (g .ids)
+  pub grown-leaf : (g : Group) → isLeaf s (g .levels) (g .ids) ≡ true → grownTree s vectors g ≡ leaf (g .ids)
   unfolding isLeaf
   grown-leaf g = go (g .levels) (g .ids)
     where
@@ -181,7 +181,7 @@ module _ (s : Splitting) (vectors : List (List Float)) where
       go zero ids h = grow-zero s vectors ids
       go (suc levels) ids h = grow-leaf s vectors (suc levels) ids (leb-true (length ids) (s .leaf-size) h)
 
-  pub grown-inner : (g : Group) → isLeaf s (g .levels) (g .ids) ≡ false → grown s vectors g ≡ inner (g .ids) (forestGrown (childGroups s vectors g))
+  pub grown-inner : (g : Group) → isLeaf s (g .levels) (g .ids) ≡ false → grownTree s vectors g ≡ inner (g .ids) (forestGrown (childGroups s vectors g))
   unfolding isLeaf split
   grown-inner g h = go (g .levels) (g .ids) h ∙ ap (λ (l : List Group). inner (g .ids) (forestGrown l)) (sym (childGroups-split g h))
     where
@@ -192,24 +192,24 @@ module _ (s : Splitting) (vectors : List (List Float)) where
           ∙ ap (inner ids) (forestOf-grown levels (groups s vectors ids))
 
   -- the ids at a group's node, and the trees of its children
-  pub own-grown : (g : Group) → ownIds (grown s vectors g) ≡ cond (isLeaf s (g .levels) (g .ids)) (g .ids) []
+  pub own-grown : (g : Group) → ownIds (grownTree s vectors g) ≡ cond (isLeaf s (g .levels) (g .ids)) (g .ids) []
   unfolding ownIds
   own-grown g = go (which (isLeaf s (g .levels) (g .ids)))
     where
-      go : (isLeaf s (g .levels) (g .ids) ≡ true) ⊎ (isLeaf s (g .levels) (g .ids) ≡ false) → ownIds (grown s vectors g) ≡ cond (isLeaf s (g .levels) (g .ids)) (g .ids) []
+      go : (isLeaf s (g .levels) (g .ids) ≡ true) ⊎ (isLeaf s (g .levels) (g .ids) ≡ false) → ownIds (grownTree s vectors g) ≡ cond (isLeaf s (g .levels) (g .ids)) (g .ids) []
       go (inl h) = ap ownIds (grown-leaf g h) ∙ ap (λ (b : Bool). cond b (g .ids) []) (sym h)
       go (inr h) = ap ownIds (grown-inner g h) ∙ ap (λ (b : Bool). cond b (g .ids) []) (sym h)
 
-  pub children-grown : (g : Group) → treesOf (childrenOf (grown s vectors g)) ≡ map (grown s vectors) (childGroups s vectors g)
+  pub children-grown : (g : Group) → treesOf (childrenOf (grownTree s vectors g)) ≡ map (grownTree s vectors) (childGroups s vectors g)
   unfolding childrenOf treesOf
   children-grown g = go (which (isLeaf s (g .levels) (g .ids)))
     where
       go : (isLeaf s (g .levels) (g .ids) ≡ true) ⊎ (isLeaf s (g .levels) (g .ids) ≡ false)
-          → treesOf (childrenOf (grown s vectors g)) ≡ map (grown s vectors) (childGroups s vectors g)
-      go (inl h) = ap (λ (t : Tree). treesOf (childrenOf t)) (grown-leaf g h) ∙ ap (map (grown s vectors)) (sym (childGroups-leaf g h))
+          → treesOf (childrenOf (grownTree s vectors g)) ≡ map (grownTree s vectors) (childGroups s vectors g)
+      go (inl h) = ap (λ (t : Tree). treesOf (childrenOf t)) (grown-leaf g h) ∙ ap (map (grownTree s vectors)) (sym (childGroups-leaf g h))
       go (inr h) = ap (λ (t : Tree). treesOf (childrenOf t)) (grown-inner g h) ∙ treesOf-grown (childGroups s vectors g)
 
-  -- ---- the leaf order
+  -- ---- a split
 
   -- A split puts the clusters, in order, in the group's place.
   pub split-ids : (g : Group) → isLeaf s (g .levels) (g .ids) ≡ false
@@ -238,17 +238,17 @@ numbered-map f g i (x ∷ xs) = ap (λ r. f i (g x) ∷ r) (numbered-map f g (su
 
 module _ (s : Splitting) (vectors : List (List Float)) (e : Entries) where
   -- The nodes are, in order, those of the groups that are made. What a node shows whatever its number is told by its group.
-  pub nodes-made : nodesOf s vectors e ≡ numbered (λ k g. rootNode s vectors e k (grown s vectors g)) 0 (made s vectors (rootGroup s vectors ∷ []))
+  pub nodes-made : nodesOf s vectors e ≡ numbered (λ k g. rootNode s vectors e k (grownTree s vectors g)) 0 (made s vectors (rootGroup s vectors ∷ []))
   unfolding nodesOf treeOf
   nodes-made =
       nodes-numbered s vectors e 0 (treeOf s vectors)
       ∙ ap (numbered (rootNode s vectors e) 0) (subs-made s vectors (rootGroup s vectors))
-      ∙ numbered-map (rootNode s vectors e) (grown s vectors) 0 (made s vectors (rootGroup s vectors ∷ []))
+      ∙ numbered-map (rootNode s vectors e) (grownTree s vectors) 0 (made s vectors (rootGroup s vectors ∷ []))
 
-  pub map-made {ℓ} : {C : Type ℓ} (f : Node → C) (h : Group → C) → ((k : ℕ) (g : Group) → f (rootNode s vectors e k (grown s vectors g)) ≡ h g)
+  pub map-made {ℓ} : {C : Type ℓ} (f : Node → C) (h : Group → C) → ((k : ℕ) (g : Group) → f (rootNode s vectors e k (grownTree s vectors g)) ≡ h g)
       → map f (nodesOf s vectors e) ≡ map h (made s vectors (rootGroup s vectors ∷ []))
   map-made f h q =
-      ap (map f) nodes-made ∙ map-numbered f h (λ k g. rootNode s vectors e k (grown s vectors g)) 0 (made s vectors (rootGroup s vectors ∷ [])) q
+      ap (map f) nodes-made ∙ map-numbered f h (λ k g. rootNode s vectors e k (grownTree s vectors g)) 0 (made s vectors (rootGroup s vectors ∷ [])) q
 
   pub made-ids : map (λ node. node .ids) (nodesOf s vectors e)
       ≡ map (λ g. cond (isLeaf s (g .levels) (g .ids)) (g .ids) []) (made s vectors (rootGroup s vectors ∷ []))
@@ -261,9 +261,9 @@ module _ (s : Splitting) (vectors : List (List Float)) (e : Entries) where
   made-counts =
       map-made (λ node. length (node .children)) (λ g. length (childGroups s vectors g))
       (λ k g.
-      length-roots (suc k) (childrenOf (grown s vectors g))
+      length-roots (suc k) (childrenOf (grownTree s vectors g))
       ∙ ap (λ (l : List Tree). length l) (children-grown s vectors g)
-      ∙ length-map (childGroups s vectors g) (grown s vectors))
+      ∙ length-map (childGroups s vectors g) (grownTree s vectors))
 
   pub made-centroids : map (λ node. node .centroid) (nodesOf s vectors e)
       ≡ map (λ g. meanOf (s .dimension) vectors (g .ids)) (made s vectors (rootGroup s vectors ∷ []))

@@ -15,7 +15,7 @@ use lib.Ieee.{Float}
 use lib.ListN.{length, length-append}
 use Rattle.lists.specs.Lists.{joined, countFrom}
 use Rattle.lists.specs.Counting.{Memᴰ-keep, length-countFrom}
-use Rattle.lists.specs.Partition.{List·Permᴰ, List·Permᴰ·nil, List·Permᴰ·trans, Permᴰ·refl, perm-of-eq, perm-append, perm-length, joined-keep, count, perm-count, count-append, count-countFrom, count-countFrom-not}
+use Rattle.lists.specs.Partition.{List·Permᴰ, List·Permᴰ·nil, List·Permᴰ·trans, Permᴰ·refl, perm-of-eq, perm-append, perm-length, joined-keep, count, perm-count, count-append, count-countFrom, count-countFrom-not, Different, once-perm, once-countFrom}
 use Rattle.cluster.specs.Clusters.{clusters}
 use Rattle.cluster.specs.ClustersLaws.{perm-clusters}
 use Rattle.tree.specs.Tree.{Tree, Forest, leaf, inner, none, more, Splitting, groups, forestOf, grow, treeOf, size, sizes}
@@ -205,26 +205,6 @@ fair-treeOf s vectors b = fair-grow s vectors b 16 (countFrom 0 (length vectors)
 
 -- ---- no id twice
 
-abbrev pub OnceEach : List ℕ → Type 0
-OnceEach l = (x : ℕ) → count x l ≤ 1
-
-pub once-perm : (xs ys : List ℕ) → List·Permᴰ xs ys → OnceEach ys → OnceEach xs
-once-perm xs ys p h x = let e = perm-count x xs ys p in let k = h x in omega arith
-
-pub once-left : (xs ys : List ℕ) → OnceEach (xs ++ ys) → OnceEach xs
-once-left xs ys h x = let e = count-append x xs ys in let k = h x in omega arith
-
-pub once-right : (xs ys : List ℕ) → OnceEach (xs ++ ys) → OnceEach ys
-once-right xs ys h x = let e = count-append x xs ys in let k = h x in omega arith
-
-pub once-countFrom : (i n : ℕ) → OnceEach (countFrom i n)
-once-countFrom i n x = go (leb i x) (ltb x (i + n)) refl refl
-  where
-    go : (a b : Bool) → leb i x ≡ a → ltb x (i + n) ≡ b → count x (countFrom i n) ≤ 1
-    go true true p q = let e = count-countFrom x i n (leb-true i x p) (ltb-true x (i + n) q) in omega arith
-    go true false p q = let e = count-countFrom-not x i n (inr (ltb-false x (i + n) q)) in omega arith
-    go false b p q = let e = count-countFrom-not x i n (inl (leb-false i x p)) in omega arith
-
-pub once-treeOf : (s : Splitting) (vectors : List (List Float)) → 1 ≤ s .branching → OnceEach (leafIds (treeOf s vectors))
+pub once-treeOf : (s : Splitting) (vectors : List (List Float)) → 1 ≤ s .branching → Different (leafIds (treeOf s vectors))
 once-treeOf s vectors b =
     once-perm (leafIds (treeOf s vectors)) (countFrom 0 (length vectors)) (perm-treeOf s vectors b) (once-countFrom 0 (length vectors))

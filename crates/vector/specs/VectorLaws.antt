@@ -1,4 +1,4 @@
--- Laws of vectors: which values are f32s, lengths, and finite components.
+-- Laws of vectors: which values are f32s, and lengths.
 use Prim.Native.Nat.{ℕ, zero, suc, _+_, _≤_, _<_, min}
 use mathlib.Core.Path.{_≡_, refl, sym, _∙_}
 use mathlib.Core.Bool.{Bool, true, false, cond}

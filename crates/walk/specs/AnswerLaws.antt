@@ -8,11 +8,11 @@ use lib.ListN.{length, getD, take}
 use borrow.Author.Tests.{eq-eqb, ne-eqb}
 use Rattle.lists.specs.Lists.{isIn}
 use Rattle.lists.specs.Counting.{isIn-here, keep-all}
-use Rattle.lists.specs.Partition.{List·Permᴰ, Permᴰ·map, count, count-append, perm-count}
+use Rattle.lists.specs.Partition.{List·Permᴰ, Permᴰ·map, count, count-append, perm-count, Different}
 use Rattle.record_queue.specs.Sorted.{sort, NoLater}
 use Rattle.record_queue.specs.SortedLaws.{sort-perm, no-later-sort, no-later-take, no-later-at}
 use Rattle.walk.specs.Walk.{Progress}
-use Rattle.walk.specs.DifferentLaws.{Different, different-head, different-tail}
+use Rattle.walk.specs.DifferentLaws.{different-head, different-tail}
 use Rattle.walk.specs.Answer.{documentOf, dropAfter, dropRepeats, listed, everyHit, ranked}
 
 -- ---- repeats

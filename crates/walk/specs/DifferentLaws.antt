@@ -11,15 +11,11 @@ use borrow.Author.Tests.{eqb-true, eqb-false, not-true}
 use Rattle.lists.specs.Lists.{keep, isIn}
 use Rattle.lists.specs.Counting.{isIn-nil, isIn-Memᴰ, keep-nil, keep-pass, keep-fail, Memᴰ-keep, length-keep-not}
 use Rattle.lists.specs.Tests.{which, either}
-use Rattle.lists.specs.Partition.{List·Permᴰ, Permᴰ·map, hit, count, hit-same, hit-other, count-nil, count-cons, perm-count, count-not-in, Memᴰ-count, count-keep-fail, count-keep-pass}
+use Rattle.lists.specs.Partition.{List·Permᴰ, Permᴰ·map, hit, count, hit-same, hit-other, count-nil, count-cons, perm-count, count-not-in, Memᴰ-count, count-keep-fail, count-keep-pass, Different}
 use Rattle.record_queue.specs.Sorted.{insert}
 use Rattle.record_queue.specs.SortedLaws.{insert-perm}
 use Rattle.walk.specs.Walk.{children, View, waitingNode, nodeNumber, Progress, going, shown, walk}
 use Rattle.walk.specs.WalkLaws.{pushedOne, startProgress, Kept, kept-walk}
-
--- no number is in a list twice
-abbrev pub Different : List ℕ → Type 0
-Different l = (x : ℕ) → count x l ≤ 1
 
 pub different-nil : Different []
 different-nil x = omega (arith, count-nil x)

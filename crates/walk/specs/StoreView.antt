@@ -35,6 +35,10 @@ abbrev pub partOf : Shape → LeafList → ℕ
 partOf s vector-list = orderAt s
 partOf s entry-list = entryOrderAt s
 
+-- what the lists have of an entry
+abbrev pub entriesIn : Shape → List ℕ → List ℕ → EntryRead
+entriesIn s numbers hashes = record { hash = λ entry. getD hashes entry 0; owner = λ entry. getD numbers (ownersAt s + entry) 0 }
+
 module _ (s : Shape) (c : Counts) (store : Store) where
   -- one of the six numbers of a node
   abbrev pub nodeField : ℕ → ℕ → ℕ
@@ -54,7 +58,7 @@ module _ (s : Shape) (c : Counts) (store : Store) where
 
   -- what a store has of an entry
   abbrev pub entryRead : EntryRead
-  entryRead = record { hash = λ entry. getD (store .hashes) entry 0; owner = ownerOf }
+  entryRead = entriesIn s (store .numbers) (store .hashes)
 
   -- a leaf's list where every number passes gives hits; otherwise it is damaged
   unfoldable pub listShown : List Float → Wanted → List ℕ → Shown

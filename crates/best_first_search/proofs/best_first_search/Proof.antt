@@ -23,6 +23,8 @@ use Prim.Native.Nat.{ℕ, _-_, _*_, _≤_, max}
 use Rattle.best_first_search.proofs.best_first_search.Statement.{statement}
 use Rattle.best_first_search.proofs.best_first_search.Tie as tie
 
+-- ---- the places that needs go back to (primed: the same place, from another one)
+
 -- the places: entry, the walk ended, it ended with hits, and the first k are taken
 abbrev entry : tie.After-best-first-walk → tie.Start
 entry w = w .before .before .before .before .before .before .before .before .before .before .before .before
@@ -54,8 +56,6 @@ ends w r is =
 
 size : (w : tie.After-best-first-walk) → workSize (entry w .args .shape) ≤ length (work w)
 size w = omega (arith, entry w .pre .lent .work-size, w .best-first-walk .ensures .works .size)
-
--- ---- the places, each with the way back to the one before
 
 abbrev after-hits-at : tie.After-work-size → tie.After-hits-at
 after-hits-at c = c .before

@@ -1,9 +1,9 @@
--- `best_first_walk` meets its contract: both loops keep what `Walking` says, and each way out is one of its ends. The measures are the budget and the
--- children that are left. Assumes nothing.
+-- `best_first_walk` meets its contract: the walk's loop keeps what `Walking` says, the children's what `Marking` says, and each way out is an end of
+-- `Walking`. The measures are the budget and the children that are left. Assumes nothing.
 mod Places
 mod AtLeaf
 mod AtChildren
-use Rattle.best_first_walk.proofs.best_first_walk.Proof.Places.{Inv-loop, μ-loop, Inv-walk, μ-walk, entry, begun, turn, least, leaf, from, added-hits, inner, parent, child, read, last, all-marked, hit, view, below, lends, first, marks, found-start, found-end, few, ended-works, node, work, node-low, opened, opened-works, shows}
+use Rattle.best_first_walk.proofs.best_first_walk.Proof.Places.{Inv-loop, μ-loop, Inv-walk, μ-walk, entry, begun, turn, least, leaf-opened, from, added-hits, inner-opened, parent, child, read, last, all-marked, hit, view, below, lends, first, marks, found-start, found-end, few, ended-works, node, work, node-low, opened, opened-works, shows}
 use Rattle.best_first_walk.proofs.best_first_walk.Proof.AtLeaf.{at-leaf, passed, vectors, vectors-held, most-is, list, list-room, list-is, lent-found, work-room, back, at-hits, back-length, after-is, after-works, gave}
 use Rattle.best_first_walk.proofs.best_first_walk.Proof.AtChildren.{at-inner, children, child-works, number, next, fresh, low, total, many, all, room}
 use Rattle.best_first_walk.proofs.Walking.{Waits, waits-from, waits-start, opens-damage, leaf-damage, leaf-hits, ends-damaged, ends-whole, ends-cut}
@@ -80,29 +80,29 @@ enum-known-shown c = search needs
 mul-add-hits : tie.Need-mul-add-hits Inv-loop μ-loop Inv-walk μ-walk
 mul-add-hits c =
     let l = c .before in
-    let p = least (leaf l) in
+    let p = least (leaf-opened l) in
     let limits = lends (at-leaf l) .within .limits in
     omega (arith, found-start (begun (turn p)), found-end (begun (turn p)), limits .nodes-high, limits .vectors-high, limits .entries-high, work-room p)
 
 sub-add-hits : tie.Need-sub-add-hits Inv-loop μ-loop Inv-walk μ-walk
 sub-add-hits c =
-    let p = least (leaf (c .before)) in
+    let p = least (leaf-opened (c .before)) in
     omega (arith, found-start (begun (turn p)), found-end (begun (turn p)), work-room p)
 
 part-add-hits-start : tie.Need-part-add-hits-start Inv-loop μ-loop Inv-walk μ-walk
 part-add-hits-start c =
-    let p = least (leaf (c .before)) in
+    let p = least (leaf-opened (c .before)) in
     omega (arith, found-start (begun (turn p)), found-end (begun (turn p)), work-room p)
 
 part-add-hits-end : tie.Need-part-add-hits-end Inv-loop μ-loop Inv-walk μ-walk
 part-add-hits-end c =
-    let p = least (leaf (c .before)) in
+    let p = least (leaf-opened (c .before)) in
     omega (arith, found-start (begun (turn p)), found-end (begun (turn p)), work-room p)
 
 add-hits-requires : tie.Need-add-hits-requires Inv-loop μ-loop Inv-walk μ-walk
 add-hits-requires c κs =
     let l = c .before .before in
-    let p = least (leaf l) in
+    let p = least (leaf-opened l) in
     let e = at-leaf l in
     let w = lends e in
     let block = l .shown .given .0 .0 in
@@ -145,10 +145,10 @@ enum-known-shown-2 c = search needs
 loop-holds : tie.Need-loop-holds Inv-loop μ-loop Inv-walk μ-walk
 loop-holds c =
     let i = c .before in
-    let p = least (inner i) in
+    let p = least (inner-opened i) in
     let e = at-inner i in
     let w = lends e in
-    let shown = shows (inner i) (look.Inner (i .shown2 .given .0 .0)) (i .shown2 .given .1) in (
+    let shown = shows (inner-opened i) (look.Inner (i .shown2 .given .0 .0)) (i .shown2 .given .1) in (
       omega arith,
       shown .0,
       marks-start (e .args .shape) (e .args .counts) (hit e) (view e) (e .args .ef-search) (first (begun (turn p))) (w .within .limits) (w .within .nodes) (w .some) (below e) (node p) (work p) (turn p .walk .waiting - 1) (turn p .walk .hits) (turn p .walk .opened + 1) (children i)
@@ -173,26 +173,26 @@ fresh-child-requires : tie.Need-fresh-child-requires Inv-loop μ-loop Inv-walk �
 fresh-child-requires c κs =
     let k = child (c .before) in
     let e = at-inner (parent k) in
-    omega (arith, marks (begun (turn (least (inner (parent k))))), lends e .within .nodes, k .loop .inv .2 .2 .holds .size)
+    omega (arith, marks (begun (turn (least (inner-opened (parent k))))), lends e .within .nodes, k .loop .inv .2 .2 .holds .size)
 
 add-at : tie.Need-add-at Inv-loop μ-loop Inv-walk μ-walk
 add-at c =
     let a = c .before in
     let e = at-inner (parent (child (read a))) in
-    omega (arith, low a (not-false _ (c .if3 .left)), marks (begun (turn (least (inner (parent (child (read a))))))), lends e .within .nodes, lends e .within .limits .nodes-high)
+    omega (arith, low a (not-false _ (c .if3 .left)), marks (begun (turn (least (inner-opened (parent (child (read a))))))), lends e .within .nodes, lends e .within .limits .nodes-high)
 
 mul-work : tie.Need-mul-work Inv-loop μ-loop Inv-walk μ-walk
 mul-work c =
     let a = c .before in
     let e = at-inner (parent (child (read a))) in
-    omega (arith, low a (not-false _ (c .if3 .left)), marks (begun (turn (least (inner (parent (child (read a))))))), lends e .within .nodes, lends e .within .limits .nodes-high)
+    omega (arith, low a (not-false _ (c .if3 .left)), marks (begun (turn (least (inner-opened (parent (child (read a))))))), lends e .within .nodes, lends e .within .limits .nodes-high)
 
 slice-write-work : tie.Need-slice-write-work Inv-loop μ-loop Inv-walk μ-walk
 slice-write-work c =
     let a = c .before in
     let k = child (read a) in
     let e = at-inner (parent k) in
-    omega (arith, low a (not-false _ (c .if3 .left)), marks (begun (turn (least (inner (parent k))))), lends e .within .nodes, k .loop .inv .2 .2 .holds .size)
+    omega (arith, low a (not-false _ (c .if3 .left)), marks (begun (turn (least (inner-opened (parent k))))), lends e .within .nodes, k .loop .inv .2 .2 .holds .size)
 
 add-j : tie.Need-add-j Inv-loop μ-loop Inv-walk μ-walk
 add-j c = search needs
@@ -205,7 +205,7 @@ loop-again c =
     let a = c .before in
     let r = read a in
     let k = child r in
-    let p = least (inner (parent k)) in
+    let p = least (inner-opened (parent k)) in
     let e = at-inner (parent k) in
     let w = lends e in (
       omega (arith, r .before .before .loop-test .taken),
@@ -220,7 +220,7 @@ push-children-requires : tie.Need-push-children-requires Inv-loop μ-loop Inv-wa
 push-children-requires c κs =
     let d = c .before in
     let k = last d in
-    let p = least (inner (parent k)) in
+    let p = least (inner-opened (parent k)) in
     let e = at-inner (parent k) in
     let w = lends e in
     let m = k .loop .inv .2 .2 in
@@ -248,7 +248,7 @@ walk-again-2 c =
     let d = all-marked (c .before .before) in
     let k = last d in
     let i = parent k in
-    let p = least (inner i) in
+    let p = least (inner-opened i) in
     let e = at-inner i in
     let w = lends e in
     let waiting = turn p .walk .waiting - 1 + total d in
@@ -323,7 +323,7 @@ returns-5 c =
     let a = c .before in
     let r = read a in
     let k = child r in
-    let p = least (inner (parent k)) in
+    let p = least (inner-opened (parent k)) in
     let e = at-inner (parent k) in
     let w = lends e in
     record {

@@ -8,7 +8,7 @@ use borrow.Author.Needs.{needs}
 use Rattle.bloom.proofs.unite.Statement.{statement}
 use Rattle.bloom.proofs.unite.Tie as tie
 
--- ---- the places, each with the way back to the one before
+-- ---- the places that needs go back to (primed: the same place, from another one)
 
 abbrev start : tie.After-slice-known4 → tie.Start
 start c = c .before .before .before .before

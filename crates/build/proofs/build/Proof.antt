@@ -12,6 +12,8 @@ use Rattle.build.proofs.build.Statement.{statement}
 use Rattle.build.proofs.build.Tie as tie
 use lib.ListN.{length}
 
+-- ---- the places that needs go back to (primed: the same place, from another one)
+
 -- the function's entry, from the place where the check is known to be `Fine`
 abbrev entry : tie.After-enum-told → tie.Start
 entry c = c .before .before .before .before .before .before .before .before
@@ -22,8 +24,6 @@ storeOf s = lent (s .args .floats) (s .args .numbers) (s .args .hashes)
 fine : (c : tie.After-enum-told)
     → buildChecked (entry c .args .index) (lengthsOf (storeOf (entry c))) (length (now (entry c .args .work))) (now (entry c .args .numbers)) ≡ Fine
 fine c = sym (c .before .before .build-check .ensures) ∙ c .enum-told .given .1
-
--- ---- the places, each with the way back to the one before
 
 abbrev start : tie.After-build-check → tie.Start
 start c = c .before .before .before .before .before .before

@@ -15,7 +15,7 @@ Inv-loop shape leaf-size n floats₀ numbers₀ work₀ made₀ done₀ floats n
 abbrev μ-loop : tie.MeasureT-loop
 μ-loop shape leaf-size n floats₀ numbers₀ work₀ made₀ done₀ floats numbers work made done = shape .nodes - made
 
--- ---- the places, each with the way back to the one before
+-- ---- the places that needs go back to (primed: the same place, from another one)
 
 abbrev start : tie.After-begin-arg Inv-loop μ-loop → tie.Start Inv-loop μ-loop
 start c = c .before .before .before .before

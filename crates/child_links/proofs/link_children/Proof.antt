@@ -23,7 +23,7 @@ Inv-loop numbers₀ at nodes links work₀ top₀ end₀ i₀ numbers work top e
 abbrev μ-loop : tie.MeasureT-loop
 μ-loop numbers₀ at nodes links work₀ top₀ end₀ i₀ numbers work top end i = i
 
--- ---- the places, each with the way back to the one before
+-- ---- the places that needs go back to (primed: the same place, from another one)
 
 abbrev start : tie.At-loop Inv-loop μ-loop → tie.Start Inv-loop μ-loop
 start c = c .before .before .before

@@ -13,7 +13,7 @@ use borrow.Author.Needs.{needs}
 use Rattle.child_links.proofs.link_nodes.Statement.{statement}
 use Rattle.child_links.proofs.link_nodes.Tie as tie
 
--- ---- the places, each with the way back to the one before
+-- ---- the places that needs go back to (primed: the same place, from another one)
 
 abbrev start : tie.After-set-starts-arg → tie.Start
 start c = c .before .before .before

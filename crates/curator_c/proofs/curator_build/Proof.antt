@@ -5,7 +5,7 @@ use borrow.Author.Needs.{needs}
 use Rattle.curator_c.proofs.curator_build.Statement.{statement}
 use Rattle.curator_c.proofs.curator_build.Tie as tie
 
--- ---- the places, each with the way back to the one before
+-- ---- the places that needs go back to (primed: the same place, from another one)
 
 abbrev after-index : tie.After-build → tie.After-index
 after-index c = c .before .before .before .before .before .before

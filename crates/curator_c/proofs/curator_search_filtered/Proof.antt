@@ -14,14 +14,14 @@ use Rattle.curator_c.proofs.curator_search_filtered.Tie as tie
 abbrev callOf : tie.Start → SearchCall
 callOf s = filtered (s .args .query) (s .args .label) (s .args .k) (s .args .ids) (s .args .distances)
 
+-- ---- the places that needs go back to (primed: the same place, from another one)
+
 -- the function's entry: from the place where the state is known, and from the place where the search has answered
 abbrev entry : tie.After-known-told → tie.Start
 entry c = c .before .before .before .before .before .before .before .before .before .before .before .before .before .before
 
 abbrev start : tie.After-search-filtered → tie.Start
 start c = entry (c .before .before .before .before .before)
-
--- ---- the places, each with the way back to the one before
 
 abbrev at-start : tie.After-enum-told → tie.Start
 at-start c = c .before .before .before .before .before .before .before .before .before .before .before .before .before

@@ -4,7 +4,7 @@ use borrow.Author.Needs.{needs}
 use Rattle.curator_c.proofs.keep.Statement.{statement}
 use Rattle.curator_c.proofs.keep.Tie as tie
 
--- ---- the places, each with the way back to the one before
+-- ---- the places that needs go back to (primed: the same place, from another one)
 
 abbrev else1 : tie.After-slice-known2 → tie.Else1
 else1 c = c .before .before .before .before

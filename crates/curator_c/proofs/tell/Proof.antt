@@ -11,7 +11,7 @@ use borrow.Author.Needs.{needs}
 use Rattle.curator_c.proofs.tell.Statement.{statement}
 use Rattle.curator_c.proofs.tell.Tie as tie
 
--- ---- the places, each with the way back to the one before
+-- ---- the places that needs go back to (primed: the same place, from another one)
 
 abbrev start : tie.After-known-told2 → tie.Start
 start c = c .before .before .before .before

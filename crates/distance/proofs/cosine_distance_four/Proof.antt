@@ -29,7 +29,7 @@ equal n a b c d t =
 field : (xs ys : List Float) (r s : Float) → length ys ≡ length xs → s ≡ dot xs ys → r ≡ sub binary32 one32 s → r ≡ distance xs ys
 field xs ys r s l e f = f ∙ rw e (sym (distance-alike xs ys (sym l)))
 
--- ---- the places, each with the way back to the one before
+-- ---- the places that needs go back to (primed: the same place, from another one)
 
 abbrev after-all-equal : tie.Then1 → tie.After-all-equal
 after-all-equal c = c .before

@@ -17,6 +17,8 @@ use borrow.Author.Needs.{needs}
 use Rattle.echo_file.proofs.read_record.Statement.{statement}
 use Rattle.echo_file.proofs.read_record.Tie as tie
 
+-- ---- the places that needs go back to (primed: the same place, from another one)
+
 abbrev entry : tie.After-known-told → tie.Start
 entry c = c .before .before .before .before .before
 
@@ -25,8 +27,6 @@ file c = entry c .args .file .now
 
 abbrev start : tie.After-known-told → ℕ
 start c = c .before .start .given .0 .0
-
--- ---- the places, each with the way back to the one before
 
 abbrev at-start : tie.After-shared-slice-known → tie.Start
 at-start c = c .before

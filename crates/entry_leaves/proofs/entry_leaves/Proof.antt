@@ -11,7 +11,7 @@ use borrow.Author.Needs.{needs}
 use Rattle.entry_leaves.proofs.entry_leaves.Statement.{statement}
 use Rattle.entry_leaves.proofs.entry_leaves.Tie as tie
 
--- ---- the places, each with the way back to the one before
+-- ---- the places that needs go back to (primed: the same place, from another one)
 
 abbrev start : tie.After-mark-leaves-arg → tie.Start
 start c = c .before .before .before

@@ -18,7 +18,7 @@ Inv-loop work₀ at numbers owners entries k₀ work k =
 abbrev μ-loop : tie.MeasureT-loop
 μ-loop work₀ at numbers owners entries k₀ work k = entries - k
 
--- ---- the places, each with the way back to the one before
+-- ---- the places that needs go back to (primed: the same place, from another one)
 
 abbrev entry : tie.At-loop Inv-loop μ-loop → tie.Start Inv-loop μ-loop
 entry c = c .before .before .before

@@ -17,7 +17,7 @@ Inv-loop work₀ ids node k₀ work k =
 abbrev μ-loop : tie.MeasureT-loop
 μ-loop work₀ ids node k₀ work k = length ids - k
 
--- ---- the places, each with the way back to the one before
+-- ---- the places that needs go back to (primed: the same place, from another one)
 
 abbrev start : tie.At-loop Inv-loop μ-loop → tie.Start Inv-loop μ-loop
 start c = c .before .before .before

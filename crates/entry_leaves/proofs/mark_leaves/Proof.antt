@@ -30,7 +30,7 @@ record Block (order : ℕ) (counts : ℕ → ℕ) (nodes i from w size : ℕ) : 
   in-sum : sumTo counts i + counts i ≤ sumTo counts nodes
   in-order : from + w ≤ size
 
--- ---- the places, each with the way back to the one before
+-- ---- the places that needs go back to (primed: the same place, from another one)
 
 abbrev start : tie.At-loop Inv-loop μ-loop → tie.Start Inv-loop μ-loop
 start c = c .before .before .before

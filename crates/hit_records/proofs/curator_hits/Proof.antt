@@ -1,5 +1,5 @@
 -- `hit_records::curator_hits` meets its contract: a walk of its MIR, by hand, with a loop in it.
--- The two calls before the loop say the number and how many records are stored. In each turn `hit_at` makes the record of place i from copies of the two shared slices, the borrow of the list is opened, the record is stored at place i, and the borrow is closed again: so between turns the list is owned, with its first i records stored (`soFar`). What the three callees do is known by their contracts alone. What is lent, the exit and the calls are in `Lent`.
+-- The two calls before the loop say the number and how many records are stored. In each turn `hit_at` makes the record of place i from copies of the two shared slices, the borrow of the list is opened, the record is stored at place i, and the borrow is closed again: so between turns the list is owned, with its first i records stored (`soFar`). What the three callees do is known by their contracts alone. What is lent, the exit and the calls are in Lent.antt.
 -- Assumes nothing.
 use mathlib.Core.Path.{_≡_, refl, sym, ap, _∙_, subst}
 use mathlib.Core.Bool.{Bool, true, false}
@@ -61,14 +61,14 @@ use Rattle.hit_records.proofs.hit_at as hit-at
 use Rattle.hit_records.proofs.hit_at.Symbol as hit-at-def
 use Rattle.hit_records.proofs.hit_at.Symbol.{name as #hit-records·hit-at}
 use Rattle.hit_records.proofs.hit_at.Met as hit-at-thm
-use Rattle.hit_records.proofs.Lent.{Lent, R, stayed, word, half, slice₁, slice₂, slice₃, byte-fits, Number, Stored, HitAt, n₁, n₂, n₃, number, stored, filled, a, v₁, v₂, v₃, vals, Ids, Distances, hit, Upto, Nearer, Nearer-wf, fit, Obs, Bor, Tokens₂₃, Ended, exits, to-number, asks-number, says-number, to-stored, asks-stored, says-stored, to-hit-at, asks-hit-at, says-hit-at}
+use Rattle.hit_records.proofs.Lent.{HitsLent, R, stayed, word, half, slice₁, slice₂, slice₃, byte-fits, Number, Stored, HitAt, n₁, n₂, n₃, number, stored, filled, a, v₁, v₂, v₃, vals, Ids, Distances, hit, Upto, Nearer, Nearer-wf, fit, Obs, Bor, Tokens₂₃, Ended, exits, to-number, asks-number, says-number, to-stored, asks-stored, says-stored, to-hit-at, asks-hit-at, says-hit-at}
 use Rattle.hit_records.proofs.curator_hits.Key.{name as #hit-records·curator-hits}
 use Rattle.hit_records.proofs.curator_hits as f
 use Rattle.hit_records.proofs.curator_hits.Statement as stated
 use Rattle.hit_records.proofs.curator_hits.Code as code
 use Rattle.hit_records.proofs.curator_hits.Code.Mir as code-mir
 
-module _ {M : Type 1} (𝓤 : URA M) (H : Heap 𝓤) (A : Atoms 𝓤) (W : Given 𝓤 H A) (at-mem : Memory → SProp 𝓤) (run : Routine → Fun 𝓤) (s : Lent) where
+module _ {M : Type 1} (𝓤 : URA M) (H : Heap 𝓤) (A : Atoms 𝓤) (W : Given 𝓤 H A) (at-mem : Memory → SProp 𝓤) (run : Routine → Fun 𝓤) (s : HitsLent) where
   abbrev Post : Val → SProp 𝓤
   Post = Ended s 𝓤 H A W at-mem run
 

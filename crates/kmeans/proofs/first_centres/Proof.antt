@@ -1,4 +1,4 @@
--- `first_centres` meets its contract. Invariant: `Writing`, the first i centres are written.
+-- `first_centres` meets its contract. Invariant: `WritingCentres`, the first i centres are written.
 use Prim.Native.Nat.{_-_, _*_, _/_}
 use native.Mathlib.Omega.{arith}
 use lib.ListN.{length}
@@ -6,17 +6,17 @@ use Rattle.cluster.specs.Clusters.{firstCentres}
 use Rattle.cluster.specs.Vectors.{vectorsIn}
 use Rattle.cluster.specs.VectorsLaws.{row-end, vector-before}
 use Rattle.cluster.specs.ClustersLaws.{length-firstCentres}
-use Rattle.kmeans.proofs.Centring.{Writing, writing-none, writing-end, step-below, first-turn}
+use Rattle.kmeans.proofs.Centring.{WritingCentres, centres-none, writing-end, step-below, first-turn}
 use Rattle.kmeans.proofs.first_centres.Statement.{statement}
 use Rattle.kmeans.proofs.first_centres.Tie as tie
 
 abbrev Inv-loop : tie.InvT-loop
-Inv-loop floats₀ ids dimension count centres-at k step i₀ floats i = Writing dimension k centres-at floats₀ (firstCentres (vectorsIn dimension count floats₀) ids k) floats i
+Inv-loop floats₀ ids dimension count centres-at k step i₀ floats i = WritingCentres dimension k centres-at floats₀ (firstCentres (vectorsIn dimension count floats₀) ids k) floats i
 
 abbrev μ-loop : tie.MeasureT-loop
 μ-loop floats₀ ids dimension count centres-at k step i₀ floats i = k - i
 
--- ---- the places, each with the way back to the one before
+-- ---- the places that needs go back to (primed: the same place, from another one)
 
 abbrev start : tie.At-loop Inv-loop μ-loop → tie.Start Inv-loop μ-loop
 start c = c .before .before .before
@@ -33,7 +33,7 @@ div-step c = omega arith
 loop-holds : tie.Need-loop-holds Inv-loop μ-loop
 loop-holds c =
     let room = c .before .before .pre .0 in
-    writing-none _ _ _ _ _ (length-firstCentres _ _ _) (room .within)
+    centres-none _ _ _ _ _ (length-firstCentres _ _ _) (room .within)
 
 mul-id : tie.Need-mul-id Inv-loop μ-loop
 mul-id c =

@@ -1,4 +1,4 @@
--- `recentre` meets its contract. Invariant: `Writing`, the first j centres are written, and the marks are as they were.
+-- `recentre` meets its contract. Invariant: `WritingCentres`, the first j centres are written, and the marks are as they were.
 use Prim.Native.Nat.{_-_}
 use mathlib.Core.Path.{_≡_, refl, _∙_}
 use native.Mathlib.Omega.{arith}
@@ -7,20 +7,20 @@ use Rattle.cluster.specs.Clusters.{recentre}
 use Rattle.cluster.specs.Vectors.{vectorsIn, vectorsFrom}
 use Rattle.lists.specs.Frame.{AlikeBut, alike-refl, alike-trans}
 use Rattle.cluster.specs.VectorsLaws.{row-end}
-use Rattle.kmeans.proofs.Centring.{Writing, writing-none, writing-end, length-new, centre-room, recentre-turn}
+use Rattle.kmeans.proofs.Centring.{WritingCentres, centres-none, writing-end, length-new, centre-room, recentre-turn}
 use Rattle.kmeans.proofs.recentre.Statement.{statement}
 use Rattle.kmeans.proofs.recentre.Tie as tie
 
 abbrev Inv-loop : tie.InvT-loop
 Inv-loop floats₀ ids work₀ dimension count centres-at k j₀ floats work j =
-    Writing dimension k centres-at floats₀ (recentre dimension (vectorsIn dimension count floats₀) ids (vectorsFrom dimension k centres-at floats₀)) floats j
+    WritingCentres dimension k centres-at floats₀ (recentre dimension (vectorsIn dimension count floats₀) ids (vectorsFrom dimension k centres-at floats₀)) floats j
     × AlikeBut (length ids) (length ids) work₀ work
     × (length work ≡ length work₀)
 
 abbrev μ-loop : tie.MeasureT-loop
 μ-loop floats₀ ids work₀ dimension count centres-at k j₀ floats work j = k - j
 
--- ---- the places, each with the way back to the one before
+-- ---- the places that needs go back to (primed: the same place, from another one)
 
 abbrev start : tie.After-slice-known2 Inv-loop μ-loop → tie.Start Inv-loop μ-loop
 start c = c .before .before .before
@@ -40,7 +40,7 @@ after-recentre-cluster c = c .before .before .before .before
 loop-holds : tie.Need-loop-holds Inv-loop μ-loop
 loop-holds c =
     let a = start c in (
-      writing-none _ _ _ _ _ (length-new _ _ _ _ _ _ _ (a .pre .0) (a .pre .1 .1 .1)) (a .pre .0 .within),
+      centres-none _ _ _ _ _ (length-new _ _ _ _ _ _ _ (a .pre .0) (a .pre .1 .1 .1)) (a .pre .0 .within),
       alike-refl _ _ _,
       refl,
     )

@@ -5,7 +5,7 @@ use Rattle.kmeans.proofs.Centring.{chosen-fit, chosen-end, handed-room,
 use Rattle.kmeans.proofs.recentre_cluster.Statement.{statement}
 use Rattle.kmeans.proofs.recentre_cluster.Tie as tie
 
--- ---- the places, each with the way back to the one before
+-- ---- the places that needs go back to (primed: the same place, from another one)
 
 abbrev start : tie.After-gather-arg → tie.Start
 start c = c .before .before .before .before

@@ -5,7 +5,7 @@ use Rattle.kmeans.proofs.Centring.{assigned-stand, assigned-alike, roun
 use Rattle.kmeans.proofs.round.Statement.{statement}
 use Rattle.kmeans.proofs.round.Tie as tie
 
--- ---- the places, each with the way back to the one before
+-- ---- the places that needs go back to (primed: the same place, from another one)
 
 abbrev start : tie.After-assign-arg2 → tie.Start
 start c = c .before .before .before .before .before

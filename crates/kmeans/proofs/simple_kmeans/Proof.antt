@@ -6,7 +6,7 @@ use Rattle.kmeans.proofs.Centring.{room-kept, kmeans-end}
 use Rattle.kmeans.proofs.simple_kmeans.Statement.{statement}
 use Rattle.kmeans.proofs.simple_kmeans.Tie as tie
 
--- ---- the places, each with the way back to the one before
+-- ---- the places that needs go back to (primed: the same place, from another one)
 
 abbrev start : tie.After-first-centres → tie.Start
 start c = c .before .before .before .before .before

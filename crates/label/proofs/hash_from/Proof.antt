@@ -28,7 +28,7 @@ finish : (bytes : List ℕ) (hash i : ℕ) → length bytes ≤ i → fnvFrom ha
 unfolding fnvFrom
 finish bytes hash i h = rw drop-of-length-le
 
--- ---- the places, each with the way back to the one before
+-- ---- the places that needs go back to (primed: the same place, from another one)
 
 abbrev entry : tie.At-loop Inv-loop μ-loop → tie.Start Inv-loop μ-loop
 entry c = c .before .before

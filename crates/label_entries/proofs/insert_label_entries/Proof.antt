@@ -10,7 +10,7 @@ use borrow.Author.Needs.{needs}
 use Rattle.label_entries.proofs.insert_label_entries.Statement.{statement}
 use Rattle.label_entries.proofs.insert_label_entries.Tie as tie
 
--- ---- the places, each with the way back to the one before
+-- ---- the places that needs go back to (primed: the same place, from another one)
 
 abbrev start : tie.After-places-of → tie.Start
 start c = c .before .before .before .before

@@ -74,7 +74,7 @@ further t m r found came =
     (gathers-append (test e) (wants e) (owner e) (e .args .counts .entries) (part (e .args .start) (t .loop .read) numbers) (part (e .args .start + t .loop .read) m numbers) (e .args .before)
     (t .loop .total) (e .args .found .now) (t .loop .found) found r (t .loop .inv .1) came)
 
--- ---- the places, each with the way back to the one before
+-- ---- the places that needs go back to (primed: the same place, from another one)
 
 abbrev at-start : tie.After-slice-known Inv-loop μ-loop → tie.Start Inv-loop μ-loop
 at-start c = c .before .before .before

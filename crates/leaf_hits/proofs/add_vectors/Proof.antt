@@ -57,7 +57,7 @@ left r = let a = entry (turn r) .args in block-room (a .numbers .now) (a .start)
 number : (r : Read) → getD (list (entry (turn r))) (turn r .loop .j) 0 ≡ r .wide .result
 number r = let a = entry (turn r) .args in block-at (a .numbers .now) (a .start) (a .count) (turn r .loop .j) (r .wide .result) (more r) (r .wide .ensures .0)
 
--- ---- the places, each with the way back to the one before
+-- ---- the places that needs go back to (primed: the same place, from another one)
 
 abbrev after-wide : tie.Else3 Inv-loop μ-loop → tie.After-wide Inv-loop μ-loop
 after-wide c = c .before .before .before .before

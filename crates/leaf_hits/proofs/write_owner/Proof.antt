@@ -6,7 +6,7 @@ use borrow.Author.Needs.{needs}
 use Rattle.leaf_hits.proofs.write_owner.Statement.{statement}
 use Rattle.leaf_hits.proofs.write_owner.Tie as tie
 
--- ---- the places, each with the way back to the one before
+-- ---- the places that needs go back to (primed: the same place, from another one)
 
 abbrev start : tie.After-same → tie.Start
 start c = c .before .before .before .before

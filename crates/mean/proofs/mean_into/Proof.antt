@@ -4,7 +4,7 @@ use Rattle.mean.proofs.Sums.{mean-end, number-in-float}
 use Rattle.mean.proofs.mean_into.Statement.{statement}
 use Rattle.mean.proofs.mean_into.Tie as tie
 
--- ---- the places, each with the way back to the one before
+-- ---- the places that needs go back to (primed: the same place, from another one)
 abbrev start : tie.After-zero → tie.Start
 start c = c .before .before .before .before
 

@@ -6,7 +6,7 @@ use borrow.Author.Needs.{needs}
 use Rattle.nearest_centre.proofs.closer_of_four.Statement.{statement}
 use Rattle.nearest_centre.proofs.closer_of_four.Tie as tie
 
--- ---- the places, each with the way back to the one before
+-- ---- the places that needs go back to (primed: the same place, from another one)
 
 abbrev start : tie.After-closer → tie.Start
 start c = c .before .before .before .before

@@ -20,7 +20,7 @@ Inv-loop floats vector centres-at k dimension best₀ c₀ best c =
 abbrev μ-loop : tie.MeasureT-loop
 μ-loop floats vector centres-at k dimension best₀ c₀ best c = k - c
 
--- ---- the places, each with the way back to the one before
+-- ---- the places that needs go back to (primed: the same place, from another one)
 
 abbrev entry : tie.After-loop Inv-loop μ-loop → tie.Start Inv-loop μ-loop
 entry c = c .before .before .before .before

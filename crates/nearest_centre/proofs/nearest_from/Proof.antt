@@ -19,6 +19,8 @@ Inv-loop floats vector centres-at k dimension first best₀ c₀ best c =
 abbrev μ-loop : tie.MeasureT-loop
 μ-loop floats vector centres-at k dimension first best₀ c₀ best c = k - c
 
+-- ---- the places that needs go back to (primed: the same place, from another one)
+
 -- a turn's test, and the start
 abbrev start : tie.In-loop Inv-loop μ-loop → tie.Start Inv-loop μ-loop
 start t = t .before .before .before .before
@@ -32,8 +34,6 @@ near : (t : tie.In-loop Inv-loop μ-loop)
 near t =
     let p = start t .args in
     centre-within (p .centres-at) (p .k) (p .dimension) (length (p .floats .now)) (t .before .loop .c) (start t .pre .0) (t .loop-test .taken)
-
--- ---- the places, each with the way back to the one before
 
 abbrev entry : tie.After-loop Inv-loop μ-loop → tie.Start Inv-loop μ-loop
 entry c = c .before .before .before .before

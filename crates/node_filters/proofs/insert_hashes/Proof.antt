@@ -21,7 +21,7 @@ Inv-loop hashes₀ at entries end k₀ hashes k =
 abbrev μ-loop : tie.MeasureT-loop
 μ-loop hashes₀ at entries end k₀ hashes k = length entries - k
 
--- ---- the places, each with the way back to the one before
+-- ---- the places that needs go back to (primed: the same place, from another one)
 
 abbrev start : tie.At-loop Inv-loop μ-loop → tie.Start Inv-loop μ-loop
 start c = c .before .before .before

@@ -70,7 +70,7 @@ cleared c =
     ap (λ (r : List ℕ). length r) (lent-four h (filterAt b) (c .clear .last .0) (within b) (ap (λ (r : List ℕ). length r) (c .clear .ensures)))
     ∙ length-sets h (filterAt b) (c .clear .last .0)
 
--- ---- the places, each with the way back to the one before
+-- ---- the places that needs go back to (primed: the same place, from another one)
 
 abbrev after-clear : tie.After-insert-hashes-arg2 → tie.After-clear
 after-clear c = c .before .before .before .before

@@ -17,7 +17,7 @@ Inv-loop hashes₀ numbers places nodes i₀ hashes i =
 abbrev μ-loop : tie.MeasureT-loop
 μ-loop hashes₀ numbers places nodes i₀ hashes i = i
 
--- ---- the places, each with the way back to the one before
+-- ---- the places that needs go back to (primed: the same place, from another one)
 
 abbrev start : tie.At-loop Inv-loop μ-loop → tie.Start Inv-loop μ-loop
 start c = c .before .before .before

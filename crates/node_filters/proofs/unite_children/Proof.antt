@@ -22,7 +22,7 @@ Inv-loop hashes₀ filters at children end k₀ hashes k =
 abbrev μ-loop : tie.MeasureT-loop
 μ-loop hashes₀ filters at children end k₀ hashes k = length children - k
 
--- ---- the places, each with the way back to the one before
+-- ---- the places that needs go back to (primed: the same place, from another one)
 
 abbrev start : tie.At-loop Inv-loop μ-loop → tie.Start Inv-loop μ-loop
 start c = c .before .before .before

@@ -5,7 +5,7 @@ use borrow.Author.Needs.{needs}
 use Rattle.node_filters.proofs.words.Statement.{statement}
 use Rattle.node_filters.proofs.words.Tie as tie
 
--- ---- the places, each with the way back to the one before
+-- ---- the places that needs go back to (primed: the same place, from another one)
 
 abbrev entry : tie.After-shared-slice-known4 → tie.Start
 entry c = c .before .before .before .before

@@ -4,7 +4,7 @@ use borrow.Author.Needs.{needs}
 use Rattle.node_table.proofs.places_of.Statement.{statement}
 use Rattle.node_table.proofs.places_of.Tie as tie
 
--- ---- the places, each with the way back to the one before
+-- ---- the places that needs go back to (primed: the same place, from another one)
 abbrev vectors : tie.After-links-at → tie.After-order-at
 vectors c = c .before .before
 

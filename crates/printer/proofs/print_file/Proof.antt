@@ -9,7 +9,7 @@ use lib.ListN.{length, take}
 use lib.Seq.{length-take-le}
 use Rattle.echo_file.specs.Format.{Bytes}
 use Rattle.echo_file.specs.ReadsLaws.{bytes-of}
-use Rattle.load.specs.declared.Step.{Step}
+use Rattle.load.specs.declared.LoadStep.{LoadStep}
 use Rattle.load.specs.Step.{LoadLists, Steps, printedOf}
 use Rattle.load.specs.Code.{Narrow, NarrowStep}
 use Rattle.load.specs.Onward.{Onward, steps-onward, steps-printed}
@@ -167,7 +167,7 @@ loop-less : tie.Need-loop-less Inv-loop μ-loop
 loop-less c =
     let p = c .before .before .before in
     let l = carried (counted p) in
-    let onward = subst (λ (s : Step). Onward (file l) (turn l .loop .at) s) (c .before .step .given .1) (steps-onward (stepped l)) in
+    let onward = subst (λ (s : LoadStep). Onward (file l) (turn l .loop .at) s) (c .before .step .given .1) (steps-onward (stepped l)) in
     omega (arith, onward .0, onward .1)
 
 loop-again : tie.Need-loop-again Inv-loop μ-loop
@@ -176,7 +176,7 @@ loop-again c =
     let l = carried (counted p) in
     let i = turn l .loop .inv in
     let e = c .before .step .given .1 in
-    let onward = subst (λ (s : Step). Onward (file l) (turn l .loop .at) s) e (steps-onward (stepped l)) in (
+    let onward = subst (λ (s : LoadStep). Onward (file l) (turn l .loop .at) s) e (steps-onward (stepped l)) in (
       sized l,
       long l,
       subst NarrowStep e (l .load-record .ensures .0),

@@ -6,7 +6,7 @@ use borrow.Author.Needs.{needs}
 use Rattle.search.proofs.search.Statement.{statement}
 use Rattle.search.proofs.search.Tie as tie
 
--- ---- the places, each with the way back to the one before
+-- ---- the places that needs go back to (primed: the same place, from another one)
 
 abbrev after-search-wanted : tie.After-slice-known6 → tie.After-search-wanted
 after-search-wanted c = c .before .before .before .before .before .before

@@ -13,7 +13,7 @@ use Rattle.curator.specs.Rows.{Row, firstOf, stateRow, searchRows}
 use Rattle.store.specs.declared.Lengths.{Lengths}
 use Rattle.store.specs.Lent.{listsShort}
 use Rattle.curator.specs.StateLaws.{Sound, sound-facts}
-use Rattle.search.specs.Lent.{asking}
+use Rattle.search.specs.Lent.{askingWith}
 use borrow.Author.Needs.{needs}
 use Rattle.search.proofs.search_check.Statement.{statement}
 use Rattle.search.proofs.search_check.Tie as tie
@@ -43,7 +43,7 @@ lens s = s .args .lent
 abbrev rows : tie.Start → List Row
 rows s =
     stateRow (stateSound (s .args .index))
-    ∷ searchRows (factsOf (s .args .index)) (lens s) (s .args .work) (asking (s .args .query) (s .args .k) (s .args .ids) (s .args .distances))
+    ∷ searchRows (factsOf (s .args .index)) (lens s) (s .args .work) (askingWith (s .args .query) (s .args .k) (s .args .ids) (s .args .distances))
 
 sound : (c : tie.Else1) → Sound (start-1 c .args .index)
 sound c = sound-facts _ (sym (c .before .state-sound .ensures) ∙ not-false _ (c .if1 .left))

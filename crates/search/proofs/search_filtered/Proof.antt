@@ -8,7 +8,7 @@ use borrow.Author.Needs.{needs}
 use Rattle.search.proofs.search_filtered.Statement.{statement}
 use Rattle.search.proofs.search_filtered.Tie as tie
 
--- ---- the places, each with the way back to the one before
+-- ---- the places that needs go back to (primed: the same place, from another one)
 
 abbrev start : tie.After-hash-label → tie.Start
 start c = c .before .before .before .before .before .before .before .before .before

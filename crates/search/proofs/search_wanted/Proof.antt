@@ -12,6 +12,8 @@ use Rattle.search.proofs.search_wanted.Statement.{statement}
 use Rattle.search.proofs.search_wanted.Tie as tie
 use Rattle.curator.specs.OutcomeLaws.{is-search-refused}
 
+-- ---- the places that needs go back to (primed: the same place, from another one)
+
 -- the function's entry, from the place where the check is known to be `Fine`
 abbrev entry : tie.After-enum-told → tie.Start
 entry c = c .before .before .before .before .before .before .before .before .before .before
@@ -25,8 +27,6 @@ fine : (c : tie.After-enum-told) (asked : Asked)
     ≡ Fine
 unfolding searchCheck
 fine c asked = sym (c .before .before .search-check .ensures) ∙ c .enum-told .given .1
-
--- ---- the places, each with the way back to the one before
 
 abbrev after-search-check : tie.After-known-told → tie.After-search-check
 after-search-check c = c .before .before .before

@@ -10,7 +10,7 @@ use borrow.Author.Needs.{needs}
 use Rattle.search.proofs.walk_from.Statement.{statement}
 use Rattle.search.proofs.walk_from.Tie as tie
 
--- ---- the places, each with the way back to the one before
+-- ---- the places that needs go back to (primed: the same place, from another one)
 
 abbrev entry : tie.After-dot → tie.Start
 entry c = c .before .before .before .before .before .before .before .before

@@ -17,7 +17,7 @@ use Rattle.square_root.proofs.sqrt.Tie as tie
 held : (c : tie.Start) → T (fits binary32 (c .args .x))
 held c = subst T (sym (c .good .0 .1)) tt
 
--- ---- the places, each with the way back to the one before
+-- ---- the places that needs go back to (primed: the same place, from another one)
 
 abbrev entry : tie.After-quiet-nan2 → tie.Start
 entry c = c .before .before .before .before

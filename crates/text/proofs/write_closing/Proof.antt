@@ -7,7 +7,7 @@ use Rattle.text.specs.LinesLaws.{length-closingWord, written-then}
 use Rattle.text.proofs.write_closing.Statement.{statement}
 use Rattle.text.proofs.write_closing.Tie as tie
 
--- ---- the places, each with the way back to the one before
+-- ---- the places that needs go back to (primed: the same place, from another one)
 
 abbrev start : tie.After-write-closing-word → tie.Start
 start c = c .before .before .before

@@ -7,14 +7,14 @@ use Rattle.text.specs.Lines.{codes, closingWord, Written}
 use Rattle.text.proofs.write_closing_word.Statement.{statement}
 use Rattle.text.proofs.write_closing_word.Tie as tie
 
+-- ---- the places that needs go back to (primed: the same place, from another one)
+
 -- the function's entry, from each branch
 abbrev start-1 : tie.Then1 → tie.Start
 start-1 t = t .before .before
 
 abbrev start-2 : tie.Else1 → tie.Start
 start-2 t = t .before .before
-
--- ---- the places, each with the way back to the one before
 
 abbrev then1 : tie.After-slice-known2 → tie.Then1
 then1 c = c .before .before .before .before .before

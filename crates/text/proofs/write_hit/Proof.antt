@@ -7,6 +7,8 @@ use Rattle.text.specs.LinesLaws.{length-written, written-then, written-b
 use Rattle.text.proofs.write_hit.Statement.{statement}
 use Rattle.text.proofs.write_hit.Tie as tie
 
+-- ---- the places that needs go back to (primed: the same place, from another one)
+
 -- the function's entry, from the place after the id is written
 abbrev start : tie.After-write-decimal → tie.Start
 start c = c .before .before .before
@@ -14,8 +16,6 @@ start c = c .before .before .before
 -- the place after the id is written, from the end
 abbrev id-written : tie.After-slice-known3 → tie.After-write-decimal
 id-written c = c .before .before .before .before .before .before
-
--- ---- the places, each with the way back to the one before
 
 abbrev after-write-decimal : tie.After-slice-known2 → tie.After-write-decimal
 after-write-decimal c = c .before .before

@@ -16,6 +16,8 @@ Inv-loop out₀ at ids distances count place₀ i₀ out place i =
 abbrev μ-loop : tie.MeasureT-loop
 μ-loop out₀ at ids distances count place₀ i₀ out place i = count - i
 
+-- ---- the places that needs go back to (primed: the same place, from another one)
+
 -- the loop's test, from the end of a turn; the function's entry, from there
 abbrev turn : tie.After-slice-known2 Inv-loop μ-loop → tie.At-loop Inv-loop μ-loop
 turn c = c .before .before .before .before .before .before .before .before
@@ -23,13 +25,8 @@ turn c = c .before .before .before .before .before .before .before .before
 abbrev start : tie.At-loop Inv-loop μ-loop → tie.Start Inv-loop μ-loop
 start c = c .before .before .before .before
 
--- ---- the places, each with the way back to the one before
-
 abbrev at-start : tie.After-shared-slice-known2 Inv-loop μ-loop → tie.Start Inv-loop μ-loop
 at-start c = c .before .before .before
-
-abbrev at-start′ : tie.At-loop Inv-loop μ-loop → tie.Start Inv-loop μ-loop
-at-start′ c = c .before .before .before .before
 
 abbrev at-loop : tie.After-shared-slice-known3 Inv-loop μ-loop → tie.At-loop Inv-loop μ-loop
 at-loop c = c .before .before .before
@@ -84,7 +81,7 @@ loop-again c =
 returns : tie.Need-returns Inv-loop μ-loop
 returns c =
     let l = c .before .loop in
-    let a = at-start′ (c .before) .args in
+    let a = start (c .before) .args in
     let e : l .i ≡ a .count = omega arith in
     subst (λ (k : ℕ). Written (now (a .out)) (a .at) (hitLines (now (a .ids)) (now (a .distances)) k) (l .out) (l .place)) e (l .inv .2)
 

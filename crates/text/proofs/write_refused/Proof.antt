@@ -7,7 +7,7 @@ use Rattle.text.specs.LinesLaws.{written-then}
 use Rattle.text.proofs.write_refused.Statement.{statement}
 use Rattle.text.proofs.write_refused.Tie as tie
 
--- ---- the places, each with the way back to the one before
+-- ---- the places that needs go back to (primed: the same place, from another one)
 
 abbrev start : tie.After-write-bytes → tie.Start
 start c = c .before .before .before .before

@@ -16,7 +16,7 @@ Inv-loop v i₀ i = (i ≤ length v) × (allFinite v ≡ allFinite (drop i v))
 abbrev μ-loop : tie.MeasureT-loop
 μ-loop v i₀ i = length v - i
 
--- ---- the places, each with the way back to the one before
+-- ---- the places that needs go back to (primed: the same place, from another one)
 abbrev turn : tie.After-is-finite Inv-loop μ-loop → tie.In-loop Inv-loop μ-loop
 turn c = c .before .before
 

@@ -16,7 +16,7 @@ undivided : (n : Float) (v w : List Float) → lt (ofBits binary32 0x2EDBE6FF) n
 unfolding dividedBy threshold
 undivided n v w t e = e ∙ rw t
 
--- ---- the places, each with the way back to the one before
+-- ---- the places that needs go back to (primed: the same place, from another one)
 abbrev above : tie.After-slice-known2 → tie.Then1
 above c = c .before .before .before .before
 

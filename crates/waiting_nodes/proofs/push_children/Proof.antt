@@ -53,7 +53,7 @@ grown t m work q =
 queue-fits : (t : Turn) → t .loop .j < entry t .args .count → entry t .args .waiting + t .loop .j < 2 ^ 64
 queue-fits t h = omega (arith, h, entry t .pre .nodes .room, entry t .pre .nodes .limits .nodes-high)
 
--- ---- the places, each with the way back to the one before
+-- ---- the places that needs go back to (primed: the same place, from another one)
 
 abbrev at-start : tie.After-shared-slice-known3 Inv-loop μ-loop → tie.Start Inv-loop μ-loop
 at-start c = c .before .before .before .before

@@ -22,7 +22,7 @@ Read = tie.After-wide4
 abbrev entry : Read → tie.Start
 entry r = r .before .before .before .before .before .before .before .before .before .before .before .before
 
--- ---- the places, each with the way back to the one before
+-- ---- the places that needs go back to (primed: the same place, from another one)
 
 abbrev after-wide : tie.After-wide2 → tie.After-wide
 after-wide c = c .before .before

@@ -5,7 +5,7 @@ use borrow.Author.Needs.{needs}
 use Rattle.waiting_nodes.proofs.push_node.Statement.{statement}
 use Rattle.waiting_nodes.proofs.push_node.Tie as tie
 
--- ---- the places, each with the way back to the one before
+-- ---- the places that needs go back to (primed: the same place, from another one)
 
 abbrev start : tie.After-slice-known2 → tie.Start
 start c = c .before .before .before .before .before

@@ -11,6 +11,8 @@ use borrow.Author.Needs.{needs}
 use Rattle.waiting_nodes.proofs.push_one.Statement.{statement}
 use Rattle.waiting_nodes.proofs.push_one.Tie as tie
 
+-- ---- the places that needs go back to (primed: the same place, from another one)
+
 -- the number is read
 abbrev entry : tie.After-wide → tie.Start
 entry r = r .before .before .before .before .before .before
@@ -19,8 +21,6 @@ low : (r : tie.After-wide) → r .wide .result < entry r .args .shape .nodes
 low r =
     let e = entry r in
     child-held (e .args .shape) (e .args .numbers .now) (e .args .at) 1 0 (e .args .at) (r .wide .result) (e .pre .children) (omega arith) (omega arith) (r .wide .ensures .0)
-
--- ---- the places, each with the way back to the one before
 
 abbrev after-wide : tie.After-distance-key → tie.After-wide
 after-wide c = c .before .before

@@ -27,7 +27,7 @@ entry t = t .before .before
 abbrev turn : Least → Turn
 turn p = p .before .before .before .before
 
--- ---- the places, each with the way back to the one before
+-- ---- the places that needs go back to (primed: the same place, from another one)
 
 abbrev start : tie.At-loop Inv-loop μ-loop → tie.Start Inv-loop μ-loop
 start c = c .before .before

@@ -4,7 +4,7 @@ use borrow.Author.Needs.{needs}
 use Rattle.best_first_search.proofs.rank.first_hits.Statement.{statement}
 use Rattle.best_first_search.proofs.rank.first_hits.Tie as tie
 
--- ---- the places, each with the way back to the one before
+-- ---- the places that needs go back to (primed: the same place, from another one)
 
 abbrev after-rank : tie.After-take-hits → tie.After-rank
 after-rank c = c .before .before .before .before .before .before

@@ -9,10 +9,10 @@ use Rattle.best_first_search.proofs.rank.rank.Tie as tie
 abbrev hit : tie.Start → ℕ → ℕ
 hit e = hitAt (e .args .shape) (e .args .floats .now) (e .args .numbers .now) (e .args .query .now)
 
+-- ---- the places that needs go back to (primed: the same place, from another one)
+
 abbrev entry : tie.After-sample-bound → tie.Start
 entry s = s .before .before .before .before .before .before
-
--- ---- the places, each with the way back to the one before
 
 abbrev after-sample-bound : tie.After-measure-arg → tie.After-sample-bound
 after-sample-bound c = c .before .before .before

@@ -14,7 +14,7 @@ use Rattle.best_first_search.proofs.rank.sample_bound.Tie as tie
 abbrev hit : tie.Start → ℕ → ℕ
 hit e = hitAt (e .args .shape) (e .args .floats .now) (e .args .numbers .now) (e .args .query .now)
 
--- ---- the places, each with the way back to the one before
+-- ---- the places that needs go back to (primed: the same place, from another one)
 
 abbrev start : tie.Then1 → tie.Start
 start c = c .before .before .before .before .before

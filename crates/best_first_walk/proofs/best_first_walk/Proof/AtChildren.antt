@@ -12,17 +12,17 @@ use mathlib.Core.List.{List}
 use mathlib.Core.Path.{_≡_}
 use native.Mathlib.Omega.{arith}
 use Prim.Native.Nat.{ℕ, _+_, _-_, _≤_, _<_}
-use Rattle.best_first_walk.proofs.best_first_walk.Proof.Places.{Entry, entry, begun, turn, least, Inner, inner, Child, parent, Read, child, Asked, read, AllMarked, last, hit, view, below, lends, marks, node, work, opened-works}
+use Rattle.best_first_walk.proofs.best_first_walk.Proof.Places.{Entry, entry, begun, turn, least, Inner, inner-opened, Child, parent, Read, child, Asked, read, AllMarked, last, hit, view, below, lends, marks, node, work, opened-works}
 
 abbrev pub at-inner : Inner → Entry
-at-inner i = entry (begun (turn (least (inner i))))
+at-inner i = entry (begun (turn (least (inner-opened i))))
 
 abbrev pub children : Inner → List ℕ
 children i = part (i .shown2 .given .0 .0 .start) (i .shown2 .given .0 .0 .count) (at-inner i .args .numbers .now)
 
 pub child-works : (k : Child) → Works (at-inner (parent k) .args .shape) (at-inner (parent k) .args .work .now) (k .loop .work)
 child-works k =
-    let p = least (inner (parent k)) in
+    let p = least (inner-opened (parent k)) in
     let e = at-inner (parent k) in
     works-trans (e .args .shape) (e .args .work .now) (work p) (k .loop .work) (opened-works p) (k .loop .inv .2 .2 .works)
 
@@ -38,18 +38,18 @@ next r =
 
 -- whether it is fresh
 pub fresh : (a : Asked) (b : Bool) → a .fresh-child .result ≡ b
-    → (childTest (at-inner (parent (child (read a))) .args .counts) (node (least (inner (parent (child (read a)))))) (number (read a))
+    → (childTest (at-inner (parent (child (read a))) .args .counts) (node (least (inner-opened (parent (child (read a)))))) (number (read a))
     && eqb (getD (child (read a) .loop .work) (marksAt (at-inner (parent (child (read a))) .args .shape) + number (read a)) 0) 0) ≡ b
 fresh a b is =
     let k = child (read a) in
-    let p = least (inner (parent k)) in
+    let p = least (inner-opened (parent k)) in
     let e = at-inner (parent k) in
     fresh-is (e .args .shape) (e .args .counts) (k .loop .work) (node p) (number (read a)) _ (a .fresh-child .result) b (marks (begun (turn p))) (a .fresh-child .ensures) is
 
 pub low : (a : Asked) → a .fresh-child .result ≡ true → number (read a) < at-inner (parent (child (read a))) .args .counts .nodes
 low a is =
     let k = child (read a) in
-    let p = least (inner (parent k)) in
+    let p = least (inner-opened (parent k)) in
     let e = at-inner (parent k) in
     let w = lends e in
     child-low (e .args .shape) (e .args .counts) (hit e) (view e) (e .args .ef-search) (work p) (w .within .limits) (w .within .nodes) (w .some) (below e) (node p) (children (parent k)) (k .loop .j) (number (read a)) (k .loop .work) (turn p .walk .waiting - 1) (turn p .walk .hits) (turn p .walk .opened + 1) (k .loop .inv .2) (next (read a)) (fresh a true is)
@@ -67,10 +67,10 @@ many d =
 pub all : (d : AllMarked) → length (children (parent (last d))) ≤ last d .loop .j
 all d = omega (arith, many d, d .loop-test .left)
 
-pub room : (d : AllMarked) → turn (least (inner (parent (last d)))) .walk .waiting - 1 + total d ≤ at-inner (parent (last d)) .args .shape .nodes
+pub room : (d : AllMarked) → turn (least (inner-opened (parent (last d)))) .walk .waiting - 1 + total d ≤ at-inner (parent (last d)) .args .shape .nodes
 room d =
     let k = last d in
-    let p = least (inner (parent k)) in
+    let p = least (inner-opened (parent k)) in
     let e = at-inner (parent k) in
     let w = lends e in
     omega (

@@ -1,7 +1,7 @@
 -- `best_first_walk` at a leaf: the list that it shows, the hits' part of the work list as it is lent and comes back, and what was added. Assumes nothing.
 use Rattle.best_first_walk.specs.Walks.{foundAt, foundPart}
 use Rattle.best_first_walk.specs.WalksLaws.{length-found}
-use Rattle.leaf_hits.specs.Contracts.{Gathers, entryList}
+use Rattle.leaf_hits.specs.Contracts.{Gathers}
 use Rattle.walk.specs.Wanted.{EntryRead, passes, given, most}
 use Rattle.walk.specs.WantedLaws.{given-held}
 use Rattle.leaf_hits.specs.LeafLaws.{list-shown}
@@ -9,7 +9,7 @@ use Rattle.leaf_hits.specs.declared.Added.{Added}
 use Rattle.walk.specs.declared.look.Look.the-variants as look
 use Rattle.walk.specs.LentLaws.{works-trans, works-sets}
 use Rattle.walk.specs.Contracts.{Works}
-use Rattle.walk.specs.StoreView.{storeView}
+use Rattle.walk.specs.StoreView.{storeView, entriesIn}
 use Rattle.lists.specs.Tests.{allPass, all-pass}
 use Rattle.walk.specs.Walk.{hits, damage, shown}
 use Rattle.store.specs.Store.{workSize}
@@ -24,14 +24,14 @@ use mathlib.Core.List.{List, _++_, map}
 use mathlib.Core.Path.{_≡_, refl, sym, ap, subst, _∙_}
 use native.Mathlib.Omega.{arith}
 use Prim.Native.Nat.{ℕ, _+_, _-_, _≤_, max}
-use Rattle.best_first_walk.proofs.best_first_walk.Proof.Places.{Entry, entry, begun, Least, turn, least, Leaf, leaf, Hits, from, hit, view, lends, foundStart, foundEnd, found-start, found-end, node, work, opened, opened-works, shows}
+use Rattle.best_first_walk.proofs.best_first_walk.Proof.Places.{Entry, entry, begun, Least, turn, least, Leaf, leaf-opened, Hits, from, hit, view, lends, foundStart, foundEnd, found-start, found-end, node, work, opened, opened-works, shows}
 
 abbrev pub at-leaf : Leaf → Entry
-at-leaf l = entry (begun (turn (least (leaf l))))
+at-leaf l = entry (begun (turn (least (leaf-opened l))))
 
 -- whether all numbers of a list pass, and the vectors that it gives
 abbrev pub read-entries : Entry → EntryRead
-read-entries e = entryList (e .args .shape) (e .args .numbers .now) (e .args .hashes .now)
+read-entries e = entriesIn (e .args .shape) (e .args .numbers .now) (e .args .hashes .now)
 
 abbrev pub passed : Entry → List ℕ → Bool
 passed e l = allPass (passes (e .args .wanted) (e .args .counts) (read-entries e)) l
@@ -52,13 +52,13 @@ abbrev pub list : Leaf → List ℕ
 list l = part (l .shown .given .0 .0 .start) (l .shown .given .0 .0 .count) (at-leaf l .args .numbers .now)
 
 pub list-room : (l : Leaf) → l .shown .given .0 .0 .start + l .shown .given .0 .0 .count ≤ length (at-leaf l .args .numbers .now)
-list-room l = shows (leaf l) (look.Leaf (l .shown .given .0 .0)) (l .shown .given .1) .0
+list-room l = shows (leaf-opened l) (look.Leaf (l .shown .given .0 .0)) (l .shown .given .1) .0
 
-pub list-is : (l : Leaf) → shown (view (at-leaf l)) (node (least (leaf l)))
+pub list-is : (l : Leaf) → shown (view (at-leaf l)) (node (least (leaf-opened l)))
     ≡ cond (passed (at-leaf l) (list l)) (hits (map (hit (at-leaf l)) (vectors (at-leaf l) (list l)))) damage
 list-is l =
     let e = at-leaf l in
-    shows (leaf l) (look.Leaf (l .shown .given .0 .0)) (l .shown .given .1) .1 (e .args .floats .now) (e .args .query .now)
+    shows (leaf-opened l) (look.Leaf (l .shown .given .0 .0)) (l .shown .given .1) .1 (e .args .floats .now) (e .args .query .now)
     ∙ list-shown (e .args .shape) (e .args .counts) (e .args .floats .now) (e .args .numbers .now) (e .args .hashes .now) (e .args .query .now) (e .args .wanted) (list l)
 
 -- the hits' part, as it is lent
@@ -80,7 +80,7 @@ abbrev pub back : Hits → List ℕ
 back h = h .add-hits .last .1 .1 .1 .1 .0
 
 abbrev pub at-hits : Hits → Least
-at-hits h = least (leaf (from h))
+at-hits h = least (leaf-opened (from h))
 
 abbrev pub after : Hits → List ℕ
 after h = let p = at-hits h in

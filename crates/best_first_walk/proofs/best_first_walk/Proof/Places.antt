@@ -78,8 +78,8 @@ least o = o .before .before .before
 abbrev pub Leaf : Type 0
 Leaf = tie.After-shown Inv-loop μ-loop Inv-walk μ-walk
 
-abbrev pub leaf : Leaf → Opened
-leaf l = l .before .before
+abbrev pub leaf-opened : Leaf → Opened
+leaf-opened l = l .before .before
 
 -- its hits are added
 abbrev pub Hits : Type 0
@@ -99,8 +99,8 @@ added-hits b = b .before .before
 abbrev pub Inner : Type 0
 Inner = tie.After-shown2 Inv-loop μ-loop Inv-walk μ-walk
 
-abbrev pub inner : Inner → Opened
-inner i = i .before .before
+abbrev pub inner-opened : Inner → Opened
+inner-opened i = i .before .before
 
 -- a turn of the children's loop
 abbrev pub Child : Type 0

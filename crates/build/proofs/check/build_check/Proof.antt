@@ -26,6 +26,8 @@ use Rattle.store.specs.LentLaws.{lists-long}
 use Rattle.build.proofs.check.build_check.Statement.{statement}
 use Rattle.build.proofs.check.build_check.Tie as tie
 
+-- ---- the places that needs go back to (primed: the same place, from another one)
+
 -- the function's entry, from the place after a test
 abbrev start-1 : tie.Else1 → tie.Start
 start-1 c = c .before .before .before
@@ -54,8 +56,6 @@ short : (c : tie.After-lists-short)
 short c =
     let start = start-1 (c .before .before) in
     c .lists-short .ensures ∙ ap (λ (s : Shape). listsShort s (lens start) (start .args .work)) (c .before .shape-of .ensures)
-
--- ---- the places, each with the way back to the one before
 
 abbrev else1 : tie.After-shape-of → tie.Else1
 else1 c = c .before

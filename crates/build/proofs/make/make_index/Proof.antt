@@ -7,6 +7,8 @@ use denote.Ref.{now}
 use Rattle.build.proofs.make.make_index.Statement.{statement}
 use Rattle.build.proofs.make.make_index.Tie as tie
 
+-- ---- the places that needs go back to (primed: the same place, from another one)
+
 -- the function's entry, from the place after the shape is made
 abbrev entry : tie.After-shape-of → tie.Start
 entry c = c .before .before .before .before .before
@@ -17,8 +19,6 @@ storeOf s = lent (s .args .floats) (s .args .numbers) (s .args .hashes)
 -- the place after the shape is made, from the place after the tree is made
 abbrev shaped : tie.After-build-tree → tie.After-shape-of
 shaped c = c .before .before .before .before .before
-
--- ---- the places, each with the way back to the one before
 
 abbrev after-shape-of : tie.After-build-tree-arg3 → tie.After-shape-of
 after-shape-of c = c .before .before .before .before

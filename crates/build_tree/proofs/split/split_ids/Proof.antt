@@ -7,7 +7,7 @@ use borrow.Author.Needs.{needs}
 use Rattle.build_tree.proofs.split.split_ids.Statement.{statement}
 use Rattle.build_tree.proofs.split.split_ids.Tie as tie
 
--- ---- the places, each with the way back to the one before
+-- ---- the places that needs go back to (primed: the same place, from another one)
 
 abbrev start : tie.After-smaller → tie.Start
 start c = c .before .before .before .before

@@ -14,6 +14,8 @@ use Rattle.curator.proofs.CuratorIndex.add.Statement.{statement}
 use Rattle.curator.proofs.CuratorIndex.add.Tie as tie
 use Rattle.curator.specs.OutcomeLaws.{is-refused, is-carried}
 
+-- ---- the places that needs go back to (primed: the same place, from another one)
+
 -- the function's entry, from the place where the check is known to be `Fine`
 abbrev entry : tie.After-enum-told → tie.Start
 entry c = c .before .before .before .before .before .before .before .before .before
@@ -30,8 +32,6 @@ fine c = sym (c .before .before .add-check .ensures) ∙ c .enum-told .given .1
 
 facts : (c : tie.After-enum-told) → Accepted (entry c .args .self) (storeOf (entry c)) (callOf (entry c))
 facts c = add-facts _ _ _ (fine c)
-
--- ---- the places, each with the way back to the one before
 
 abbrev after-add-check : tie.After-known-told → tie.After-add-check
 after-add-check c = c .before .before .before

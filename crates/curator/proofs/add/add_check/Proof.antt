@@ -19,6 +19,8 @@ use Rattle.curator.specs.StateLaws.{Sound, sound-facts}
 use Rattle.curator.proofs.add.add_check.Statement.{statement}
 use Rattle.curator.proofs.add.add_check.Tie as tie
 
+-- ---- the places that needs go back to (primed: the same place, from another one)
+
 -- the function's entry, from the place after a test
 abbrev start-1 : tie.Else1 → tie.Start
 start-1 c = c .before .before .before .before .before
@@ -63,8 +65,6 @@ short c = c .store-short .ensures ∙ ap (λ (s : Shape). storeShort s (lens (st
 after-1 : (c : tie.Else1) → firstOf (rows (start-1 c)) ≡ firstOf (drop 1 (rows (start-1 c)))
 unfolding addRows
 after-1 c = row-passes _ _ (ap not (sym (c .before .state-sound .ensures)) ∙ c .if1 .left)
-
--- ---- the places, each with the way back to the one before
 
 abbrev else1 : tie.Else2 → tie.Else1
 else1 c = c .before .before .before

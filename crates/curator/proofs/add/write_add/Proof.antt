@@ -12,6 +12,8 @@ use Rattle.curator.proofs.Steps.{place-fits, place-room}
 use Rattle.curator.proofs.add.write_add.Statement.{statement}
 use Rattle.curator.proofs.add.write_add.Tie as tie
 
+-- ---- the places that needs go back to (primed: the same place, from another one)
+
 -- the function's entry, from the place where the owners' start is known
 abbrev entry : tie.After-owners-at → tie.Start
 entry c = c .before .before .before .before .before .before .before .before .before
@@ -24,8 +26,6 @@ started : {after : List ℕ} (numbers : List ℕ) (vector document held count : 
     → after ≡ sets (set numbers vector document) (a + held) (replicate count vector) → a ≡ b
     → after ≡ sets (set numbers vector document) (b + held) (replicate count vector)
 started numbers vector document held count h e = h ∙ ap (λ (o : ℕ). sets (set numbers vector document) (o + held) (replicate count vector)) e
-
--- ---- the places, each with the way back to the one before
 
 abbrev at-start : tie.After-shape-of → tie.Start
 at-start c = c .before .before .before .before .before .before .before .before

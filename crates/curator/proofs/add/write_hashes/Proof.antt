@@ -21,7 +21,7 @@ Inv-loop hashes₀ place lengths bytes start₀ i₀ hashes start i =
 abbrev μ-loop : tie.MeasureT-loop
 μ-loop hashes₀ place lengths bytes start₀ i₀ hashes start i = length lengths - i
 
--- ---- the places, each with the way back to the one before
+-- ---- the places that needs go back to (primed: the same place, from another one)
 
 abbrev entry′ : tie.After-shared-slice-known2 Inv-loop μ-loop → tie.Start Inv-loop μ-loop
 entry′ c = c .before .before .before

@@ -11,7 +11,7 @@ use borrow.Author.Needs.{needs}
 use Rattle.curator.proofs.add.write_vector.Statement.{statement}
 use Rattle.curator.proofs.add.write_vector.Tie as tie
 
--- ---- the places, each with the way back to the one before
+-- ---- the places that needs go back to (primed: the same place, from another one)
 
 abbrev start : tie.After-dot → tie.Start
 start c = c .before .before .before

@@ -14,7 +14,7 @@ joined : (index : CuratorIndex) (d p c h b : Bool) → d ≡ dimensionAllowed (i
 unfolding stateSound
 joined index d p c h b i j k l m = rw (i, j, k, l, m) (simp and-true)
 
--- ---- the places, each with the way back to the one before
+-- ---- the places that needs go back to (primed: the same place, from another one)
 
 abbrev start : tie.After-dimension-allowed → tie.Start
 start c = c .before .before .before .before

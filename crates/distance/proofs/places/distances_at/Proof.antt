@@ -6,7 +6,7 @@ use borrow.Author.Needs.{needs}
 use Rattle.distance.proofs.places.distances_at.Statement.{statement}
 use Rattle.distance.proofs.places.distances_at.Tie as tie
 
--- ---- the places, each with the way back to the one before
+-- ---- the places that needs go back to (primed: the same place, from another one)
 
 abbrev start : tie.After-cosine-distance-four → tie.Start
 start c = c .before .before .before .before .before .before .before

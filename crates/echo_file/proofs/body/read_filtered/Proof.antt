@@ -13,6 +13,8 @@ use Rattle.echo_file.proofs.body.read_filtered.Tie as tie
 
 -- ---- k was skipped
 
+-- ---- the places that needs go back to (primed: the same place, from another one)
+
 abbrev start : tie.After-known-told → tie.Start
 start c = c .before .before .before .before .before
 
@@ -21,8 +23,6 @@ file c = start c .args .file .now
 
 abbrev length-at : tie.After-known-told → ℕ
 length-at c = c .before .length-at .given .0 .0
-
--- ---- the places, each with the way back to the one before
 
 abbrev at-start : tie.After-skip → tie.Start
 at-start c = c .before .before

@@ -7,14 +7,14 @@ use borrow.Author.Needs.{needs}
 use Rattle.echo_file.proofs.body.read_search.Statement.{statement}
 use Rattle.echo_file.proofs.body.read_search.Tie as tie
 
+-- ---- the places that needs go back to (primed: the same place, from another one)
+
 -- k was skipped
 abbrev start : tie.After-known-told → tie.Start
 start c = c .before .before .before .before .before
 
 abbrev floats-at : tie.After-known-told → ℕ
 floats-at c = c .before .floats-at .given .0 .0
-
--- ---- the places, each with the way back to the one before
 
 abbrev entry : tie.After-skip → tie.Start
 entry c = c .before .before

@@ -6,10 +6,10 @@ use borrow.Author.Needs.{needs}
 use Rattle.echo_file.proofs.body.read_settings.Statement.{statement}
 use Rattle.echo_file.proofs.body.read_settings.Tie as tie
 
+-- ---- the places that needs go back to (primed: the same place, from another one)
+
 abbrev start : tie.After-known-told → tie.Start
 start c = c .before .before .before .before .before
-
--- ---- the places, each with the way back to the one before
 
 abbrev entry : tie.After-skip → tie.Start
 entry c = c .before .before

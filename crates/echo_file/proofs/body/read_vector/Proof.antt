@@ -14,6 +14,8 @@ use Rattle.echo_file.proofs.body.read_vector.Tie as tie
 
 -- ---- the document id was skipped
 
+-- ---- the places that needs go back to (primed: the same place, from another one)
+
 abbrev start : tie.After-known-told → tie.Start
 start c = c .before .before .before .before .before
 
@@ -22,8 +24,6 @@ file c = start c .args .file .now
 
 abbrev count-at : tie.After-known-told → ℕ
 count-at c = c .before .count-at .given .0 .0
-
--- ---- the places, each with the way back to the one before
 
 abbrev at-start : tie.After-skip → tie.Start
 at-start c = c .before .before

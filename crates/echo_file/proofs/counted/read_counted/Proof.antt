@@ -8,6 +8,8 @@ use borrow.Author.Needs.{needs}
 use Rattle.echo_file.proofs.counted.read_counted.Statement.{statement}
 use Rattle.echo_file.proofs.counted.read_counted.Tie as tie
 
+-- ---- the places that needs go back to (primed: the same place, from another one)
+
 abbrev start : tie.After-known-told → tie.Start
 start c = c .before .before .before .before .before
 
@@ -16,8 +18,6 @@ file c = start c .args .file .now
 
 abbrev from : tie.After-known-told → ℕ
 from c = c .before .from .given .0 .0
-
--- ---- the places, each with the way back to the one before
 
 abbrev entry : tie.After-skip → tie.Start
 entry c = c .before .before

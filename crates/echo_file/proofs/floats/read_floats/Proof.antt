@@ -14,7 +14,7 @@ Inv-loop file at out₀ i₀ out i = (i ≤ length out₀) × (length out ≡ le
 abbrev μ-loop : tie.MeasureT-loop
 μ-loop file at out₀ i₀ out i = length out₀ - i
 
--- ---- the places, each with the way back to the one before
+-- ---- the places that needs go back to (primed: the same place, from another one)
 
 abbrev start′ : tie.After-loop Inv-loop μ-loop → tie.Start Inv-loop μ-loop
 start′ c = c .before .before .before .before

@@ -44,7 +44,7 @@ ids-length t = ap length (t .loop .inv .ids-are) ∙ length-sets (entry t .args 
 distances-length : (t : Turn) → length (t .loop .distances) ≡ length (entry t .args .distances .now)
 distances-length t = ap length (t .loop .inv .distances-are) ∙ length-sets (entry t .args .distances .now) 0 (map distanceOf (t .loop .inv .kept))
 
--- ---- the places, each with the way back to the one before
+-- ---- the places that needs go back to (primed: the same place, from another one)
 
 abbrev start : tie.After-slice-known3 Inv-loop μ-loop → tie.Start Inv-loop μ-loop
 start c = c .before .before .before

@@ -6,7 +6,7 @@ use borrow.Author.Needs.{needs}
 use Rattle.hit_queue.proofs.queue.hit.Statement.{statement}
 use Rattle.hit_queue.proofs.queue.hit.Tie as tie
 
--- ---- the places, each with the way back to the one before
+-- ---- the places that needs go back to (primed: the same place, from another one)
 
 abbrev start : tie.After-key → tie.Start
 start c = c .before .before .before .before

@@ -57,7 +57,7 @@ grown t m total heap h d =
     let a = e .args in
     measured-next (a .counts) (hit e) (a .bound) 0 (t .loop .queued) total (a .from) (a .found) (t .loop .j) m (a .heap .now) (t .loop .heap) heap (e .pre .measure) h (t .loop .inv .1) d
 
--- ---- the places, each with the way back to the one before
+-- ---- the places that needs go back to (primed: the same place, from another one)
 
 abbrev start : tie.After-shared-slice-known3 Inv-loop μ-loop → tie.Start Inv-loop μ-loop
 start c = c .before .before .before .before

@@ -20,7 +20,7 @@ Numbers = tie.After-wide4
 abbrev entry : Numbers → tie.Start
 entry w = w .before .before .before .before .before .before .before .before .before .before .before .before
 
--- ---- the places, each with the way back to the one before
+-- ---- the places that needs go back to (primed: the same place, from another one)
 
 abbrev after-wide : tie.After-wide2 → tie.After-wide
 after-wide c = c .before .before

@@ -13,6 +13,8 @@ use borrow.Author.Needs.{needs}
 use Rattle.hit_queue.proofs.queue.measure_one.Statement.{statement}
 use Rattle.hit_queue.proofs.queue.measure_one.Tie as tie
 
+-- ---- the places that needs go back to (primed: the same place, from another one)
+
 abbrev entry : tie.After-wide → tie.Start
 entry w = w .before .before .before .before .before .before
 
@@ -28,8 +30,6 @@ inside : (w : tie.After-wide) → number w * entry w .args .shape .dimension + e
 inside w =
     let e = entry w in
     vector-within (e .args .shape) (e .args .floats .now) (number w) (e .args .counts .vectors) (e .pre .lent .within .limits) (e .pre .lent .floats-size) (held w) (omega (arith, e .pre .lent .within .vectors))
-
--- ---- the places, each with the way back to the one before
 
 abbrev after-hit : tie.After-slice-known3 → tie.After-hit
 after-hit c = c .before .before .before .before

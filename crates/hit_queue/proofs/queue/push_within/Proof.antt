@@ -5,7 +5,7 @@ use borrow.Author.Needs.{needs}
 use Rattle.hit_queue.proofs.queue.push_within.Statement.{statement}
 use Rattle.hit_queue.proofs.queue.push_within.Tie as tie
 
--- ---- the places, each with the way back to the one before
+-- ---- the places that needs go back to (primed: the same place, from another one)
 
 abbrev start : tie.Then1 → tie.Start
 start c = c .before .before .before

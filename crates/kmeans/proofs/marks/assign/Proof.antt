@@ -22,7 +22,7 @@ Inv-loop floats ids work₀ dimension count centres-at k i₀ work i =
 abbrev μ-loop : tie.MeasureT-loop
 μ-loop floats ids work₀ dimension count centres-at k i₀ work i = length ids - i
 
--- ---- the places, each with the way back to the one before
+-- ---- the places that needs go back to (primed: the same place, from another one)
 
 abbrev entry : tie.After-loop Inv-loop μ-loop → tie.Start Inv-loop μ-loop
 entry c = c .before .before .before .before .before

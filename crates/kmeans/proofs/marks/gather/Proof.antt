@@ -12,7 +12,7 @@ Inv-loop ids work₀ j at found₀ i₀ work found i = Gathered j ids work₀ at
 abbrev μ-loop : tie.MeasureT-loop
 μ-loop ids work₀ j at found₀ i₀ work found i = length ids - i
 
--- ---- the places, each with the way back to the one before
+-- ---- the places that needs go back to (primed: the same place, from another one)
 
 abbrev start : tie.At-loop Inv-loop μ-loop → tie.Start Inv-loop μ-loop
 start c = c .before

@@ -44,7 +44,7 @@ two w = w .before .before .before .before
 abbrev pub three : tie.After-write-owner4 → tie.After-write-owner3
 three w = w .before .before .before .before
 
--- ---- the places, each with the way back to the one before
+-- ---- the places that needs go back to (primed: the same place, from another one)
 
 abbrev pub after-wide : tie.After-wide2 → tie.After-wide
 after-wide c = c .before .before

@@ -11,6 +11,8 @@ use borrow.Author.Needs.{needs}
 use Rattle.load.proofs.carry.add_vector.Statement.{statement}
 use Rattle.load.proofs.carry.add_vector.Tie as tie
 
+-- ---- the places that needs go back to (primed: the same place, from another one)
+
 -- the function's entry, from where the floats have been read
 abbrev start : tie.After-floats-at → tie.Start
 start c = c .before .before .before .before .before
@@ -18,8 +20,6 @@ start c = c .before .before .before .before .before
 -- they are read before the vector is added
 abbrev read : tie.After-components → tie.After-floats-at
 read c = c .before .before .before .before .before .before
-
--- ---- the places, each with the way back to the one before
 
 abbrev after-add : tie.After-added → tie.After-add
 after-add c = c .before .before .before .before .before .before .before

@@ -10,6 +10,8 @@ use borrow.Author.Needs.{needs}
 use Rattle.load.proofs.carry.carry.Statement.{statement}
 use Rattle.load.proofs.carry.carry.Tie as tie
 
+-- ---- the places that needs go back to (primed: the same place, from another one)
+
 -- the function's entry, from where the task is known, what it is lent and what the record is to come to
 abbrev start : tie.After-task-at → tie.Start
 start c = c .before .before .before .before .before .before .before .before
@@ -43,8 +45,6 @@ to-add c = c .before .before .before
 
 abbrev to-find : tie.After-look-up-arg6 → tie.After-known-told3
 to-find c = c .before .before .before .before .before .before
-
--- ---- the places, each with the way back to the one before
 
 abbrev after-task-at : tie.After-known-told → tie.After-task-at
 after-task-at c = c .before .before .before

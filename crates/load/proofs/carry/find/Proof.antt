@@ -9,10 +9,12 @@ use Rattle.curator.specs.Searches.{SearchEnd, Searches}
 use Rattle.curator.specs.Arguments.{Asked}
 use Rattle.echo_file.specs.Reads.{between}
 use Rattle.load.specs.Step.{searchWith}
-use Rattle.load.specs.Code.{lists, asking}
+use Rattle.load.specs.Code.{lists, askedFor}
 use borrow.Author.Needs.{needs}
 use Rattle.load.proofs.carry.find.Statement.{statement}
 use Rattle.load.proofs.carry.find.Tie as tie
+
+-- ---- the places that needs go back to (primed: the same place, from another one)
 
 -- the function's entry, from where the floats have been read
 abbrev start : tie.After-floats-at → tie.Start
@@ -37,9 +39,7 @@ finds-as : (s : tie.Start) (end : SearchEnd) {q query : List Float} {a asked : A
 finds-as s end {q} {query} {a} {asked} e k h = subst (λ (x : List Float). Finds s end x asked) e (subst (Finds s end q) k h)
 
 abbrev label : tie.Start → Bool → Asked
-label s filtered = let q = s .args .query in asking filtered (between (q .«label_at») (q .«floats_at») (s .args .file .now))
-
--- ---- the places, each with the way back to the one before
+label s filtered = let q = s .args .query in askedFor filtered (between (q .«label_at») (q .«floats_at») (s .args .file .now))
 
 abbrev after-components2 : tie.After-search → tie.After-components2
 after-components2 c = c .before .before .before

@@ -14,7 +14,7 @@ use Rattle.load.proofs.carry.floats_at.Tie as tie
 abbrev sixteen : List Float
 sixteen = replicate 16 (ofBits binary32 0)
 
--- ---- the places, each with the way back to the one before
+-- ---- the places that needs go back to (primed: the same place, from another one)
 
 abbrev start : tie.After-values2 → tie.Start
 start c = c .before .before .before .before

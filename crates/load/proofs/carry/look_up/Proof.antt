@@ -8,6 +8,8 @@ use borrow.Author.Needs.{needs}
 use Rattle.load.proofs.carry.look_up.Statement.{statement}
 use Rattle.load.proofs.carry.look_up.Tie as tie
 
+-- ---- the places that needs go back to (primed: the same place, from another one)
+
 -- the function's entry, what it is lent and asked for
 abbrev start : tie.After-build → tie.Start
 start c = c .before .before .before .before .before .before .before .before .before .before .before .before
@@ -28,8 +30,6 @@ ready c = c .before .before .before .before .before .before .before .before .bef
 -- where the nearest are looked up
 abbrev known : tie.After-find-arg6 → tie.After-known-told2
 known c = c .before .before .before .before .before .before
-
--- ---- the places, each with the way back to the one before
 
 abbrev after-find : tie.After-found → tie.After-find
 after-find c = c .before .before .before .before .before .before .before

@@ -18,6 +18,8 @@ use Rattle.load.proofs.print.write_carried.Tie as tie
 nothing : (l : List ℕ) → Written l 0 [] l 0
 nothing l = written l 0 [] l 0 refl (omega arith) (omega arith)
 
+-- ---- the places that needs go back to (primed: the same place, from another one)
+
 -- the function's entry, by what came of the record
 abbrev start : tie.After-shared-slice-known2 → tie.Start
 start c = c .before .before .before
@@ -44,8 +46,6 @@ fit c = subst (λ (x : Carried). HitsFit x (found c .args .ids .now) (found c .a
 -- from where the hits have been written
 abbrev hits : tie.After-write-hits → tie.After-carried2
 hits c = c .before .before .before
-
--- ---- the places, each with the way back to the one before
 
 abbrev after-shared-slice-known : tie.After-carried2 → tie.After-shared-slice-known
 after-shared-slice-known c = c .before .before .before

@@ -12,7 +12,7 @@ use borrow.Author.Needs.{needs}
 use Rattle.load.proofs.task.open.Statement.{statement}
 use Rattle.load.proofs.task.open.Tie as tie
 
--- ---- the places, each with the way back to the one before
+-- ---- the places that needs go back to (primed: the same place, from another one)
 
 abbrev after-new′ : tie.After-known-told → tie.After-new
 after-new′ c = c .before .before .before

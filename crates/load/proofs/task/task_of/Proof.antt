@@ -6,7 +6,7 @@ use borrow.Author.Needs.{needs}
 use Rattle.load.proofs.task.task_of.Statement.{statement}
 use Rattle.load.proofs.task.task_of.Tie as tie
 
--- ---- the places, each with the way back to the one before
+-- ---- the places that needs go back to (primed: the same place, from another one)
 
 abbrev start : tie.After-known-told → tie.Start
 start c = c .before .before .before

@@ -10,7 +10,7 @@ use Rattle.text.specs.Lines.{Written}
 use Rattle.text.proofs.digits.write_decimal.Statement.{statement}
 use Rattle.text.proofs.digits.write_decimal.Tie as tie
 
--- ---- the places, each with the way back to the one before
+-- ---- the places that needs go back to (primed: the same place, from another one)
 
 abbrev start : tie.After-decimal-places → tie.Start
 start c = c .before .before .before

@@ -9,7 +9,7 @@ use borrow.Author.Needs.{needs}
 use Rattle.walk.proofs.look.block_at.Statement.{statement}
 use Rattle.walk.proofs.look.block_at.Tie as tie
 
--- ---- the places, each with the way back to the one before
+-- ---- the places that needs go back to (primed: the same place, from another one)
 
 abbrev entry : tie.After-wide → tie.Start
 entry c = c .before .before .before

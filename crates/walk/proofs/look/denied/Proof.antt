@@ -11,7 +11,7 @@ use borrow.Author.Needs.{needs}
 use Rattle.walk.proofs.look.denied.Statement.{statement}
 use Rattle.walk.proofs.look.denied.Tie as tie
 
--- ---- the places, each with the way back to the one before
+-- ---- the places that needs go back to (primed: the same place, from another one)
 
 abbrev entry : tie.After-enum-told → tie.Start
 entry c = c .before .before .before

@@ -6,7 +6,7 @@ use borrow.Author.Needs.{needs}
 use Rattle.walk.proofs.look.leaf_list.Statement.{statement}
 use Rattle.walk.proofs.look.leaf_list.Tie as tie
 
--- ---- the places, each with the way back to the one before
+-- ---- the places that needs go back to (primed: the same place, from another one)
 
 abbrev start : tie.After-block-at → tie.Start
 start c = c .before .before .before .before .before
