@@ -199,9 +199,9 @@ pub length-setBit : (f : List ℕ) (k : ℕ) → length (setBit f k) ≡ length 
 unfolding setBit
 length-setBit f k = length-set f (k / 64) (setWordBit (getD f (k / 64) 0) (k % 64))
 
-pub length-insert : (f : List ℕ) (hash : ℕ) → length (insertHash f hash) ≡ length f
+pub length-insertHash : (f : List ℕ) (hash : ℕ) → length (insertHash f hash) ≡ length f
 unfolding insertHash
-length-insert f hash = length-setBit (setBit f (firstBit hash)) (secondBit hash) ∙ length-setBit f (firstBit hash)
+length-insertHash f hash = length-setBit (setBit f (firstBit hash)) (secondBit hash) ∙ length-setBit f (firstBit hash)
 
 pub insert-is : (f : List ℕ) (hash : ℕ) → length f ≡ 4 → insertHash f hash ≡ union f (hashBits hash)
 unfolding insertHash hashBits
@@ -213,11 +213,11 @@ insert-is f hash e =
 -- ---- insertion
 
 pub insert-four : (f : List ℕ) (hash : ℕ) → length f ≡ 4 → length (insertHash f hash) ≡ 4
-insert-four f hash e = length-insert f hash ∙ e
+insert-four f hash e = length-insertHash f hash ∙ e
 
 -- Inserting two hashes commutes, and inserting one twice is inserting it once.
-pub insert-comm : (f : List ℕ) (a b : ℕ) → length f ≡ 4 → insertHash (insertHash f a) b ≡ insertHash (insertHash f b) a
-insert-comm f a b e =
+pub insertHash-comm : (f : List ℕ) (a b : ℕ) → length f ≡ 4 → insertHash (insertHash f a) b ≡ insertHash (insertHash f b) a
+insertHash-comm f a b e =
     insert-is (insertHash f a) b (insert-four f a e) ∙ ap (λ (l : List ℕ). union l (hashBits b)) (insert-is f a e)
     ∙ union-swap f (hashBits a) (hashBits b)
     ∙ sym (insert-is (insertHash f b) a (insert-four f b e) ∙ ap (λ (l : List ℕ). union l (hashBits a)) (insert-is f b e))
@@ -310,7 +310,7 @@ insertAll-append f (x ∷ xs) ys = insertAll-append (insertHash f x) xs ys
 pub length-insertAll : (f hashes : List ℕ) → length (insertAll f hashes) ≡ length f
 unfolding insertAll
 length-insertAll f [] = refl
-length-insertAll f (h ∷ hashes) = length-insertAll (insertHash f h) hashes ∙ length-insert f h
+length-insertAll f (h ∷ hashes) = length-insertAll (insertHash f h) hashes ∙ length-insertHash f h
 
 pub insertAll-four : (f hashes : List ℕ) → length f ≡ 4 → length (insertAll f hashes) ≡ 4
 insertAll-four f hashes e = length-insertAll f hashes ∙ e
@@ -340,7 +340,7 @@ insertAll-perm List·Permᴰ·nil f e = refl
 insertAll-perm (List·Permᴰ·cons {a} {b} {l₁} {l₂} p d) f e =
     insertAll-perm d (insertHash f a) (insert-four f a e) ∙ ap (λ (x : ℕ). insertAll (insertHash f x) l₂) p
 insertAll-perm (List·Permᴰ·swap {a} {b} {a′} {b′} {l} p q) f e =
-    ap (λ (g : List ℕ). insertAll g l) (insert-comm f a b e ∙ ap₂ (λ (x y : ℕ). insertHash (insertHash f x) y) q p)
+    ap (λ (g : List ℕ). insertAll g l) (insertHash-comm f a b e ∙ ap₂ (λ (x y : ℕ). insertHash (insertHash f x) y) q p)
 insertAll-perm (List·Permᴰ·trans d₁ d₂) f e = insertAll-perm d₁ f e ∙ insertAll-perm d₂ f e
 
 -- What the filter admitted it still admits, and it admits each hash of the list.

@@ -40,7 +40,7 @@ use Rattle.curator.specs.Rows.{row, firstOf, stateRow, buildRows}
 use Rattle.build.specs.Asked.{BuildReady}
 use Rattle.build.specs.CheckLaws.{earlyBuildRows, fullRow, check-rows, checked-rows, ready}
 use Rattle.build.specs.BuildLaws.{builds-accepted}
-use Rattle.build.specs.WrittenLaws.{held-vectors}
+use Rattle.build.specs.WrittenLaws.{held-vectors-are}
 use Rattle.curator.specs.OutcomeLaws.{carried-is, refused-is}
 
 -- What a build reads is the same: whether a list is too short, the vectors held, and the owners and hashes of the entries held. Document ids are not
@@ -178,7 +178,7 @@ module _ (index : CuratorIndex) (store : Store) (work : List ℕ) (r : BuildRead
   splitting = splittingOf (index .dimension) (index .params)
 
   vectors-length : length (heldVectors index store) ≡ index .counts .vectors
-  vectors-length = ap length (held-vectors index store) ∙ length-vectorsIn (index .dimension) (index .counts .vectors) (store .floats)
+  vectors-length = ap length (held-vectors-are index store) ∙ length-vectorsIn (index .dimension) (index .counts .vectors) (store .floats)
 
   owners-length : length (heldEntries index store .owners) ≡ index .counts .entries
   unfolding heldEntries

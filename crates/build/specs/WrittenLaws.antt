@@ -9,10 +9,10 @@ use lib.Ieee.{Float}
 use lib.ListN.{length, getD}
 use lib.Seq.{sets, length-sets}
 use Rattle.lists.specs.Lists.{part, joined}
-use Rattle.lists.specs.Frame.{Part, freed-length, freed-more, freed-self, freed-twice}
+use Rattle.lists.specs.Frame.{freed-length, freed-more, freed-self, freed-twice}
 use Rattle.lists.specs.Parts.{getD-part, part-sets-before, part-sets-same, sets-comm, sets-sets-same}
 use Rattle.store.specs.declared.Shape.{Shape}
-use Rattle.store.specs.Store.{Store, ownersAt, orderAt, nodesAt, linksAt, entryOrderAt, filtersAt, numbersSize, workSize, workPart, orderPart, nodesPart, linksPart, entryOrderPart, filtersPart}
+use Rattle.store.specs.Store.{Store, ownersAt, orderAt, nodesAt, linksAt, entryOrderAt, numbersSize, workSize, workPart, orderPart, nodesPart, linksPart, entryOrderPart, filtersPart}
 use Rattle.cluster.specs.Vectors.{vectorsIn}
 use Rattle.cluster.specs.VectorsLaws.{length-vectorsIn}
 use Rattle.tree.specs.Tree.{treeOf, size}
@@ -44,9 +44,9 @@ nodesWith index floats e = nodesOf (splittingOf (index .dimension) (index .param
 abbrev pub treeSize : CuratorIndex → List Float → ℕ
 treeSize index floats = size (treeOf (splittingOf (index .dimension) (index .params)) (vectorsOf index floats))
 
-pub held-vectors : (index : CuratorIndex) (store : Store) → heldVectors index store ≡ vectorsOf index (store .floats)
+pub held-vectors-are : (index : CuratorIndex) (store : Store) → heldVectors index store ≡ vectorsOf index (store .floats)
 unfolding heldVectors vectorsIn
-held-vectors index store = refl
+held-vectors-are index store = refl
 
 held-entries : (index : CuratorIndex) (store : Store)
     → heldEntries index store ≡ held (indexShape index) (index .counts .entries) (store .numbers) (store .hashes)
@@ -56,13 +56,13 @@ held-entries index store = refl
 held-nodes : (index : CuratorIndex) (store : Store) → heldNodes index store ≡ nodesWith index (store .floats) (heldEntries index store)
 unfolding heldNodes
 held-nodes index store =
-    ap (λ (vectors : List (List Float)). nodesOf (splittingOf (index .dimension) (index .params)) vectors (heldEntries index store)) (held-vectors index store)
+    ap (λ (vectors : List (List Float)). nodesOf (splittingOf (index .dimension) (index .params)) vectors (heldEntries index store)) (held-vectors-are index store)
 
 pub too-many-is : (index : CuratorIndex) (store : Store) → tooManyNodes index store ≡ ltb (index .capacities .nodes) (treeSize index (store .floats))
 unfolding tooManyNodes
 too-many-is index store =
     ap (λ (vectors : List (List Float)). ltb (index .capacities .nodes) (size (treeOf (splittingOf (index .dimension) (index .params)) vectors)))
-    (held-vectors index store)
+    (held-vectors-are index store)
 
 pub length-held : (index : CuratorIndex) (store : Store) → length (heldNodes index store) ≡ treeSize index (store .floats)
 length-held index store = ap length (held-nodes index store) ∙ length-nodesOf _ _ (heldEntries index store)

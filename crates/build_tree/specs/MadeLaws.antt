@@ -20,7 +20,7 @@ use Rattle.tree.specs.Nodes.{Entries, Node, nodesOf}
 use Rattle.tree.specs.Layout.{startOf}
 use Rattle.tree.specs.LayoutLaws.{length-blocks}
 use Rattle.tree.specs.Made.{madeFrom}
-use Rattle.tree.specs.Steps.{Group, isLeaf, split, childGroups, childGroups-leaf, childGroups-split, split-perm, made, rootGroup, made-ids, made-counts, made-centroids}
+use Rattle.tree.specs.Steps.{Group, isLeaf, splitGroup, childGroups, childGroups-leaf, childGroups-split, split-perm, made, rootGroup, made-ids, made-counts, made-centroids}
 use Rattle.waiting_groups.specs.Waiting.{encoded, own, stands, six, sixes, leaves, centroids}
 use Rattle.waiting_groups.specs.WaitingLaws.{length-encoded}
 use Rattle.build_tree.specs.Contracts.{SoundGroup}
@@ -78,8 +78,8 @@ module _ (s : Splitting) (vectors : List (List Float)) where
       subst (λ (x : ℕ). x < n) (at .2) (below (at .0) (at .1))
 
   split-sound : (n levels : ℕ) (ids : List ℕ) → 1 ≤ s .branching → levels ≤ 16 → ((i : ℕ) → i < length ids → getD ids i 0 < n) → (child : Group)
-      → List·Memᴰ child (split s vectors levels ids) → SoundGroup n child
-  unfolding split
+      → List·Memᴰ child (splitGroup s vectors levels ids) → SoundGroup n child
+  unfolding splitGroup
   split-sound n zero ids b few below child m = absurd (List·Memᴰ·not-nil m)
   split-sound n (suc levels) ids b few below child m =
       every-map (SoundGroup n) (λ group. record { levels = levels; ids = group }) (groups s vectors ids)

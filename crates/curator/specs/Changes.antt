@@ -9,7 +9,7 @@ use lib.ListN.{length, set, replicate}
 use lib.Seq.{sets}
 use Rattle.vector.specs.Vector.{dot, Normalized}
 use Rattle.store.specs.declared.Shape.{Shape}
-use Rattle.store.specs.Store.{Store, centroidsAt, ownersAt, orderAt, nodesAt, linksAt, entryOrderAt, filtersAt, centresPart, workPart, centroidsPart, orderPart, nodesPart, linksPart, entryOrderPart, filtersPart}
+use Rattle.store.specs.Store.{Store, ownersAt, centresPart, workPart, centroidsPart, orderPart, nodesPart, linksPart, entryOrderPart, filtersPart}
 use Rattle.tree.specs.Tree.{treeOf, size}
 use Rattle.tree.specs.Nodes.{Node, nodesOf}
 use Rattle.tree.specs.Layout.{numbersOf, hashesOf, floatsOf}

@@ -1,7 +1,8 @@
 -- Laws of the labels of an add: lengths from a place on, how many labels, and the hash of each.
+use Rattle.lists.specs.Parts.{length-pieces}
 use Prim.Native.Nat.{ℕ, suc, _+_, _<_}
-use mathlib.Core.Path.{_≡_, refl, ap, _∙_}
-use mathlib.Core.List.{List, [], _∷_, map}
+use mathlib.Core.Path.{_≡_, ap, _∙_}
+use mathlib.Core.List.{List, _∷_, map}
 use lib.ListN.{length, getD, drop, length-map}
 use lib.Seq.{drop-cons, drop-drop}
 use Rattle.label.specs.Fnv.{fnv}
@@ -14,13 +15,6 @@ use Rattle.curator.specs.Calls.{hashesOfLabels}
 pub total-drop : (l : List ℕ) (i : ℕ) → i < length l → total (drop i l) ≡ getD l i 0 + total (drop (suc i) l)
 unfolding total
 total-drop l i h = ap total (drop-cons l i 0 h)
-
--- ---- labels
-
-pub length-pieces : (lengths bytes : List ℕ) → length (pieces lengths bytes) ≡ length lengths
-unfolding pieces
-length-pieces [] bytes = refl
-length-pieces (n ∷ lengths) bytes = ap suc (length-pieces lengths (drop n bytes))
 
 -- ---- their hashes
 

@@ -12,19 +12,19 @@ use Rattle.echo_file.specs.declared.counted.Counted.the-variants.{Cut, P
 use Rattle.echo_file.specs.declared.Reading.the-variants.{Bad, Found}
 use Rattle.echo_file.specs.declared.Located.the-variants.{Settings, Vector, Filtered, Search}
 use Rattle.echo_file.specs.Format.{FileRecord}
-use Rattle.echo_file.specs.Decode.{Decoded, none, andThen, value, counted, numbers, settingsOf, decodeSettings, decodeVector, decodeFiltered, decodeUnfiltered, decodeAfter, decode}
+use Rattle.echo_file.specs.Decode.{Decoded, none, andThen, bytesValue, counted, numbers, settingsOf, decodeSettings, decodeVector, decodeFiltered, decodeUnfiltered, decodeAfter, decode}
 use Rattle.lists.specs.Lists.{total}
 use Rattle.echo_file.specs.Places.{NumberAt, CountedAt, Shows}
-use Rattle.echo_file.specs.Reads.{between}
+use Rattle.echo_file.specs.Reads.{bytesBetween}
 use Rattle.echo_file.specs.FieldLaws.{getD-numbers}
 use Rattle.echo_file.proofs.Skips.{Skip, Ends, skip-end, skip-length, split-goes, split-ends, goes, ends, number-is, patterns-between}
 
 -- one of the five numbers of settings
 five-at : (file : List ℕ) (at k : ℕ) {next n : ℕ} → Skip file at 20 next → k < 5 → NumberAt 4 file (at + 4 * k) n
-    → getD (numbers 5 (between at next file)) k 0 ≡ n
+    → getD (numbers 5 (bytesBetween at next file)) k 0 ≡ n
 five-at file at k {next} five h n-is =
-    getD-numbers 5 k (between at next file) h
-    ∙ ap value (part-part at (next - at) (4 * k) 4 file (omega (arith, five .place)))
+    getD-numbers 5 k (bytesBetween at next file) h
+    ∙ ap bytesValue (part-part at (next - at) (4 * k) 4 file (omega (arith, five .place)))
     ∙ sym (n-is .is)
 
 -- a count and the bytes that it counts
@@ -33,7 +33,7 @@ module _ {B : Type 0} {file : List ℕ} {at : ℕ} (next : List ℕ → List ℕ
   unfolding andThen
   counted-ends cut = rw (cut .same)
 
-  pub counted-goes : {from to : ℕ} → CountedAt file at (Part from to) → andThen (counted (drop at file)) next ≡ next (between from to file) (drop to file)
+  pub counted-goes : {from to : ℕ} → CountedAt file at (Part from to) → andThen (counted (drop at file)) next ≡ next (bytesBetween from to file) (drop to file)
   unfolding andThen
   counted-goes part = rw (part .same)
 
@@ -94,7 +94,7 @@ module _ (known : Known) (file : List ℕ) (at : ℕ) where
     vector-cut-lengths cut = goes _ refl id ∙ counted-ends _ cut
 
     module _ {lengths-at labels-at all : ℕ} (lengths : CountedAt file count-at (Part lengths-at labels-at))
-        (all-is : all ≡ total (between lengths-at labels-at file)) where
+        (all-is : all ≡ total (bytesBetween lengths-at labels-at file)) where
       pub vector-cut-labels : Ends file labels-at all → decodeVector known (drop at file) ≡ none
       unfolding decodeVector
       vector-cut-labels cut = goes _ refl id ∙ counted-goes _ lengths ∙ ends _ (sym all-is) cut

@@ -12,9 +12,9 @@ use Rattle.lists.specs.Parts.{length-part}
 use Rattle.echo_file.specs.declared.Known.{Known}
 use Rattle.echo_file.specs.declared.skip.Skipped.{Skipped}
 use Rattle.echo_file.specs.declared.skip.Skipped.the-variants.{Past, To}
-use Rattle.echo_file.specs.Decode.{Decoded, none, found, andThen, split, value, numbers}
+use Rattle.echo_file.specs.Decode.{Decoded, none, found, andThen, split, bytesValue, numbers}
 use Rattle.echo_file.specs.Places.{skipped, NumberAt}
-use Rattle.echo_file.specs.Reads.{between, patternsAt}
+use Rattle.echo_file.specs.Reads.{bytesBetween, patternsAt}
 use Rattle.echo_file.specs.FieldLaws.{numbers-take}
 
 pub cut-when : (size at n : ℕ) → size < at + n → Past ≡ skipped size at n
@@ -33,7 +33,7 @@ pub record Skip (file : List ℕ) (at n next : ℕ) : Type 0 where
 pub skip-end : {file : List ℕ} {at n next : ℕ} → Skip file at n next → next ≤ length file
 skip-end s = omega (arith, s .inside, s .place)
 
-pub skip-length : {file : List ℕ} {at n next : ℕ} → Skip file at n next → length (between at next file) ≡ n
+pub skip-length : {file : List ℕ} {at n next : ℕ} → Skip file at n next → length (bytesBetween at next file) ≡ n
 skip-length {file} {at} {n} {next} s =
     length-part at (next - at) file (omega (arith, s .inside, s .place)) ∙ omega (arith, s .place)
 
@@ -66,7 +66,7 @@ pub stopped-anywhere : {r : Skipped} (file : List ℕ) (at n : ℕ) → r ≡ sk
 stopped-anywhere file at n e f = let s = cut-short file at (suc n) e f in record { short = omega arith }
 
 -- the decoder at a place: m, the count that it reads, is n, the count that was skipped
-pub split-goes : {file : List ℕ} {at m n to : ℕ} → m ≡ n → Skip file at n to → split m (drop at file) ≡ found (between at to file) (drop to file)
+pub split-goes : {file : List ℕ} {at m n to : ℕ} → m ≡ n → Skip file at n to → split m (drop at file) ≡ found (bytesBetween at to file) (drop to file)
 unfolding split
 split-goes {file} {at} {m} {to = to} e s =
     let k : m ≤ length (drop at file) = rw length-drop (omega (arith, s .inside)) in
@@ -82,7 +82,7 @@ split-ends {file} {at} {m} e s =
 
 -- and what comes after the part
 pub goes : {B : Type 0} {file : List ℕ} {at m n to : ℕ} (next : List ℕ → List ℕ → Decoded B) → m ≡ n → Skip file at n to
-    → andThen (split m (drop at file)) next ≡ next (between at to file) (drop to file)
+    → andThen (split m (drop at file)) next ≡ next (bytesBetween at to file) (drop to file)
 unfolding andThen
 goes next e s = rw (split-goes e s)
 
@@ -92,12 +92,12 @@ unfolding andThen
 ends next e s = rw (split-ends e s)
 
 -- a number that was read stands between the places
-pub number-is : {file : List ℕ} {at w n next : ℕ} → Skip file at w next → NumberAt w file at n → value (between at next file) ≡ n
+pub number-is : {file : List ℕ} {at w n next : ℕ} → Skip file at w next → NumberAt w file at n → bytesValue (bytesBetween at next file) ≡ n
 number-is {file} {at} {w} {n} {next} s h =
     let d : next - at ≡ w = omega (arith, s .place) in
     rw d (sym (h .is))
 
 -- the floats up to a place are those from their start on
 pub patterns-between : (known : Known) (file : List ℕ) {at next : ℕ} → Skip file at (4 * known .dimension) next
-    → numbers (known .dimension) (between at next file) ≡ patternsAt known file at
+    → numbers (known .dimension) (bytesBetween at next file) ≡ patternsAt known file at
 patterns-between known file {at} {next} s = numbers-take (known .dimension) (next - at) (drop at file) (omega (arith, s .place))

@@ -11,29 +11,29 @@ use lib.Ieee.{Float, binary32, ofBits}
 use Rattle.lists.specs.Lists.{part, total}
 use Rattle.lists.specs.Counting.{sumOf}
 use Rattle.lists.specs.Parts.{part-append-parts, part-cons, part-zero, length-part}
-use Rattle.echo_file.specs.Decode.{value, numbers}
+use Rattle.echo_file.specs.Decode.{bytesValue, numbers}
 use Rattle.echo_file.specs.FieldLaws.{length-numbers, getD-numbers}
 
-value-append : (a b : List ℕ) → value (a ++ b) ≡ value a + 256 ^ length a * value b
-unfolding value
-value-append [] b = sym (ap (λ (n : ℕ). zero + n * value b) (pow-zero 256) ∙ zero-add (1 * value b) ∙ one-mul (value b))
+value-append : (a b : List ℕ) → bytesValue (a ++ b) ≡ bytesValue a + 256 ^ length a * bytesValue b
+unfolding bytesValue
+value-append [] b = sym (ap (λ (n : ℕ). zero + n * bytesValue b) (pow-zero 256) ∙ zero-add (1 * bytesValue b) ∙ one-mul (bytesValue b))
 value-append (x ∷ a) b =
-    let shift : 256 * (256 ^ length a * value b) ≡ 256 ^ suc (length a) * value b =
-    sym (mul-assoc 256 (256 ^ length a) (value b)) ∙ ap (λ (n : ℕ). n * value b) (mul-comm 256 (256 ^ length a) ∙ sym (pow-suc 256 (length a))) in
+    let shift : 256 * (256 ^ length a * bytesValue b) ≡ 256 ^ suc (length a) * bytesValue b =
+    sym (mul-assoc 256 (256 ^ length a) (bytesValue b)) ∙ ap (λ (n : ℕ). n * bytesValue b) (mul-comm 256 (256 ^ length a) ∙ sym (pow-suc 256 (length a))) in
     ap (λ (n : ℕ). x + 256 * n) (value-append a b)
-    ∙ ap (λ (n : ℕ). x + n) (mul-add 256 (value a) (256 ^ length a * value b) ∙ ap (λ (n : ℕ). 256 * value a + n) shift)
-    ∙ sym (add-assoc x (256 * value a) (256 ^ suc (length a) * value b))
+    ∙ ap (λ (n : ℕ). x + n) (mul-add 256 (bytesValue a) (256 ^ length a * bytesValue b) ∙ ap (λ (n : ℕ). 256 * bytesValue a + n) shift)
+    ∙ sym (add-assoc x (256 * bytesValue a) (256 ^ suc (length a) * bytesValue b))
 
 pub value-parts : (at m n : ℕ) (l : List ℕ) → at + m ≤ length l
-    → value (part at (m + n) l) ≡ value (part at m l) + 256 ^ m * value (part (at + m) n l)
+    → bytesValue (part at (m + n) l) ≡ bytesValue (part at m l) + 256 ^ m * bytesValue (part (at + m) n l)
 value-parts at m n l h =
-    ap value (sym (part-append-parts at m n l))
+    ap bytesValue (sym (part-append-parts at m n l))
     ∙ value-append (part at m l) (part (at + m) n l)
-    ∙ ap (λ (k : ℕ). value (part at m l) + 256 ^ k * value (part (at + m) n l)) (length-part at m l h)
+    ∙ ap (λ (k : ℕ). bytesValue (part at m l) + 256 ^ k * bytesValue (part (at + m) n l)) (length-part at m l h)
 
-pub value-one : (at : ℕ) (l : List ℕ) → at < length l → value (part at 1 l) ≡ getD l at 0
-unfolding value
-value-one at l h = ap value (part-cons at 0 l 0 h ∙ ap (λ (r : List ℕ). getD l at 0 ∷ r) (part-zero (suc at) l)) ∙ omega arith
+pub value-one : (at : ℕ) (l : List ℕ) → at < length l → bytesValue (part at 1 l) ≡ getD l at 0
+unfolding bytesValue
+value-one at l h = ap bytesValue (part-cons at 0 l 0 h ∙ ap (λ (r : List ℕ). getD l at 0 ∷ r) (part-zero (suc at) l)) ∙ omega arith
 
 -- the lengths from a place on
 pub total-drop : (l : List ℕ) (i : ℕ) → i < length l → total (drop i l) ≡ getD l i 0 + total (drop (suc i) l)
@@ -51,13 +51,13 @@ length-floatsAt file at n = length-map (numbers n (drop at file)) (ofBits binary
 
 -- one more is written
 pub float-turn : (file : List ℕ) (at : ℕ) (d out : List Float) (i : ℕ) (x : Float) → out ≡ paste d 0 (floatsAt file at (length d)) i → i < length d
-    → x ≡ ofBits binary32 (value (part (at + 4 * i) 4 file)) → set out i x ≡ paste d 0 (floatsAt file at (length d)) (i + 1)
+    → x ≡ ofBits binary32 (bytesValue (part (at + 4 * i) 4 file)) → set out i x ≡ paste d 0 (floatsAt file at (length d)) (i + 1)
 float-turn file at d out i x e h f =
     let s = floatsAt file at (length d) in
     let zero-float = ofBits binary32 0 in
     let here : getD s i zero-float ≡ x =
     List·getD-map (ofBits binary32) (numbers (length d) (drop at file)) i 0
-    ∙ ap (ofBits binary32) (getD-numbers (length d) i (drop at file) h ∙ ap (λ (l : List ℕ). value (take 4 l)) (drop-drop (4 * i) at file))
+    ∙ ap (ofBits binary32) (getD-numbers (length d) i (drop at file) h ∙ ap (λ (l : List ℕ). bytesValue (take 4 l)) (drop-drop (4 * i) at file))
     ∙ sym f in
     let l : i < length s = rw length-floatsAt h in
     let turn : set (paste d 0 s i) (0 + i) (getD s i zero-float) ≡ paste d 0 s (suc i) = paste-suc d 0 s i zero-float (rw zero-add h) l in

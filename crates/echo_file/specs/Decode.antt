@@ -23,20 +23,20 @@ unfoldable pub split : ℕ → List ℕ → Decoded (List ℕ)
 split n bytes = cond (leb n (length bytes)) (found (take n bytes) (drop n bytes)) none
 
 -- the number of some bytes, low byte first
-unfoldable pub value : List ℕ → ℕ
-value [] = 0
-value (b ∷ bytes) = b + 256 * value bytes
+unfoldable pub bytesValue : List ℕ → ℕ
+bytesValue [] = 0
+bytesValue (b ∷ bytes) = b + 256 * bytesValue bytes
 
 -- a count in one byte, and that many bytes
 unfoldable pub counted : List ℕ → Decoded (List ℕ)
-unfolding andThen split value
-counted bytes = andThen (split 1 bytes) (λ count rest. split (value count) rest)
+unfolding andThen split bytesValue
+counted bytes = andThen (split 1 bytes) (λ count rest. split (bytesValue count) rest)
 
 -- a count of numbers, four bytes each, from the front
 unfoldable pub numbers : ℕ → List ℕ → List ℕ
-unfolding value
+unfolding bytesValue
 numbers zero bytes = []
-numbers (suc n) bytes = value (take 4 bytes) ∷ numbers n (drop 4 bytes)
+numbers (suc n) bytes = bytesValue (take 4 bytes) ∷ numbers n (drop 4 bytes)
 
 -- five numbers, as settings
 unfoldable pub settingsOf : List ℕ → FileRecord
@@ -49,28 +49,28 @@ unfolding andThen split numbers settingsOf
 decodeSettings bytes = andThen (split 20 bytes) (λ five rest. found (settingsOf (numbers 5 five)) rest)
 
 unfoldable pub decodeVector : Known → List ℕ → Decoded FileRecord
-unfolding andThen split value counted numbers pieces total
+unfolding andThen split bytesValue counted numbers pieces total
 decodeVector known bytes =
     andThen (split 4 bytes) (λ document rest.
     andThen (counted rest) (λ lengths rest.
     andThen (split (total lengths) rest) (λ labels rest.
     andThen (split (4 * known .dimension) rest) (λ floats rest.
-    found (vector (value document) (pieces lengths labels) (numbers (known .dimension) floats)) rest))))
+    found (vector (bytesValue document) (pieces lengths labels) (numbers (known .dimension) floats)) rest))))
 
 unfoldable pub decodeFiltered : Known → List ℕ → Decoded FileRecord
-unfolding andThen split value counted numbers
+unfolding andThen split bytesValue counted numbers
 decodeFiltered known bytes =
     andThen (split 2 bytes) (λ k rest.
     andThen (counted rest) (λ label rest.
     andThen (split (4 * known .dimension) rest) (λ floats rest.
-    found (filtered (value k) label (numbers (known .dimension) floats)) rest)))
+    found (filtered (bytesValue k) label (numbers (known .dimension) floats)) rest)))
 
 unfoldable pub decodeUnfiltered : Known → List ℕ → Decoded FileRecord
-unfolding andThen split value numbers
+unfolding andThen split bytesValue numbers
 decodeUnfiltered known bytes =
     andThen (split 2 bytes) (λ k rest.
     andThen (split (4 * known .dimension) rest) (λ floats rest.
-    found (unfiltered (value k) (numbers (known .dimension) floats)) rest))
+    found (unfiltered (bytesValue k) (numbers (known .dimension) floats)) rest))
 
 -- by the mark, read as a number
 unfoldable pub decodeAfter : Known → ℕ → List ℕ → Decoded FileRecord
@@ -83,5 +83,5 @@ decodeAfter known mark =
     (λ bytes. none))))
 
 unfoldable pub decode : Known → List ℕ → Decoded FileRecord
-unfolding andThen split value decodeAfter
-decode known bytes = andThen (split 2 bytes) (λ mark rest. decodeAfter known (value mark) rest)
+unfolding andThen split bytesValue decodeAfter
+decode known bytes = andThen (split 2 bytes) (λ mark rest. decodeAfter known (bytesValue mark) rest)

@@ -1,5 +1,6 @@
 -- The decoder is the format's: it finds a record and a rest exactly if the bytes begin with that record and go on with that rest.
 -- Each record is a row of parts, each of a length that the parts before it give; so bytes are cut into its parts in one way only.
+use Rattle.lists.specs.Parts.{length-pieces}
 use Prim.Native.Nat.{ℕ, _*_, _^_, _≤_, _<_}
 use mathlib.Core.Path.{_≡_, refl, sym, ap, ap₂, _∙_, subst}
 use mathlib.Core.Logic.{_↔_}
@@ -12,10 +13,10 @@ use lib.Dec.{eqb, leb}
 use borrow.Author.Tests.{leb-true, le-leb, eqb-true}
 use Rattle.lists.specs.Counting.{getD-Memᴰ}
 use Rattle.echo_file.specs.declared.Known.{Known}
-use Rattle.echo_file.specs.Format.{FileRecord, settings, vector, filtered, unfiltered, mark, number, fours, labelBytes, encode, Each, Bytes, Floats, Fits, Begins}
-use Rattle.echo_file.specs.Decode.{Decoded, none, found, andThen, split, value, counted, numbers, settingsOf, decodeSettings, decodeVector, decodeFiltered, decodeUnfiltered, decodeAfter, decode}
+use Rattle.echo_file.specs.Format.{FileRecord, settings, vector, filtered, unfiltered, mark, numberBytes, fours, labelBytes, encode, Each, Bytes, Floats, Fits, Begins}
+use Rattle.echo_file.specs.Decode.{Decoded, none, found, andThen, split, bytesValue, counted, numbers, settingsOf, decodeSettings, decodeVector, decodeFiltered, decodeUnfiltered, decodeAfter, decode}
 use Rattle.lists.specs.Lists.{pieces, total}
-use Rattle.echo_file.specs.FieldLaws.{each-cons, each-nil, bytes-take, bytes-drop, length-number, value-number, number-of, value-below, length-fours, length-numbers, numbers-fours, fours-numbers, numbers-width, length-labelBytes, pieces-labelBytes, labelBytes-pieces, lengths-pieces, length-pieces, each-label}
+use Rattle.echo_file.specs.FieldLaws.{each-cons, each-nil, bytes-take, bytes-drop, length-number, value-number, number-bytes, value-below, length-fours, length-numbers, numbers-fours, fours-numbers, numbers-width, length-labelBytes, pieces-labelBytes, labelBytes-pieces, lengths-pieces, each-label}
 
 -- ---- one part
 
@@ -33,11 +34,11 @@ step n front rest next e = rw (split-append n front rest e)
 
 -- a count and the bytes that it counts
 step-counted : {B : Type 0} (n : ℕ) (front rest : List ℕ) (next : List ℕ → List ℕ → Decoded B) → length front ≡ n → n < 256
-    → andThen (counted (number 1 n ++ (front ++ rest))) next ≡ next front rest
+    → andThen (counted (numberBytes 1 n ++ (front ++ rest))) next ≡ next front rest
 unfolding counted andThen
 step-counted n front rest next e h =
     ap (λ (d : Decoded (List ℕ)). andThen d next)
-    (step 1 (number 1 n) (front ++ rest) (λ count r. split (value count) r) (length-number 1 n)
+    (step 1 (numberBytes 1 n) (front ++ rest) (λ count r. split (bytesValue count) r) (length-number 1 n)
     ∙ ap (λ (k : ℕ). split k (front ++ rest)) (value-number 1 n h)
     ∙ split-append n front rest e)
 
@@ -50,17 +51,17 @@ settings-parts d b l e w rest = append-assoc (mark 0x01) (fours (d ∷ b ∷ l �
 
 vector-parts : (document : ℕ) (labels : List (List ℕ)) (patterns rest : List ℕ)
     → encode (vector document labels patterns) ++ rest
-    ≡ mark 0x02 ++ (number 4 document ++ (number 1 (length labels) ++ (map length labels ++ (labelBytes labels ++ (fours patterns ++ rest)))))
+    ≡ mark 0x02 ++ (numberBytes 4 document ++ (numberBytes 1 (length labels) ++ (map length labels ++ (labelBytes labels ++ (fours patterns ++ rest)))))
 unfolding encode
 vector-parts document labels patterns rest = simp append-assoc
 
 filtered-parts : (k : ℕ) (label patterns rest : List ℕ)
-    → encode (filtered k label patterns) ++ rest ≡ mark 0x04 ++ (number 2 k ++ (number 1 (length label) ++ (label ++ (fours patterns ++ rest))))
+    → encode (filtered k label patterns) ++ rest ≡ mark 0x04 ++ (numberBytes 2 k ++ (numberBytes 1 (length label) ++ (label ++ (fours patterns ++ rest))))
 unfolding encode
 filtered-parts k label patterns rest = simp append-assoc
 
 unfiltered-parts : (k : ℕ) (patterns rest : List ℕ)
-    → encode (unfiltered k patterns) ++ rest ≡ mark 0x05 ++ (number 2 k ++ (fours patterns ++ rest))
+    → encode (unfiltered k patterns) ++ rest ≡ mark 0x05 ++ (numberBytes 2 k ++ (fours patterns ++ rest))
 unfolding encode
 unfiltered-parts k patterns rest = simp append-assoc
 
@@ -73,9 +74,9 @@ floats-back : (known : Known) (patterns : List ℕ) → Floats known patterns �
 floats-back known patterns h =
     ap₂ numbers (sym (h .count)) (sym (append-nil (fours patterns))) ∙ numbers-fours patterns [] (h .width)
 
-after-mark : (known : Known) (second : ℕ) (rest : List ℕ) → decode known (mark second ++ rest) ≡ decodeAfter known (value (mark second)) rest
+after-mark : (known : Known) (second : ℕ) (rest : List ℕ) → decode known (mark second ++ rest) ≡ decodeAfter known (bytesValue (mark second)) rest
 unfolding decode mark
-after-mark known second rest = step 2 (mark second) rest (λ m r. decodeAfter known (value m) r) refl
+after-mark known second rest = step 2 (mark second) rest (λ m r. decodeAfter known (bytesValue m) r) refl
 
 complete-settings : (known : Known) (d b l e w : ℕ) (rest : List ℕ) → Fits known (settings d b l e w)
     → decodeSettings (fours (d ∷ b ∷ l ∷ e ∷ w ∷ []) ++ rest) ≡ found (settings d b l e w) rest
@@ -101,36 +102,36 @@ same-unfiltered : {k k′ : ℕ} {p p′ : List ℕ} (rest : List ℕ) → k ≡
 same-unfiltered rest a b = cc
 
 complete-vector : (known : Known) (document : ℕ) (labels : List (List ℕ)) (patterns rest : List ℕ) → Fits known (vector document labels patterns)
-    → decodeVector known (number 4 document ++ (number 1 (length labels) ++ (map length labels ++ (labelBytes labels ++ (fours patterns ++ rest)))))
+    → decodeVector known (numberBytes 4 document ++ (numberBytes 1 (length labels) ++ (map length labels ++ (labelBytes labels ++ (fours patterns ++ rest)))))
     ≡ found (vector document labels patterns) rest
 unfolding decodeVector
 complete-vector known document labels patterns rest h =
-    step 4 (number 4 document) _ _ (length-number 4 document)
+    step 4 (numberBytes 4 document) _ _ (length-number 4 document)
     ∙ step-counted (length labels) (map length labels) _ _ (length-map labels length) (h .1)
     ∙ step _ (labelBytes labels) _ _ (length-labelBytes labels)
     ∙ step _ (fours patterns) rest _ (four-numbers known patterns (h .3))
     ∙ same-vector rest (value-number 4 document (h .0)) (pieces-labelBytes labels) (floats-back known patterns (h .3))
 
 complete-filtered : (known : Known) (k : ℕ) (label patterns rest : List ℕ) → Fits known (filtered k label patterns)
-    → decodeFiltered known (number 2 k ++ (number 1 (length label) ++ (label ++ (fours patterns ++ rest)))) ≡ found (filtered k label patterns) rest
+    → decodeFiltered known (numberBytes 2 k ++ (numberBytes 1 (length label) ++ (label ++ (fours patterns ++ rest)))) ≡ found (filtered k label patterns) rest
 unfolding decodeFiltered
 complete-filtered known k label patterns rest h =
-    step 2 (number 2 k) _ _ (length-number 2 k)
+    step 2 (numberBytes 2 k) _ _ (length-number 2 k)
     ∙ step-counted (length label) label _ _ refl (h .1 .short)
     ∙ step _ (fours patterns) rest _ (four-numbers known patterns (h .2))
     ∙ same-filtered label rest (value-number 2 k (h .0)) (floats-back known patterns (h .2))
 
 complete-unfiltered : (known : Known) (k : ℕ) (patterns rest : List ℕ) → Fits known (unfiltered k patterns)
-    → decodeUnfiltered known (number 2 k ++ (fours patterns ++ rest)) ≡ found (unfiltered k patterns) rest
+    → decodeUnfiltered known (numberBytes 2 k ++ (fours patterns ++ rest)) ≡ found (unfiltered k patterns) rest
 unfolding decodeUnfiltered
 complete-unfiltered known k patterns rest h =
-    step 2 (number 2 k) _ _ (length-number 2 k)
+    step 2 (numberBytes 2 k) _ _ (length-number 2 k)
     ∙ step _ (fours patterns) rest _ (four-numbers known patterns (h .1))
     ∙ same-unfiltered rest (value-number 2 k (h .0)) (floats-back known patterns (h .1))
 
 -- A record that fits is found at the front of its bytes, with what comes after them.
 pub complete : (known : Known) (r : FileRecord) (rest : List ℕ) → Fits known r → decode known (encode r ++ rest) ≡ found r rest
-unfolding decodeAfter mark value
+unfolding decodeAfter mark bytesValue
 complete known (settings d b l e w) rest h =
     ap (decode known) (settings-parts d b l e w rest) ∙ after-mark known 0x01 _ ∙ complete-settings known d b l e w rest h
 complete known (vector document labels patterns) rest h =
@@ -168,16 +169,16 @@ andThen-assoc (found a rest) f g = refl
 
 -- a count and the bytes that it counts
 sound-counted : (known : Known) (all bytes : List ℕ) (next : List ℕ → List ℕ → Decoded FileRecord) → Bytes bytes
-    → ((front rest : List ℕ) → length front < 256 → bytes ≡ number 1 (length front) ++ (front ++ rest) → Bytes front → Bytes rest
+    → ((front rest : List ℕ) → length front < 256 → bytes ≡ numberBytes 1 (length front) ++ (front ++ rest) → Bytes front → Bytes rest
     → Sound known all (next front rest))
     → Sound known all (andThen (counted bytes) next)
 unfolding counted
 sound-counted known all bytes next h go =
-    subst (Sound known all) (sym (andThen-assoc (split 1 bytes) (λ count rest. split (value count) rest) next))
+    subst (Sound known all) (sym (andThen-assoc (split 1 bytes) (λ count rest. split (bytesValue count) rest) next))
     (sound-part known all 1 bytes _ h (λ count r1 e1 q1 b1 h1.
-    sound-part known all (value count) r1 next h1 (λ front rest e2 q2 b2 h2.
-    let short : value count < 256 = value-below 1 count b1 e1 in
-    let count-is : number 1 (length front) ≡ count = ap (number 1) e2 ∙ number-of 1 count b1 e1 in
+    sound-part known all (bytesValue count) r1 next h1 (λ front rest e2 q2 b2 h2.
+    let short : bytesValue count < 256 = value-below 1 count b1 e1 in
+    let count-is : numberBytes 1 (length front) ≡ count = ap (numberBytes 1) e2 ∙ number-bytes 1 count b1 e1 in
     go front rest (omega arith) (rw (count-is, q1, q2)) b2 h2)))
 
 floats-found : (known : Known) (bytes : List ℕ) → Bytes bytes → length bytes ≡ 4 * known .dimension → Floats known (numbers (known .dimension) bytes)
@@ -216,8 +217,8 @@ sound-vector known bytes h =
       fits = (value-below 4 document b1 e1, omega arith, each-label lengths labels b2 b3 e3, floats-found known floats b4 e4);
       split =
           rw (
-            vector-parts (value document) (pieces lengths labels) (numbers (known .dimension) floats) rest,
-            number-of 4 document b1 e1,
+            vector-parts (bytesValue document) (pieces lengths labels) (numbers (known .dimension) floats) rest,
+            number-bytes 4 document b1 e1,
             c,
             lengths-pieces lengths labels e3,
             labelBytes-pieces lengths labels e3,
@@ -240,8 +241,8 @@ sound-filtered known bytes h =
       fits = (value-below 2 k b1 e1, record { short = short; bytes = b2 }, floats-found known floats b3 e3);
       split =
           rw (
-            filtered-parts (value k) label (numbers (known .dimension) floats) rest,
-            number-of 2 k b1 e1,
+            filtered-parts (bytesValue k) label (numbers (known .dimension) floats) rest,
+            number-bytes 2 k b1 e1,
             fours-numbers (known .dimension) floats b3 e3,
             q1,
             q2,
@@ -259,8 +260,8 @@ sound-unfiltered known bytes h =
       fits = (value-below 2 k b1 e1, floats-found known floats b2 e2);
       split =
           rw (
-            unfiltered-parts (value k) (numbers (known .dimension) floats) rest,
-            number-of 2 k b1 e1,
+            unfiltered-parts (bytesValue k) (numbers (known .dimension) floats) rest,
+            number-bytes 2 k b1 e1,
             fours-numbers (known .dimension) floats b2 e2,
             q1,
             q2,
@@ -269,17 +270,17 @@ sound-unfiltered known bytes h =
 
 -- the kinds, by the number of the mark
 sound-after : (known : Known) (front rest : List ℕ) → Bytes front → length front ≡ 2 → Bytes rest
-    → Sound known (front ++ rest) (decodeAfter known (value front) rest)
-unfolding decodeAfter mark number
+    → Sound known (front ++ rest) (decodeAfter known (bytesValue front) rest)
+unfolding decodeAfter mark numberBytes
 sound-after known front rest h e hr =
-    go (eqb (value front) 0x015A) (eqb (value front) 0x025A) (eqb (value front) 0x045A) (eqb (value front) 0x055A) refl refl refl refl
+    go (eqb (bytesValue front) 0x015A) (eqb (bytesValue front) 0x025A) (eqb (bytesValue front) 0x045A) (eqb (bytesValue front) 0x055A) refl refl refl refl
   where
-    at : (second n : ℕ) {d : Decoded FileRecord} → number 2 n ≡ mark second → eqb (value front) n ≡ true → Sound known (mark second ++ rest) d
+    at : (second n : ℕ) {d : Decoded FileRecord} → numberBytes 2 n ≡ mark second → eqb (bytesValue front) n ≡ true → Sound known (mark second ++ rest) d
         → Sound known (front ++ rest) d
     at second n {d} m v =
-        subst (λ (l : List ℕ). Sound known (l ++ rest) d) (sym m ∙ ap (number 2) (sym (eqb-true (value front) n v)) ∙ number-of 2 front h e)
+        subst (λ (l : List ℕ). Sound known (l ++ rest) d) (sym m ∙ ap (numberBytes 2) (sym (eqb-true (bytesValue front) n v)) ∙ number-bytes 2 front h e)
 
-    go : (a b c d : Bool) → eqb (value front) 0x015A ≡ a → eqb (value front) 0x025A ≡ b → eqb (value front) 0x045A ≡ c → eqb (value front) 0x055A ≡ d
+    go : (a b c d : Bool) → eqb (bytesValue front) 0x015A ≡ a → eqb (bytesValue front) 0x025A ≡ b → eqb (bytesValue front) 0x045A ≡ c → eqb (bytesValue front) 0x055A ≡ d
         → Sound known (front ++ rest)
         (cond a decodeSettings (cond b (decodeVector known) (cond c (decodeFiltered known) (cond d (decodeUnfiltered known) (λ bytes. none)))) rest)
     go true b c d v _ _ _ = at 0x01 0x015A refl v (sound-settings known rest hr)
@@ -292,7 +293,7 @@ sound-decode : (known : Known) (bytes : List ℕ) → Bytes bytes → Sound know
 unfolding decode
 sound-decode known bytes h =
     sound-part known bytes 2 bytes _ h (λ front rest e q hf hr.
-    subst (λ (l : List ℕ). Sound known l (decodeAfter known (value front) rest)) (sym q) (sound-after known front rest hf e hr))
+    subst (λ (l : List ℕ). Sound known l (decodeAfter known (bytesValue front) rest)) (sym q) (sound-after known front rest hf e hr))
 
 -- What is found begins the bytes.
 pub sound : (known : Known) (bytes : List ℕ) (r : FileRecord) (rest : List ℕ) → Bytes bytes → decode known bytes ≡ found r rest → Begins known bytes r rest

@@ -9,8 +9,8 @@ use lib.ListN.{length, getD, take, drop, length-append, length-drop, take-append
 use lib.Seq.{take-at, drop-at, length-take-le, take-take, drop-drop}
 use Rattle.lists.specs.Lists.{joined, pieces, total}
 use Rattle.lists.specs.Parts.{drop-take}
-use Rattle.echo_file.specs.Format.{number, fours, labelBytes, Each, Bytes, Label}
-use Rattle.echo_file.specs.Decode.{value, numbers}
+use Rattle.echo_file.specs.Format.{numberBytes, fours, labelBytes, Each, Bytes, Label}
+use Rattle.echo_file.specs.Decode.{bytesValue, numbers}
 
 -- ---- bytes
 
@@ -35,43 +35,43 @@ each-nil P x m = absurd (List·Memᴰ·not-nil m)
 
 -- ---- a number
 
-pub length-number : (w n : ℕ) → length (number w n) ≡ w
-unfolding number
+pub length-number : (w n : ℕ) → length (numberBytes w n) ≡ w
+unfolding numberBytes
 length-number zero n = refl
 length-number (suc w) n = ap suc (length-number w (n / 256))
 
-pub value-number : (w n : ℕ) → n < 256 ^ w → value (number w n) ≡ n
-unfolding number value
+pub value-number : (w n : ℕ) → n < 256 ^ w → bytesValue (numberBytes w n) ≡ n
+unfolding numberBytes bytesValue
 value-number zero n h = let k : n < 1 = rw pow-zero at h in omega arith
 value-number (suc w) n h =
     let k : n < 256 ^ w * 256 = rw pow-suc at h in
     let e = value-number w (n / 256) (div-lt-iff-lt-mul (zero-lt-suc 255) .1 k) in
     rw e (omega arith)
 
-pub number-value : (bytes : List ℕ) → Bytes bytes → number (length bytes) (value bytes) ≡ bytes
-unfolding number value
+pub number-value : (bytes : List ℕ) → Bytes bytes → numberBytes (length bytes) (bytesValue bytes) ≡ bytes
+unfolding numberBytes bytesValue
 number-value [] h = refl
 number-value (b ∷ bytes) h =
     let k : b < 256 = h b (List·Memᴰ·head refl) in
-    let q : (b + 256 * value bytes) / 256 ≡ value bytes = omega arith in
-    let r : (b + 256 * value bytes) % 256 ≡ b = omega arith in
-    ap₂ (λ (x : ℕ) (l : List ℕ). x ∷ l) r (ap (number (length bytes)) q ∙ number-value bytes (bytes-tail h))
+    let q : (b + 256 * bytesValue bytes) / 256 ≡ bytesValue bytes = omega arith in
+    let r : (b + 256 * bytesValue bytes) % 256 ≡ b = omega arith in
+    ap₂ (λ (x : ℕ) (l : List ℕ). x ∷ l) r (ap (numberBytes (length bytes)) q ∙ number-value bytes (bytes-tail h))
 
-pub value-lt : (bytes : List ℕ) → Bytes bytes → value bytes < 256 ^ length bytes
-unfolding value
+pub value-lt : (bytes : List ℕ) → Bytes bytes → bytesValue bytes < 256 ^ length bytes
+unfolding bytesValue
 value-lt [] h = let k : 0 < 256 ^ zero = rw pow-zero (omega arith) in k
 value-lt (b ∷ bytes) h =
     let k : b < 256 = h b (List·Memᴰ·head refl) in
     let v = value-lt bytes (bytes-tail h) in
-    let g : b + 256 * value bytes < 256 ^ length bytes * 256 = omega arith in
+    let g : b + 256 * bytesValue bytes < 256 ^ length bytes * 256 = omega arith in
     rw pow-suc g
 
 -- in a given width
-pub number-of : (w : ℕ) (bytes : List ℕ) → Bytes bytes → length bytes ≡ w → number w (value bytes) ≡ bytes
-number-of w bytes h e = ap (λ (k : ℕ). number k (value bytes)) (sym e) ∙ number-value bytes h
+pub number-bytes : (w : ℕ) (bytes : List ℕ) → Bytes bytes → length bytes ≡ w → numberBytes w (bytesValue bytes) ≡ bytes
+number-bytes w bytes h e = ap (λ (k : ℕ). numberBytes k (bytesValue bytes)) (sym e) ∙ number-value bytes h
 
-pub value-below : (w : ℕ) (bytes : List ℕ) → Bytes bytes → length bytes ≡ w → value bytes < 256 ^ w
-value-below w bytes h e = subst (λ (k : ℕ). value bytes < 256 ^ k) e (value-lt bytes h)
+pub value-below : (w : ℕ) (bytes : List ℕ) → Bytes bytes → length bytes ≡ w → bytesValue bytes < 256 ^ w
+value-below w bytes h e = subst (λ (k : ℕ). bytesValue bytes < 256 ^ k) e (value-lt bytes h)
 
 -- ---- numbers of four bytes
 
@@ -81,7 +81,7 @@ length-fours [] = refl
 length-fours (n ∷ ns) =
     let a = length-number 4 n in
     let b = length-fours ns in
-    length-append (number 4 n) (fours ns) ∙ omega (arith, a, b)
+    length-append (numberBytes 4 n) (fours ns) ∙ omega (arith, a, b)
 
 pub length-numbers : (n : ℕ) (bytes : List ℕ) → length (numbers n bytes) ≡ n
 unfolding numbers
@@ -93,15 +93,15 @@ pub numbers-fours : (ns rest : List ℕ) → Each (λ n. n < 2 ^ 32) ns → numb
 unfolding numbers fours joined
 numbers-fours [] rest h = refl
 numbers-fours (n ∷ ns) rest h =
-    let front : number 4 n ++ fours ns ++ rest ≡ number 4 n ++ (fours ns ++ rest) = append-assoc (number 4 n) (fours ns) rest in
+    let front : numberBytes 4 n ++ fours ns ++ rest ≡ numberBytes 4 n ++ (fours ns ++ rest) = append-assoc (numberBytes 4 n) (fours ns) rest in
     let k : n < 2 ^ 32 = h n (List·Memᴰ·head refl) in
-    let one : value (take 4 (number 4 n ++ fours ns ++ rest)) ≡ n =
-    ap (λ (l : List ℕ). value (take 4 l)) front
-    ∙ ap value (take-at (number 4 n) (fours ns ++ rest) 4 (length-number 4 n))
+    let one : bytesValue (take 4 (numberBytes 4 n ++ fours ns ++ rest)) ≡ n =
+    ap (λ (l : List ℕ). bytesValue (take 4 l)) front
+    ∙ ap bytesValue (take-at (numberBytes 4 n) (fours ns ++ rest) 4 (length-number 4 n))
     ∙ value-number 4 n k in
-    let more : numbers (length ns) (drop 4 (number 4 n ++ fours ns ++ rest)) ≡ ns =
+    let more : numbers (length ns) (drop 4 (numberBytes 4 n ++ fours ns ++ rest)) ≡ ns =
     ap (λ (l : List ℕ). numbers (length ns) (drop 4 l)) front
-    ∙ ap (numbers (length ns)) (drop-at (number 4 n) (fours ns ++ rest) 4 (length-number 4 n))
+    ∙ ap (numbers (length ns)) (drop-at (numberBytes 4 n) (fours ns ++ rest) 4 (length-number 4 n))
     ∙ numbers-fours ns rest (λ x m. h x (List·Memᴰ·tail m)) in
     ap₂ (λ (x : ℕ) (l : List ℕ). x ∷ l) one more
 
@@ -118,7 +118,7 @@ fours-numbers zero [] h e = refl
 fours-numbers zero (b ∷ bytes) h e = absurd (omega arith)
 fours-numbers (suc n) bytes h e =
     ap₂ (λ (a b : List ℕ). a ++ b)
-    (number-of 4 (take 4 bytes) (bytes-take 4 bytes h) (four-front n bytes e))
+    (number-bytes 4 (take 4 bytes) (bytes-take 4 bytes h) (four-front n bytes e))
     (fours-numbers n (drop 4 bytes) (bytes-drop 4 bytes h) (four-rest n bytes e))
     ∙ take-append-drop 4 bytes
 
@@ -126,7 +126,7 @@ pub numbers-width : (n : ℕ) (bytes : List ℕ) → Bytes bytes → length byte
 unfolding numbers
 numbers-width zero bytes h e = each-nil (λ x. x < 2 ^ 32)
 numbers-width (suc n) bytes h e =
-    each-cons (λ x. x < 2 ^ 32) (value (take 4 bytes)) (numbers n (drop 4 bytes))
+    each-cons (λ x. x < 2 ^ 32) (bytesValue (take 4 bytes)) (numbers n (drop 4 bytes))
     (value-below 4 (take 4 bytes) (bytes-take 4 bytes h) (four-front n bytes e))
     (numbers-width n (drop 4 bytes) (bytes-drop 4 bytes h) (four-rest n bytes e))
 
@@ -137,18 +137,18 @@ numbers-take zero k bytes h = refl
 numbers-take (suc n) k bytes h =
     let g : 4 * n ≤ k - 4 = omega arith in
     ap₂ (λ (x : ℕ) (l : List ℕ). x ∷ l)
-    (ap value (take-take 4 k bytes (omega arith)))
+    (ap bytesValue (take-take 4 k bytes (omega arith)))
     (ap (numbers n) (drop-take 4 k bytes) ∙ numbers-take n (k - 4) (drop 4 bytes) g)
 
 -- the number at a place among them
-pub getD-numbers : (n i : ℕ) (bytes : List ℕ) → i < n → getD (numbers n bytes) i 0 ≡ value (take 4 (drop (4 * i) bytes))
+pub getD-numbers : (n i : ℕ) (bytes : List ℕ) → i < n → getD (numbers n bytes) i 0 ≡ bytesValue (take 4 (drop (4 * i) bytes))
 unfolding numbers
 getD-numbers zero i bytes h = absurd (not-suc-le-zero h)
 getD-numbers (suc n) zero bytes h = refl
 getD-numbers (suc n) (suc i) bytes h =
     let e : 4 + 4 * i ≡ 4 * suc i = omega arith in
     getD-numbers n i (drop 4 bytes) (le-of-suc-le-suc h)
-    ∙ ap (λ (l : List ℕ). value (take 4 l)) (drop-drop (4 * i) 4 bytes ∙ ap (λ (k : ℕ). drop k bytes) e)
+    ∙ ap (λ (l : List ℕ). bytesValue (take 4 l)) (drop-drop (4 * i) 4 bytes ∙ ap (λ (k : ℕ). drop k bytes) e)
 
 -- ---- labels
 
@@ -191,11 +191,6 @@ lengths-pieces [] bytes e = refl
 lengths-pieces (n ∷ lengths) bytes e =
     ap₂ (λ (x : ℕ) (l : List ℕ). x ∷ l) (label-front n lengths bytes e)
     (lengths-pieces lengths (drop n bytes) (label-rest n lengths bytes e))
-
-pub length-pieces : (lengths bytes : List ℕ) → length (pieces lengths bytes) ≡ length lengths
-unfolding pieces
-length-pieces [] bytes = refl
-length-pieces (n ∷ lengths) bytes = ap suc (length-pieces lengths (drop n bytes))
 
 pub each-label : (lengths bytes : List ℕ) → Bytes lengths → Bytes bytes → length bytes ≡ total lengths → Each Label (pieces lengths bytes)
 unfolding pieces

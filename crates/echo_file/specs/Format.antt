@@ -22,14 +22,14 @@ unfoldable pub mark : ℕ → List ℕ
 mark second = 0x5A ∷ second ∷ []
 
 -- 'numbers are low byte first': a number in a count of bytes
-unfoldable pub number : ℕ → ℕ → List ℕ
-number zero n = []
-number (suc width) n = n % 256 ∷ number width (n / 256)
+unfoldable pub numberBytes : ℕ → ℕ → List ℕ
+numberBytes zero n = []
+numberBytes (suc width) n = n % 256 ∷ numberBytes width (n / 256)
 
 -- numbers of four bytes each, one after the other
 unfoldable pub fours : List ℕ → List ℕ
-unfolding number joined
-fours ns = joined (number 4) ns
+unfolding numberBytes joined
+fours ns = joined (numberBytes 4) ns
 
 -- the bytes of all labels, one after the other
 unfoldable pub labelBytes : List (List ℕ) → List ℕ
@@ -38,12 +38,12 @@ labelBytes labels = joined (λ label. label) labels
 
 -- the bytes of a record
 unfoldable pub encode : FileRecord → List ℕ
-unfolding mark number fours labelBytes
+unfolding mark numberBytes fours labelBytes
 encode (settings dimension branching leaf-size ef beam) = mark 0x01 ++ fours (dimension ∷ branching ∷ leaf-size ∷ ef ∷ beam ∷ [])
 encode (vector document labels patterns) =
-    mark 0x02 ++ number 4 document ++ number 1 (length labels) ++ map length labels ++ labelBytes labels ++ fours patterns
-encode (filtered k label patterns) = mark 0x04 ++ number 2 k ++ number 1 (length label) ++ label ++ fours patterns
-encode (unfiltered k patterns) = mark 0x05 ++ number 2 k ++ fours patterns
+    mark 0x02 ++ numberBytes 4 document ++ numberBytes 1 (length labels) ++ map length labels ++ labelBytes labels ++ fours patterns
+encode (filtered k label patterns) = mark 0x04 ++ numberBytes 2 k ++ numberBytes 1 (length label) ++ label ++ fours patterns
+encode (unfiltered k patterns) = mark 0x05 ++ numberBytes 2 k ++ fours patterns
 
 -- every element of a list has a property
 abbrev pub Each : {A : Type 0} → (A → Type 0) → List A → Type 0

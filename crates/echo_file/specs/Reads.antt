@@ -12,8 +12,8 @@ use Rattle.echo_file.specs.Format.{FileRecord, settings, vector, filtere
 use Rattle.echo_file.specs.Decode.{numbers}
 
 -- the bytes from a place to another, `&file[from..to]`
-abbrev pub between : ℕ → ℕ → List ℕ → List ℕ
-between from to file = part from (to - from) file
+abbrev pub bytesBetween : ℕ → ℕ → List ℕ → List ℕ
+bytesBetween from to file = part from (to - from) file
 
 -- the patterns of D floats from a place on
 abbrev pub patternsAt : Known → List ℕ → ℕ → List ℕ
@@ -30,14 +30,14 @@ pub record VectorStands (known : Known) (file : List ℕ) (at document lengths-a
   pub labels : List (List ℕ)
   pub stands : Stands known file at (vector document labels (patternsAt known file floats-at)) next
   pub lengths-order : lengths-at ≤ labels-at
-  pub lengths : between lengths-at labels-at file ≡ map length labels
+  pub lengths : bytesBetween lengths-at labels-at file ≡ map length labels
   pub labels-order : labels-at ≤ floats-at
-  pub bytes : between labels-at floats-at file ≡ labelBytes labels
+  pub bytes : bytesBetween labels-at floats-at file ≡ labelBytes labels
   pub floats-end : floats-at + 4 * known .dimension ≡ next
 
 -- A filtered search stands there, its label and floats at these places.
 pub record FilteredStands (known : Known) (file : List ℕ) (at k label-at floats-at next : ℕ) : Type 0 where
-  pub stands : Stands known file at (filtered k (between label-at floats-at file) (patternsAt known file floats-at)) next
+  pub stands : Stands known file at (filtered k (bytesBetween label-at floats-at file) (patternsAt known file floats-at)) next
   pub label-order : label-at ≤ floats-at
   pub floats-end : floats-at + 4 * known .dimension ≡ next
 

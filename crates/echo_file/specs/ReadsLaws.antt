@@ -14,7 +14,7 @@ use Rattle.echo_file.specs.Format.{FileRecord, Bytes}
 use Rattle.echo_file.specs.Decode.{none, found, decode}
 use Rattle.lists.specs.Lists.{pieces, total}
 use Rattle.echo_file.specs.Places.{Shows}
-use Rattle.echo_file.specs.Reads.{between, Stands, Reads}
+use Rattle.echo_file.specs.Reads.{bytesBetween, Stands, Reads}
 use Rattle.echo_file.specs.FieldLaws.{bytes-drop, lengths-pieces, labelBytes-pieces}
 use Rattle.echo_file.specs.DecodeLaws.{sound, finds, none-exactly}
 
@@ -34,19 +34,19 @@ reads known file at start (Found (Settings d b leaf e w next)) h l s =
     }
 reads known file at start (Found (Vector document lengths-at labels-at floats-at next)) h l s =
     let p = s .placed in
-    let size : length (between labels-at floats-at file) ≡ total (between lengths-at labels-at file) =
+    let size : length (bytesBetween labels-at floats-at file) ≡ total (bytesBetween lengths-at labels-at file) =
     length-part labels-at (floats-at - labels-at) file (omega (arith, p .2, p .3, p .4)) ∙ omega (arith, p .2) in
     record {
-      labels = pieces (between lengths-at labels-at file) (between labels-at floats-at file);
+      labels = pieces (bytesBetween lengths-at labels-at file) (bytesBetween labels-at floats-at file);
       stands = record {
         begins = sound known (drop at file) _ _ (bytes-drop at file h) (s .same);
         forward = omega (arith, p .0, p .1, p .2, p .3);
         inside = p .4;
       };
       lengths-order = p .1;
-      lengths = sym (lengths-pieces (between lengths-at labels-at file) (between labels-at floats-at file) size);
+      lengths = sym (lengths-pieces (bytesBetween lengths-at labels-at file) (bytesBetween labels-at floats-at file) size);
       labels-order = omega (arith, p .2);
-      bytes = sym (labelBytes-pieces (between lengths-at labels-at file) (between labels-at floats-at file) size);
+      bytes = sym (labelBytes-pieces (bytesBetween lengths-at labels-at file) (bytesBetween labels-at floats-at file) size);
       floats-end = p .3;
     }
 reads known file at start (Found (Filtered k label-at floats-at next)) h l s =

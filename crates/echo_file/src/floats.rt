@@ -5,14 +5,14 @@ ghost use Prim.Native.Nat.{_+_, _*_, _≤_};
 ghost use lib.ListN.{length, drop};
 ghost use lib.Ieee.{binary32, ofBits};
 ghost use Rattle.lists.specs.Lists.{part};
-ghost use Rattle.echo_file.specs.Decode.{value, numbers};
+ghost use Rattle.echo_file.specs.Decode.{bytesValue, numbers};
 use crate::number;
 use float_bits::from_bits;
 
 // The float at a place.
 fn float_at(file: &[u8], at: usize) -> f32
     requires { ⌜ at + 4 ≤ length (now file) ⌝ }
-    ensures { λ r. ⌜ r ≡ ofBits binary32 (value (part at 4 (now (file .entry)))) ⌝ }
+    ensures { λ r. ⌜ r ≡ ofBits binary32 (bytesValue (part at 4 (now (file .entry)))) ⌝ }
 {
     from_bits(number::u32_at(file, at) as u32)
 }

@@ -15,8 +15,8 @@ pairs (i ∷ is) [] = []
 pairs (i ∷ is) (d ∷ ds) = record { id = i; distance = d } ∷ pairs is ds
 
 -- those of the first `count` hits
-abbrev pub records : List ℕ → List Float → ℕ → List Hit
-records ids distances count = take count (pairs ids distances)
+abbrev pub hitRecords : List ℕ → List Float → ℕ → List Hit
+hitRecords ids distances count = take count (pairs ids distances)
 
 -- one of them, for the function that makes it
 abbrev pub hitRecordAt : List ℕ → List Float → ℕ → Hit
@@ -44,4 +44,4 @@ hitsStored number count = cond (eqb number 0) count 0
 -- the result in full; "any refusal leaves .. answer lists unchanged"
 pub record Fills (hits : List Hit) (ids : List ℕ) (distances : List Float) (count number : ℕ) (hits′ : List Hit) : Type 0 where
   pub number-is : number ≡ hitsNumber (listShort (length hits) (length ids) (length distances) count)
-  pub hits-are : hits′ ≡ hitsLeft (listShort (length hits) (length ids) (length distances) count) hits (records ids distances count)
+  pub hits-are : hits′ ≡ hitsLeft (listShort (length hits) (length ids) (length distances) count) hits (hitRecords ids distances count)

@@ -11,7 +11,7 @@ use lib.ListN.{length, getD, take, drop, set, List·getD-append}
 use lib.Seq.{paste, paste-zero, paste-suc, length-paste, length-take-le, getD-take, getD-drop, getD-append-add}
 use borrow.Author.Tests.{ltb-false}
 use Rattle.hit_records.specs.declared.Hit.{Hit}
-use Rattle.hit_records.specs.Hits.{pairs, records, hitRecordAt, filledWith, listShort, hitsNumber, hitsStored, hitsLeft, Fills}
+use Rattle.hit_records.specs.Hits.{pairs, hitRecords, hitRecordAt, filledWith, listShort, hitsNumber, hitsStored, hitsLeft, Fills}
 
 -- ---- the records of two lists
 
@@ -63,7 +63,7 @@ module _ (hits : List Hit) (ids : List ℕ) (distances : List Float) where
   pub length-so-far : (n : ℕ) → Fit hits ids distances n → length (soFar n) ≡ length hits
   length-so-far n fit = length-paste hits 0 (pairs ids distances) n (subst (λ (k : ℕ). k ≤ length hits) (sym (zero-add n)) (fit .in-hits)) (le-pairs n ids distances (fit .in-ids) (fit .in-distances))
 
-  so-far-filled : (n : ℕ) → Fit hits ids distances n → soFar n ≡ filledWith hits (records ids distances n)
+  so-far-filled : (n : ℕ) → Fit hits ids distances n → soFar n ≡ filledWith hits (hitRecords ids distances n)
   so-far-filled n fit =
       let l : length (take n (pairs ids distances)) ≡ n = length-take-le n (pairs ids distances) (le-pairs n ids distances (fit .in-ids) (fit .in-distances)) in
       ap (λ (k : ℕ). take n (pairs ids distances) ++ drop k hits) (zero-add n ∙ sym l)
@@ -92,7 +92,7 @@ module _ (hits : List Hit) (ids : List ℕ) (distances : List Float) (count : �
   pub stored-fit : Fit hits ids distances (hitsStored (hitsNumber short) count)
   stored-fit = stored-fit-by short refl
 
-  left-by : (b : Bool) → short ≡ b → soFar hits ids distances (hitsStored (hitsNumber b) count) ≡ hitsLeft b hits (records ids distances count)
+  left-by : (b : Bool) → short ≡ b → soFar hits ids distances (hitsStored (hitsNumber b) count) ≡ hitsLeft b hits (hitRecords ids distances count)
   left-by true e = so-far-none hits ids distances
   left-by false e = so-far-filled hits ids distances count (all-fit e)
 
@@ -107,7 +107,7 @@ module _ (hits : List Hit) (ids : List ℕ) (distances : List Float) (count numb
   is-short = listShort (length hits) (length ids) (length distances) count
 
   abbrev taken : List Hit
-  taken = records ids distances count
+  taken = hitRecords ids distances count
 
   -- a list shorter than the count: 14, and nothing is written
   pub refused : is-short ≡ true → (number ≡ 14) × (hits′ ≡ hits)
@@ -149,7 +149,7 @@ module _ (hits : List Hit) (ids : List ℕ) (distances : List Float) (count numb
 abbrev trial : ℕ → Float → Hit
 trial i d = record { id = i; distance = d }
 
-filled-trial : (a b c x y z : Float) → filledWith (trial 90 a ∷ trial 91 b ∷ trial 92 c ∷ []) (records (7 ∷ 9 ∷ 8 ∷ []) (x ∷ y ∷ z ∷ []) 2)
+filled-trial : (a b c x y z : Float) → filledWith (trial 90 a ∷ trial 91 b ∷ trial 92 c ∷ []) (hitRecords (7 ∷ 9 ∷ 8 ∷ []) (x ∷ y ∷ z ∷ []) 2)
     ≡ trial 7 x ∷ trial 9 y ∷ trial 92 c ∷ []
 unfolding pairs
 filled-trial a b c x y z = refl

@@ -11,9 +11,9 @@ use Rattle.lists.specs.Lists.{keep}
 use Rattle.lists.specs.Tests.{allPass}
 use Rattle.store.specs.declared.Shape.{Shape}
 use Rattle.store.specs.declared.Counts.{Counts}
-use Rattle.store.specs.Store.{CountsWithin, ownersAt, numbersSize, hashesSize}
+use Rattle.store.specs.Store.{CountsWithin, numbersSize, hashesSize}
 use Rattle.walk.specs.declared.Wanted.{Wanted}
-use Rattle.walk.specs.Wanted.{EntryRead, passes, given, most}
+use Rattle.walk.specs.Wanted.{passes, given, most}
 use Rattle.leaf_hits.specs.declared.Added.{Added}
 use Rattle.leaf_hits.specs.declared.Added.the-variants as added
 

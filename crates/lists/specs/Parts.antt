@@ -9,7 +9,7 @@ use native.Mathlib.Omega.{arith}
 use mathlib.Core.List.{List, [], _∷_, _++_, map, append-assoc}
 use lib.ListN.{length, getD, set, take, drop, length-set, length-drop, length-append, take-append-drop}
 use lib.Seq.{sets, sets-eq, slice, length-take-le, take-nil, drop-nil, drop-cons, take-append-seam, drop-append-add, drop-at, getD-set-same, getD-set-other, set-set, set-comm, take-set-le, take-set-lt, drop-set-lt, drop-set-add, getD-take, getD-drop, take-take, drop-drop, take-add}
-use Rattle.lists.specs.Lists.{part}
+use Rattle.lists.specs.Lists.{part, pieces}
 
 -- the place after one more element
 next : (i n : ℕ) → i + suc n ≡ suc i + n
@@ -287,3 +287,9 @@ module _ {A B : Type 0} (f : A → B) (l : List A) (at : ℕ) (d : A) where
   four-mapped p q r s room a b c e =
       ap₂ (λ (y : B) (t : List B). y ∷ t) a (ap₂ (λ (y : B) (t : List B). y ∷ t) b (ap₂ (λ (y : B) (t : List B). y ∷ t) c (ap (λ (y : B). y ∷ []) e)))
       ∙ ap (map f) (sym (part-four at l d room))
+
+-- as many pieces as lengths
+pub length-pieces : {A : Type 0} (lengths : List ℕ) (l : List A) → length (pieces lengths l) ≡ length lengths
+unfolding pieces
+length-pieces [] l = refl
+length-pieces (n ∷ lengths) l = ap suc (length-pieces lengths (drop n l))

@@ -32,7 +32,7 @@ use Rattle.echo_file.specs.DecodeLaws.{finds, none-exactly}
 use Rattle.echo_file.specs.declared.Located.{Located}
 use Rattle.echo_file.specs.declared.Located.the-variants.{Settings as SettingsAt, Vector, Filtered, Search}
 use Rattle.echo_file.specs.declared.Reading.the-variants.{Found}
-use Rattle.echo_file.specs.Reads.{between, patternsAt, Stands, Reads}
+use Rattle.echo_file.specs.Reads.{bytesBetween, patternsAt, Stands, Reads}
 use Rattle.load.specs.declared.Loading.{Loading}
 use Rattle.load.specs.declared.Loading.the-variants.{Unset, Running}
 use Rattle.load.specs.declared.carry.Carried.{Carried}
@@ -141,7 +141,7 @@ task-asks index file at (Filtered k label-at place next) n s =
       stands = record { narrow = n; label-order = s .label-order; inside = omega (arith, s .floats-end, s .stands .inside) };
       comes = λ lent carried lent′ a.
           stands-carried file at (Running index) lent carried lent′
-          (format.filtered k (between label-at place file) (patternsAt (known (Running index)) file place))
+          (format.filtered k (bytesBetween label-at place file) (patternsAt (known (Running index)) file place))
           next
           (s .stands)
           a;

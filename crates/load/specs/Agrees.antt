@@ -58,7 +58,7 @@ use Rattle.load.specs.declared.carry.Carried.{Carried}
 use Rattle.load.specs.declared.carry.Carried.the-variants.{Refused, Silent, Answered}
 use Rattle.load.specs.declared.LoadStep.the-variants.{Next}
 use Rattle.load.specs.File as file
-use Rattle.load.specs.File.{FileProgress, unset, running, Outcome, stops, printed, largest, fronts, capacities, answerPlaces, searchCall, adding, searching, refusedText, answerText, before, called, outcomeOf, opened, carried}
+use Rattle.load.specs.File.{FileProgress, unset, running, Outcome, stops, printed, largest, fronts, capacities, answerPlaces, searchCall, addingCalls, searching, refusedText, answerText, before, called, outcomeOf, opened, carried}
 use Rattle.load.specs.Step as step
 use Rattle.load.specs.Step.{openedBy, addedBy, foundBy, AddsVector, SearchesBuilt, AfterBuild, searchWith, searchEnd, CarriesOut, carriedText, stepOf}
 use Rattle.load.specs.Theorem.{Sized}
@@ -132,7 +132,7 @@ module _ (s : Setting) (allowed : Allowed s) (index : CuratorIndex) where
       (Running i, (λ n. ap (λ (x : Carried). stepOf x n) k), ap (λ (x : Carried). carriedText x (lent .ids) (lent .distances)) k, (allowed, inv))
 
   add-agrees : (m : Model) (call : AddCall) (next : ℕ) (lent : step.LoadLists) (c : Carried) (lent′ : step.LoadLists) → Sized lent → Invariant s m index (lent .store)
-      → AddsVector index call next lent c lent′ → Agrees (outcomeOf s m (adding call)) next c lent′
+      → AddsVector index call next lent c lent′ → Agrees (outcomeOf s m (addingCalls call)) next c lent′
   unfolding outcomeOf expected after
   add-agrees m call next lent c lent′ z inv a =
       let k = change-whole s allowed m index lent z [] [] (lent′ .store) (add call) (a .answer) inv (a .adds) in

@@ -17,7 +17,7 @@ use Rattle.curator.specs.Arguments.{AddCall, SearchCall, Asked, everything, lab
 use Rattle.echo_file.specs.declared.Located.{Located}
 use Rattle.echo_file.specs.declared.Located.the-variants.{Settings, Vector as VectorAt, Filtered, Search}
 use Rattle.echo_file.specs.Decode.{decode}
-use Rattle.echo_file.specs.Reads.{between, patternsAt}
+use Rattle.echo_file.specs.Reads.{bytesBetween, patternsAt}
 use Rattle.load.specs.declared.Loading.{Loading}
 use Rattle.load.specs.declared.Loading.the-variants.{Unset, Running}
 use Rattle.load.specs.declared.carry.Carried.{Carried}
@@ -83,8 +83,8 @@ addAt index file v =
     record {
       document = v .«doc_id»;
       vector = floatsAt (index .dimension) file (v .«floats_at»);
-      lengths = between (v .«lengths_at») (v .«labels_at») file;
-      bytes = between (v .«labels_at») (v .«floats_at») file;
+      lengths = bytesBetween (v .«lengths_at») (v .«labels_at») file;
+      bytes = bytesBetween (v .«labels_at») (v .«floats_at») file;
     }
 
 -- what its add comes to
@@ -100,7 +100,7 @@ pub record QueryIn (file : List ℕ) (dimension : ℕ) (q : Query) : Type 0 wher
 
 abbrev pub searchAt : ℕ → List ℕ → Query → LoadLists → SearchCall
 searchAt dimension file q =
-    searchWith (floatsAt dimension file (q .«floats_at»)) (q .k) (askedFor (q .filtered) (between (q .«label_at») (q .«floats_at») file))
+    searchWith (floatsAt dimension file (q .«floats_at»)) (q .k) (askedFor (q .filtered) (bytesBetween (q .«label_at») (q .«floats_at») file))
 
 -- what it comes to after a build
 abbrev pub SearchesAt : CuratorIndex → List ℕ → Query → LoadLists → Carried → LoadLists → Type 0

@@ -73,8 +73,8 @@ abbrev pub work : List ℕ
 work = replicate (workSize largest) 0
 
 -- a vector is an add, which is lent no work list
-abbrev pub adding : AddCall → List Call
-adding call = change fronts [] (add call) ∷ []
+abbrev pub addingCalls : AddCall → List Call
+addingCalls call = change fronts [] (add call) ∷ []
 
 -- 'The first search builds': a build of a built index leaves all as it is, so every search builds
 abbrev pub searching : SearchCall → List Call
@@ -146,7 +146,7 @@ carried unset (vector document labels patterns) = stops (refusedText (Input Sett
 carried unset (filtered k label patterns) = stops (refusedText (Input SettingsOrder))
 carried unset (unfiltered k patterns) = stops (refusedText (Input SettingsOrder))
 carried (running s m) (settings dimension branching leaf-size ef beam) = stops (refusedText (Input SettingsOrder))
-carried (running s m) (vector document labels patterns) = outcomeOf s m (adding (addCall document labels patterns))
+carried (running s m) (vector document labels patterns) = outcomeOf s m (addingCalls (addCall document labels patterns))
 carried (running s m) (filtered k label patterns) = outcomeOf s m (searching (searchCall k (labelled label) patterns))
 carried (running s m) (unfiltered k patterns) = outcomeOf s m (searching (searchCall k everything patterns))
 

@@ -20,7 +20,7 @@ use Rattle.echo_file.specs.declared.Known.{Known}
 use Rattle.echo_file.specs.Format.{FileRecord}
 use Rattle.echo_file.specs.Decode.{Decoded, none, found, decode}
 use Rattle.text.specs.Lines.{Written}
-use Rattle.text.specs.LinesLaws.{length-written}
+use Rattle.text.specs.LinesLaws.{length-line}
 use Rattle.load.specs.declared.Loading.{Loading}
 use Rattle.load.specs.declared.Loading.the-variants.{Unset, Running}
 use Rattle.load.specs.declared.carry.Carried.{Carried}
@@ -36,7 +36,7 @@ use Rattle.load.specs.Agrees.{StandsAs, Agrees, record-agrees}
 -- what a step wrote is what it printed
 written-front : {text text′ t : List ℕ} {n : ℕ} → Written text 0 t text′ n → take n text′ ≡ t
 written-front {text} {text′} {t} {n} w =
-    let fits : 0 + length t ≤ length text = omega (arith, w .end, w .within, length-written w) in
+    let fits : 0 + length t ≤ length text = omega (arith, w .end, w .within, length-line w) in
     ap₂ (λ (k : ℕ) (l : List ℕ). take k l) (w .end ∙ zero-add (length t)) (w .list ∙ sets-eq t text 0 fits) ∙ take-append-seam t (drop (0 + length t) text)
 
 -- the reader knows what the definition knows

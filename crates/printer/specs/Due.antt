@@ -30,8 +30,8 @@ pub record Reached (file : List ℕ) (done at : ℕ) (loading : Loading) (store 
   pub count : length before ≡ done
   pub rest : (texts : List (List ℕ)) → Chain file at loading store texts → fileText file ≡ before ++ joined (λ text. text) texts
 
-pub begins : (file : List ℕ) (store : Store) → Reached file 0 0 Unset store
-begins file store = record { before = []; count = refl; rest = λ texts chain. sym (prints file store texts chain) }
+pub due-begins : (file : List ℕ) (store : Store) → Reached file 0 0 Unset store
+due-begins file store = record { before = []; count = refl; rest = λ texts chain. sym (prints file store texts chain) }
 
 -- a step from there, whose text is handed on
 module _ {file : List ℕ} {done at : ℕ} {loading : Loading} {lent lent′ : LoadLists} {text text′ : List ℕ} (here : Reached file done at loading (lent .store))

@@ -7,9 +7,9 @@ use Rattle.runs.specs.Calls.{Call}
 use Rattle.runs.specs.Model.{Setting, Model, emptyModel, modelCheck, expected, after}
 use Rattle.runs.specs.Run.{Ended, Run}
 use Rattle.runs.specs.Theorem.{endNumber, Matches, AtEach, InPairs, Distinct, Premise, NeverDamaged, Better, Marked, WholeIsFirst, withBudget, Demand3}
-use Rattle.runs.specs.Reached.{Ends, Along, ends-each, run-allowed, each-map, along-all, numbered, never}
+use Rattle.runs.specs.Reached.{Ends, Along, ends-each, run-allowed, each-map, along-all, end-number, never}
 use Rattle.runs.specs.Contents.{all-same}
-use Rattle.runs.specs.Larger.{pairs, call-alike, call-better}
+use Rattle.runs.specs.Larger.{in-pairs, call-alike, call-better}
 use Rattle.runs.specs.Whole.{call-whole, call-marked}
 
 -- nothing is asked of the models
@@ -26,17 +26,17 @@ each s calls claim f ends run =
 pub demand3 : (s : Setting) (calls : List Call) → Demand3 s calls
 demand3 s calls =
     record {
-      numbers = each s calls (λ m call end. endNumber end ≡ checkNumber (modelCheck s m call)) (λ m call end x. numbered s m call end (x .matches));
+      numbers = each s calls (λ m call end. endNumber end ≡ checkNumber (modelCheck s m call)) (λ m call end x. end-number s m call end (x .matches));
       matches = each s calls (λ m call end. Matches (expected s m call) call end) (λ m call end x. x .matches);
       never = each s calls (λ m call end. NeverDamaged end) (λ m call end x. never s m call end (x .matches));
       marked = λ ends run.
           each s calls (λ m call end. Marked s m end) (λ m call end x. call-marked s (run-allowed s calls ends run) m (x .within) call end (x .matches)) ends run;
       alike = λ calls′ e ef ends ends′ run run′.
-          pairs s ef (λ x. Unit {0}) (λ end end′. endNumber end ≡ endNumber end′)
+          in-pairs s ef (λ x. Unit {0}) (λ end end′. endNumber end ≡ endNumber end′)
           (λ m call call′ e end end′ g x y. call-alike s ef m call call′ e end end′ (x .matches) (y .matches)) emptyModel calls calls′ e ends ends′
           (anything s emptyModel calls) (ends-each s calls ends run) (ends-each (withBudget ef s) calls′ ends′ run′);
       larger = λ p calls′ e ef more ends ends′ run run′.
-          pairs s ef Distinct Better
+          in-pairs s ef Distinct Better
           (λ m call call′ e end end′ d x y. call-better s (run-allowed s calls ends run) ef more m (x .within) d (x .small) call call′ e end end′ (x .matches) (y .matches))
           emptyModel calls calls′ e ends ends′ (along-all s Distinct emptyModel calls p) (ends-each s calls ends run) (ends-each (withBudget ef s) calls′ ends′ run′);
       whole = λ p ends run.

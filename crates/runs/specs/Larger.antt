@@ -32,7 +32,7 @@ use Rattle.runs.specs.Theorem.{endNumber, Reply, replyOf, Matches, AtEac
 use Rattle.runs.specs.State.{Allowed, Within, Small}
 use Rattle.runs.specs.Refusals.{search-room}
 use Rattle.runs.specs.Search.{walk-is}
-use Rattle.runs.specs.Reached.{Ends, Along, Finds, answered-finds, not-answered, numbered}
+use Rattle.runs.specs.Reached.{Ends, Along, Finds, answered-finds, not-answered, end-number}
 use Rattle.runs.specs.Contents.{alike-check, alike-after, budget-check, budget-after}
 use Rattle.runs.specs.Hits.{searchView, found-different, found-ranked, found-key}
 
@@ -45,10 +45,10 @@ pub record Listed (k : ℕ) (ids : List ℕ) (distances : List Float) (p : Progr
   pub ids-are : reply .ids ≡ sets ids 0 (map documentOf (take k (ranked p)))
   pub distances-are : reply .distances ≡ sets distances 0 (map distanceOf (take k (ranked p)))
 
-pub listed : (call : SearchCall) (p : Progress) (reply : Reply) → reply ≡ replyOf (answer (call .k) p) call
+pub reply-listed : (call : SearchCall) (p : Progress) (reply : Reply) → reply ≡ replyOf (answer (call .k) p) call
     → Listed (call .k) (call .ids) (call .distances) p reply
 unfolding answer
-listed call p reply e =
+reply-listed call p reply e =
     record {
       count = ap (λ (r : Reply). r .hits) e ∙ length-map (take (call .k) (ranked p)) documentOf;
       whole-is = ap (λ (r : Reply). r .complete) e;
@@ -117,11 +117,11 @@ module _ (s : Setting) (m : Model) (a : Allowed s) (w : Within s m) (d : Distinc
       ap (walk (searchView s m (call .question))) sum ∙ sym (walk-is (withBudget ef s) m (call .question))
       ∙ ap (modelWalk (withBudget ef s) m) (same .question) ∙ y .walked in
       let l′ : Listed (call .k) (call′ .ids) (call′ .distances) (y .progress) reply′ =
-      subst (λ (k : ℕ). Listed k (call′ .ids) (call′ .distances) (y .progress) reply′) (sym (same .k)) (listed call′ (y .progress) reply′ (y .is)) in
+      subst (λ (k : ℕ). Listed k (call′ .ids) (call′ .distances) (y .progress) reply′) (sym (same .k)) (reply-listed call′ (y .progress) reply′ (y .is)) in
       let long = search-room s m fronts (length work) call (x .check) .distances in
       not-worse (call .question) budget more (x .progress) (y .progress) (sym (walk-is s m (call .question)) ∙ x .walked) walk′ (call .ids) (call′ .ids)
       (call .distances) (call′ .distances)
-      (call .k) reply reply′ (listed call (x .progress) reply (x .is)) l′ long (subst (λ (n : ℕ). call .k ≤ n) (same .distances) long)
+      (call .k) reply reply′ (reply-listed call (x .progress) reply (x .is)) l′ long (subst (λ (n : ℕ). call .k ≤ n) (same .distances) long)
 
 -- ---- every call
 
@@ -133,7 +133,7 @@ same-after s ef m call call′ e = budget-after s ef m call′ ∙ sym (alike-af
 pub call-alike : (s : Setting) (ef : ℕ) (m : Model) (call call′ : Call) → Alike call call′ → (end end′ : Ended) → Matches (expected s m call) call end
     → Matches (expected (withBudget ef s) m call′) call′ end′ → endNumber end ≡ endNumber end′
 call-alike s ef m call call′ e end end′ x y =
-    numbered s m call end x ∙ ap checkNumber (alike-check s m call call′ e ∙ sym (budget-check s ef m call′)) ∙ sym (numbered (withBudget ef s) m call′ end′ y)
+    end-number s m call end x ∙ ap checkNumber (alike-check s m call call′ e ∙ sym (budget-check s ef m call′)) ∙ sym (end-number (withBudget ef s) m call′ end′ y)
 
 module _ (s : Setting) (a : Allowed s) (ef : ℕ) (more : s .params .«ef_search» ≤ ef) (m : Model) (w : Within s m) (d : Distinct m) (small : Small m) where
   pub call-better : (call call′ : Call) → Alike call call′ → (end end′ : Ended) → Matches (expected s m call) call end
@@ -149,19 +149,19 @@ module _ (s : Setting) (a : Allowed s) (ef : ℕ) (more : s .params .«ef_search
 -- ---- both runs
 
 -- what follows for each two alike calls from how they ended in both runs, and from a fact about the models that are reached
-pub pairs : (s : Setting) (ef : ℕ) (Fact : Model → Type 0) (claim : Ended → Ended → Type 0)
+pub in-pairs : (s : Setting) (ef : ℕ) (Fact : Model → Type 0) (claim : Ended → Ended → Type 0)
     → ((m : Model) (call call′ : Call) → Alike call call′ → (end end′ : Ended) → Fact m → Ends s m call end → Ends (withBudget ef s) m call′ end′ → claim end end′)
     → (m : Model) (calls calls′ : List Call) → AllAlike calls calls′ → (ends ends′ : List Ended) → Along s Fact m calls → AtEach s (Ends s) m calls ends
     → AtEach (withBudget ef s) (Ends (withBudget ef s)) m calls′ ends′ → InPairs claim ends ends′
-pairs s ef Fact claim f m [] [] e [] [] g x y = tt
-pairs s ef Fact claim f m [] [] e [] (end′ ∷ ends′) g x y = y
-pairs s ef Fact claim f m [] [] e (end ∷ ends) ends′ g x y = absurd x
-pairs s ef Fact claim f m [] (call′ ∷ calls′) e ends ends′ g x y = absurd e
-pairs s ef Fact claim f m (call ∷ calls) [] e ends ends′ g x y = absurd e
-pairs s ef Fact claim f m (call ∷ calls) (call′ ∷ calls′) e [] ends′ g x y = absurd x
-pairs s ef Fact claim f m (call ∷ calls) (call′ ∷ calls′) e (end ∷ ends) [] g x y = absurd y
-pairs s ef Fact claim f m (call ∷ calls) (call′ ∷ calls′) e (end ∷ ends) (end′ ∷ ends′) g x y = (
+in-pairs s ef Fact claim f m [] [] e [] [] g x y = tt
+in-pairs s ef Fact claim f m [] [] e [] (end′ ∷ ends′) g x y = y
+in-pairs s ef Fact claim f m [] [] e (end ∷ ends) ends′ g x y = absurd x
+in-pairs s ef Fact claim f m [] (call′ ∷ calls′) e ends ends′ g x y = absurd e
+in-pairs s ef Fact claim f m (call ∷ calls) [] e ends ends′ g x y = absurd e
+in-pairs s ef Fact claim f m (call ∷ calls) (call′ ∷ calls′) e [] ends′ g x y = absurd x
+in-pairs s ef Fact claim f m (call ∷ calls) (call′ ∷ calls′) e (end ∷ ends) [] g x y = absurd y
+in-pairs s ef Fact claim f m (call ∷ calls) (call′ ∷ calls′) e (end ∷ ends) (end′ ∷ ends′) g x y = (
   f m call call′ (e .0) end end′ (g .0) (x .0) (y .0),
-  pairs s ef Fact claim f (after s m call) calls calls′ (e .1) ends ends′ (g .1) (x .1)
+  in-pairs s ef Fact claim f (after s m call) calls calls′ (e .1) ends ends′ (g .1) (x .1)
       (subst (λ (n : Model). AtEach (withBudget ef s) (Ends (withBudget ef s)) n calls′ ends′) (same-after s ef m call call′ (e .0)) (y .1)),
 )

@@ -101,12 +101,12 @@ small-after s m (search fronts work call) t h = h
 
 -- ---- every step
 
-pub step : (s : Setting) → Allowed s → (m : Model) (index : CuratorIndex) (store : Store) → Invariant s m index store
+pub step-keeps : (s : Setting) → Allowed s → (m : Model) (index : CuratorIndex) (store : Store) → Invariant s m index store
     → (call : Call) (end : Ended) (index′ : CuratorIndex) (store′ : Store)
     → Step index store call end index′ store′ → Matches (expected s m call) call end × Invariant s (after s m call) index′ store′
 unfolding Step expected after
-step s a m index store inv (change fronts work c) end index′ store′ st = change-step s a m index store inv fronts work c end index′ store′ st
-step s a m index store inv (search fronts work call) end index′ store′ st = search-step s a m index store inv fronts work call end index′ store′ st
+step-keeps s a m index store inv (change fronts work c) end index′ store′ st = change-step s a m index store inv fronts work c end index′ store′ st
+step-keeps s a m index store inv (search fronts work call) end index′ store′ st = search-step s a m index store inv fronts work call end index′ store′ st
 
 step-typed : (index : CuratorIndex) (store : Store) (call : Call) (end : Ended) (index′ : CuratorIndex) (store′ : Store) → Step index store call end index′ store′
     → TypedCall call
@@ -125,7 +125,7 @@ pub ends-from : (s : Setting) → Allowed s → (m : Model) {index : CuratorInde
     → Invariant s m index store → Small m → AtEach s (Ends s) m calls ends
 ends-from s a m done inv small = tt
 ends-from s a m (next {index} {index′} {store} {store′} {call} {calls} {end} {ends} st rest) inv small =
-    let r = step s a m index store inv call end index′ store′ st in (
+    let r = step-keeps s a m index store inv call end index′ store′ st in (
       record { within = inv .within; small = small; matches = r .0 },
       ends-from s a (after s m call) rest (r .1) (small-after s m call (step-typed index store call end index′ store′ st) small),
     )
@@ -170,11 +170,11 @@ search-number fronts work call end Check′.Fine damaged h = absurd h
 search-number fronts work call (changed answer) Check′.Fine (going p) h = absurd h
 search-number fronts work call (found end) Check′.Fine (going p) h = h .0 .number-is
 
-pub numbered : (s : Setting) (m : Model) (call : Call) (end : Ended) → Matches (expected s m call) call end → endNumber end ≡ checkNumber (modelCheck s m call)
+pub end-number : (s : Setting) (m : Model) (call : Call) (end : Ended) → Matches (expected s m call) call end → endNumber end ≡ checkNumber (modelCheck s m call)
 unfolding expected modelCheck
-numbered s m (change fronts work c) (changed answer) h = h
-numbered s m (change fronts work c) (found end) h = absurd h
-numbered s m (search fronts work call) end h = search-number fronts work call end (modelSearchCheck s m fronts (length work) call) (modelWalk s m (call .question)) h
+end-number s m (change fronts work c) (changed answer) h = h
+end-number s m (change fronts work c) (found end) h = absurd h
+end-number s m (search fronts work call) end h = search-number fronts work call end (modelSearchCheck s m fronts (length work) call) (modelWalk s m (call .question)) h
 
 call-other : (s : Setting) (m : Model) (call : Call) → Other (checkNumber (modelCheck s m call))
 unfolding modelCheck searchRows modelFacts
@@ -184,7 +184,7 @@ call-other s m (search fronts work call) =
     (inr (omega arith), (inr (omega arith), (inr (omega arith), (inr (omega arith), (inr (omega arith), tt)))))
 
 pub never : (s : Setting) (m : Model) (call : Call) (end : Ended) → Matches (expected s m call) call end → NeverDamaged end
-never s m call end h = let o = subst Other (sym (numbered s m call end h)) (call-other s m call) in record { damaged = o .0; state = o .1 }
+never s m call end h = let o = subst Other (sym (end-number s m call end h)) (call-other s m call) in record { damaged = o .0; state = o .1 }
 
 -- ---- an answered search
 

@@ -34,7 +34,7 @@ use Rattle.runs.specs.Reached.{Finds, answered-finds, not-answered}
 use Rattle.runs.specs.Due.{dueBelow, sizeAt, IsNode, sound-tree, root-size}
 use Rattle.runs.specs.Eligible.{hitsAbout, ranks-about, rowRank, hitRank}
 use Rattle.runs.specs.Hits.{searchView, about-rows, rank-document, rank-distance, hit-distance, found-ranked, found-whole}
-use Rattle.runs.specs.Larger.{Listed, listed}
+use Rattle.runs.specs.Larger.{Listed, reply-listed}
 
 -- ---- lists in order
 
@@ -136,7 +136,7 @@ module _ (s : Setting) (a : Allowed s) (m : Model) (w : Within s m) where
   call-whole d small (change fronts work c) end h = tt
   call-whole d small (search fronts work call) end h = λ reply g e reference ref.
       (let x : Finds s m fronts work call reply = answered-finds s m fronts work call end reply h g in
-      let l = listed call (x .progress) reply (x .is) in
+      let l = reply-listed call (x .progress) reply (x .is) in
       let room : SearchRoom s m fronts call = search-room s m fronts (length work) call (x .check) in
       first-of s m a w d small (call .question) reference ref (s .params .«ef_search») (x .progress) (sym (walk-is s m (call .question)) ∙ x .walked)
       (sym (l .whole-is) ∙ e) (call .k) (call .ids) (call .distances) reply l (room .ids) (room .distances))
@@ -148,6 +148,6 @@ module _ (s : Setting) (a : Allowed s) (m : Model) (w : Within s m) where
       (let x : Finds s m fronts work call reply = answered-finds s m fronts work call end reply h g in
       let query = normalized (call .question .query) in
       let wanted = wantedOf (call .question .asked) in
-      listed call (x .progress) reply (x .is) .whole-is
+      reply-listed call (x .progress) reply (x .is) .whole-is
       ∙ sound-enough (searchView s m (call .question)) (dueBelow s m query wanted) (sizeAt s m) (IsNode s m) (sound-tree s m a w query wanted) (s .params .«ef_search») (x .progress)
       (subst (λ (n : ℕ). n ≤ s .params .«ef_search») (sym (root-size s m a w)) enough) (sym (walk-is s m (call .question)) ∙ x .walked))

@@ -79,8 +79,8 @@ finite-pattern b h =
 no-nan : (b : ℕ) → b < 0x7F800000 → T (not (isNan (ofBits binary32 b)))
 no-nan b h = subst T (sym (finite-pattern b h) ∙ ap not (nanBits-is binary32 b)) tt
 
-pub written : (b : ℕ) → b < 0x7F800000 → toBits binary32 (ofBits binary32 b) ≡ b
-written b h = toBits-ofBits binary32 b (omega arith) (no-nan b h)
+pub bits-written : (b : ℕ) → b < 0x7F800000 → toBits binary32 (ofBits binary32 b) ≡ b
+bits-written b h = toBits-ofBits binary32 b (omega arith) (no-nan b h)
 
 less : (b : ℕ) → suc b < 0x7F800000 → b < 0x7F800000
 less b h = omega arith
@@ -99,7 +99,7 @@ bits-value x f h =
 pub root-of-bits : (x : Float) (r : ℕ) → T (fits binary32 x) → 0 < toBits binary32 x → toBits binary32 x < 0x7F800000 → Nearest (magnitude (toBits binary32 x) * 2 ^ 151) r → Root x (ofBits binary32 r)
 root-of-bits x r f p h n =
     root-positive x (ofBits binary32 r) (magnitude (toBits binary32 x)) (bits-value x f h) (magnitude-pos (toBits binary32 x) p) (ofBits-fits binary32 r)
-    (subst (λ (b : ℕ). Nearest (magnitude (toBits binary32 x) * 2 ^ 151) b) (sym (written r (less r (n .finite)))) n)
+    (subst (λ (b : ℕ). Nearest (magnitude (toBits binary32 x) * 2 ^ 151) b) (sym (bits-written r (less r (n .finite)))) n)
 
 -- zero, of either sign
 zero-pattern : (b : ℕ) → b < 2 ^ 32 → b % 2 ^ 31 ≡ 0 → Root (ofBits binary32 b) (ofBits binary32 b)

@@ -11,7 +11,7 @@ use Rattle.lists.specs.Parts.{sets-snoc, set-sets-after}
 use Rattle.text.specs.Digits.{digitChar, lastDigits}
 use Rattle.text.specs.DigitsLaws.{length-lastDigits}
 use Rattle.text.specs.Lines.{Written}
-use Rattle.text.specs.LinesLaws.{written}
+use Rattle.text.specs.LinesLaws.{line-written}
 
 pub byte-step : (l text : List ℕ) (at i : ℕ) → i < length text
     → sets l (at + i) (drop i text) ≡ sets (set l (at + i) (getD text i 0)) (at + (i + 1)) (drop (i + 1) text)
@@ -25,7 +25,7 @@ byte-step l text at i h =
 pub bytes-end : (l₀ l text : List ℕ) (at i : ℕ) → at + length text ≤ length l₀ → length text ≤ i → sets l (at + i) (drop i text) ≡ sets l₀ at text
     → Written l₀ at text l (at + length text)
 bytes-end l₀ l text at i room h e =
-    written l₀ at text l (at + length text) (sym (ap (λ (r : List ℕ). sets l (at + i) r) (drop-of-length-le text h)) ∙ e) refl room
+    line-written l₀ at text l (at + length text) (sym (ap (λ (r : List ℕ). sets l (at + i) r) (drop-of-length-le text h)) ∙ e) refl room
 
 digit-before : (l : List ℕ) (at base i n : ℕ)
     → sets l at (lastDigits base (suc i) n) ≡ sets (set l (at + i) (digitChar (n % base))) at (lastDigits base i (n / base))
@@ -51,4 +51,4 @@ pub digits-end : (l₀ l : List ℕ) (at base count n i rest : ℕ) → at + cou
     → sets l at (lastDigits base i rest) ≡ sets l₀ at (lastDigits base count n) → Written l₀ at (lastDigits base count n) l (at + count)
 digits-end l₀ l at base count n i rest room h e =
     let k : length (lastDigits base count n) ≡ count = length-lastDigits base count n in
-    written l₀ at (lastDigits base count n) l (at + count) (sym (none-left l at base i rest h) ∙ e) (ap (λ (j : ℕ). at + j) (sym k)) (omega arith)
+    line-written l₀ at (lastDigits base count n) l (at + count) (sym (none-left l at base i rest h) ∙ e) (ap (λ (j : ℕ). at + j) (sym k)) (omega arith)

@@ -19,21 +19,21 @@ AllDigits base [] = Unit
 AllDigits base (c ∷ cs) = (digitOf c < base) × AllDigits base cs
 
 -- The value of a text in a base: each digit counts its place, the last one 1.
-unfoldable pub value : ℕ → List ℕ → ℕ
-value base [] = 0
-value base (c ∷ cs) = digitOf c * base ^ length cs + value base cs
+unfoldable pub digitsValue : ℕ → List ℕ → ℕ
+digitsValue base [] = 0
+digitsValue base (c ∷ cs) = digitOf c * base ^ length cs + digitsValue base cs
 
 -- "in decimal": at least one digit, and no leading zero.
 pub record Decimal (n : ℕ) (text : List ℕ) : Type 0 where
   pub digits : AllDigits 10 text
-  pub number : value 10 text ≡ n
+  pub number : digitsValue 10 text ≡ n
   pub some : 0 < length text
   pub lead : 1 < length text → digitOf (getD text 0 0) ≡ 0 → ⊥
 
 -- "eight lowercase hexadecimal digits".
 pub record Hex8 (n : ℕ) (text : List ℕ) : Type 0 where
   pub digits : AllDigits 16 text
-  pub number : value 16 text ≡ n
+  pub number : digitsValue 16 text ≡ n
   pub eight : length text ≡ 8
 
 -- ---- The same, computed.
@@ -54,11 +54,11 @@ tens (suc steps) zero = 0
 tens (suc steps) (suc n) = suc (tens steps (suc n / 10))
 
 -- How many decimal digits n has. As many steps as n are enough.
-unfoldable pub places : ℕ → ℕ
-places n = suc (tens n (n / 10))
+unfoldable pub digitPlaces : ℕ → ℕ
+digitPlaces n = suc (tens n (n / 10))
 
 unfoldable pub decimalOf : ℕ → List ℕ
-decimalOf n = lastDigits 10 (places n) n
+decimalOf n = lastDigits 10 (digitPlaces n) n
 
 unfoldable pub hexOf : ℕ → List ℕ
 hexOf n = lastDigits 16 8 n

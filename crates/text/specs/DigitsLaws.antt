@@ -12,7 +12,7 @@ use mathlib.Core.List.{List, [], _∷_, _++_}
 use lib.ListN.{length, getD, length-append}
 use lib.Dec.{leb, ltb}
 use borrow.Author.Tests.{ltb-true, ltb-false, leb-true, leb-false, lt-ltb, le-ltb, le-leb}
-use Rattle.text.specs.Digits.{digitOf, AllDigits, value, Decimal, Hex8, digitChar, lastDigits, tens, places, decimalOf, hexOf}
+use Rattle.text.specs.Digits.{digitOf, AllDigits, digitsValue, Decimal, Hex8, digitChar, lastDigits, tens, digitPlaces, decimalOf, hexOf}
 
 -- ---- a digit and its character
 
@@ -91,40 +91,40 @@ same-parts d e p v w h g s =
     let j : d ≡ e = omega (arith, div-eq-of-lt h, div-eq-of-lt g) in
     (j, omega (arith, ap (λ (n : ℕ). n * p) j))
 
-pub value-lt : (base : ℕ) (t : List ℕ) → AllDigits base t → value base t < base ^ length t
-unfolding AllDigits value
-value-lt base [] a = omega (arith, pow-zero base)
-value-lt base (c ∷ cs) (h, hs) =
-    let g = below-next (digitOf c) base (base ^ length cs) (value base cs) h (value-lt base cs hs) in
+pub digits-lt : (base : ℕ) (t : List ℕ) → AllDigits base t → digitsValue base t < base ^ length t
+unfolding AllDigits digitsValue
+digits-lt base [] a = omega (arith, pow-zero base)
+digits-lt base (c ∷ cs) (h, hs) =
+    let g = below-next (digitOf c) base (base ^ length cs) (digitsValue base cs) h (digits-lt base cs hs) in
     omega (arith, pow-suc base (length cs))
 
 -- a text of digits is given by its length and its value
-pub digits-one : (base : ℕ) → base ≤ 16 → (t u : List ℕ) → AllDigits base t → AllDigits base u → length t ≡ length u → value base t ≡ value base u
+pub digits-one : (base : ℕ) → base ≤ 16 → (t u : List ℕ) → AllDigits base t → AllDigits base u → length t ≡ length u → digitsValue base t ≡ digitsValue base u
     → t ≡ u
-unfolding AllDigits value
+unfolding AllDigits digitsValue
 digits-one base m [] [] a b l v = refl
 digits-one base m [] (d ∷ ds) a b l v = absurd (suc-ne-zero (length ds) (sym l))
 digits-one base m (c ∷ cs) [] a b l v = absurd (suc-ne-zero (length cs) l)
 digits-one base m (c ∷ cs) (d ∷ ds) (h, hs) (g, gs) l v =
     let k : length cs ≡ length ds = suc-inj l in
-    let low : value base ds < base ^ length cs = subst (λ (n : ℕ). value base ds < base ^ n) (sym k) (value-lt base ds gs) in
-    let s : digitOf c * base ^ length cs + value base cs ≡ digitOf d * base ^ length cs + value base ds =
-    v ∙ ap (λ (n : ℕ). digitOf d * base ^ n + value base ds) (sym k) in
-    let parts = same-parts (digitOf c) (digitOf d) (base ^ length cs) (value base cs) (value base ds) (value-lt base cs hs) low s in
+    let low : digitsValue base ds < base ^ length cs = subst (λ (n : ℕ). digitsValue base ds < base ^ n) (sym k) (digits-lt base ds gs) in
+    let s : digitOf c * base ^ length cs + digitsValue base cs ≡ digitOf d * base ^ length cs + digitsValue base ds =
+    v ∙ ap (λ (n : ℕ). digitOf d * base ^ n + digitsValue base ds) (sym k) in
+    let parts = same-parts (digitOf c) (digitOf d) (base ^ length cs) (digitsValue base cs) (digitsValue base ds) (digits-lt base cs hs) low s in
     ap₂ (λ (x : ℕ) (xs : List ℕ). x ∷ xs) (digit-one c d (omega arith) (omega arith) (parts .0)) (digits-one base m cs ds hs gs k (parts .1))
 
 -- the first digit 0: the value is below the power of the rest; not 0: it is not below
-zero-first : (base k : ℕ) (t : List ℕ) → AllDigits base t → length t ≡ suc k → digitOf (getD t 0 0) ≡ 0 → value base t < base ^ k
-unfolding AllDigits value
+zero-first : (base k : ℕ) (t : List ℕ) → AllDigits base t → length t ≡ suc k → digitOf (getD t 0 0) ≡ 0 → digitsValue base t < base ^ k
+unfolding AllDigits digitsValue
 zero-first base k [] a l z = absurd (suc-ne-zero k (sym l))
 zero-first base k (c ∷ cs) (h, hs) l z =
     let e : length cs ≡ k = suc-inj l in
-    let g = value-lt base cs hs in
+    let g = digits-lt base cs hs in
     let o : digitOf c * base ^ length cs ≡ 0 * base ^ length cs = ap (λ (n : ℕ). n * base ^ length cs) z in
     omega (arith, ap (λ (n : ℕ). base ^ n) e)
 
-full-first : (base k : ℕ) (t : List ℕ) → length t ≡ suc k → (digitOf (getD t 0 0) ≡ 0 → ⊥) → base ^ k ≤ value base t
-unfolding value
+full-first : (base k : ℕ) (t : List ℕ) → length t ≡ suc k → (digitOf (getD t 0 0) ≡ 0 → ⊥) → base ^ k ≤ digitsValue base t
+unfolding digitsValue
 full-first base k [] l z = absurd (suc-ne-zero k (sym l))
 full-first base k (c ∷ cs) l z =
     let e : length cs ≡ k = suc-inj l in
@@ -154,22 +154,22 @@ all-lastDigits base (suc k) n o m =
     let d : digitOf (digitChar (n % base)) < base = rw (digit-char (n % base) (omega arith)) r in
     all-snoc base (lastDigits base k (n / base)) (digitChar (n % base)) (all-lastDigits base k (n / base) o m) d
 
-value-snoc : (base : ℕ) (t : List ℕ) (c : ℕ) → value base (t ++ (c ∷ [])) ≡ value base t * base + digitOf c
-unfolding value
+value-snoc : (base : ℕ) (t : List ℕ) (c : ℕ) → digitsValue base (t ++ (c ∷ [])) ≡ digitsValue base t * base + digitOf c
+unfolding digitsValue
 value-snoc base [] c = omega (arith, mul-one (digitOf c), ap (λ (n : ℕ). digitOf c * n) (pow-zero base))
 value-snoc base (x ∷ xs) c =
     let l : length (xs ++ (c ∷ [])) ≡ suc (length xs) = omega (arith, length-append xs (c ∷ [])) in
     let p : base ^ length (xs ++ (c ∷ [])) ≡ base ^ length xs * base = ap (λ (n : ℕ). base ^ n) l ∙ pow-suc base (length xs) in
     let q : digitOf x * base ^ length (xs ++ (c ∷ [])) ≡ digitOf x * base ^ length xs * base =
     ap (λ (n : ℕ). digitOf x * n) p ∙ sym (mul-assoc (digitOf x) (base ^ length xs) base) in
-    omega (arith, value-snoc base xs c, add-mul (digitOf x * base ^ length xs) (value base xs) base)
+    omega (arith, value-snoc base xs c, add-mul (digitOf x * base ^ length xs) (digitsValue base xs) base)
 
-pub value-lastDigits : (base k n : ℕ) → 0 < base → base ≤ 16 → n < base ^ k → value base (lastDigits base k n) ≡ n
-unfolding lastDigits value
+pub value-lastDigits : (base k n : ℕ) → 0 < base → base ≤ 16 → n < base ^ k → digitsValue base (lastDigits base k n) ≡ n
+unfolding lastDigits digitsValue
 value-lastDigits base zero n o m h = omega (arith, pow-zero base)
 value-lastDigits base (suc k) n o m h =
     let g : n / base < base ^ k = div-lt-iff-lt-mul o .1 (subst (λ (p : ℕ). n < p) (pow-suc base k) h) in
-    let v : value base (lastDigits base k (n / base)) ≡ n / base = value-lastDigits base k (n / base) o m g in
+    let v : digitsValue base (lastDigits base k (n / base)) ≡ n / base = value-lastDigits base k (n / base) o m g in
     let r : n % base < base = mod-lt n o in
     let d : digitOf (digitChar (n % base)) ≡ n % base = digit-char (n % base) (omega arith) in
     value-snoc base (lastDigits base k (n / base)) (digitChar (n % base)) ∙ ap₂ (λ (a b : ℕ). a * base + b) v d ∙ div-add-mod' n base
@@ -218,25 +218,25 @@ unfolding tens
 tens-none zero h = refl
 tens-none (suc n) h = absurd (not-suc-le-zero h)
 
-pub places-step : (n : ℕ) → places n ≡ suc (tens (n / 10) (n / 10))
-unfolding places
+pub places-step : (n : ℕ) → digitPlaces n ≡ suc (tens (n / 10) (n / 10))
+unfolding digitPlaces
 places-step n = ap suc (tens-same n (n / 10) (n / 10) (omega arith) (omega arith))
 
-pub lt-places : (n : ℕ) → n < 10 ^ places n
-unfolding places
+pub lt-places : (n : ℕ) → n < 10 ^ digitPlaces n
+unfolding digitPlaces
 lt-places n = let g = tens-enough n (n / 10) (omega arith) in omega (arith, pow-suc 10 (tens n (n / 10)))
 
 -- ---- the texts that compute meet the definitions
 
 pub decimal-is : (n : ℕ) → Decimal n (decimalOf n)
-unfolding decimalOf places
+unfolding decimalOf digitPlaces
 decimal-is n =
     let t = tens n (n / 10) in
     let l : length (lastDigits 10 (suc t) n) ≡ suc t = length-lastDigits 10 (suc t) n in
     let o : 0 < 10 = omega arith in
     let m : 10 ≤ 16 = omega arith in
     let a : AllDigits 10 (lastDigits 10 (suc t) n) = all-lastDigits 10 (suc t) n o m in
-    let v : value 10 (lastDigits 10 (suc t) n) ≡ n = value-lastDigits 10 (suc t) n o m (lt-places n) in
+    let v : digitsValue 10 (lastDigits 10 (suc t) n) ≡ n = value-lastDigits 10 (suc t) n o m (lt-places n) in
     record {
       digits = a;
       number = v;
@@ -266,14 +266,14 @@ decimal-short n k t d o h = pick (leb (length t) k) refl
     pick false q =
         let g = leb-false (length t) k q in
         let e : length t ≡ suc (length t - 1) = omega arith in
-        let low : 10 ^ (length t - 1) ≤ value 10 t = full-first 10 (length t - 1) t e (d .lead (omega arith)) in
+        let low : 10 ^ (length t - 1) ≤ digitsValue 10 t = full-first 10 (length t - 1) t e (d .lead (omega arith)) in
         let p : 10 ^ k ≤ 10 ^ (length t - 1) = pow-le-pow-right (omega arith) (omega arith) in
         absurd (omega (arith, d .number))
 
 pub decimal-one : (n : ℕ) (t u : List ℕ) → Decimal n t → Decimal n u → t ≡ u
 decimal-one n t u d e =
-    let l : length t ≤ length u = decimal-short n (length u) t d (e .some) (subst (λ (k : ℕ). k < 10 ^ length u) (e .number) (value-lt 10 u (e .digits))) in
-    let g : length u ≤ length t = decimal-short n (length t) u e (d .some) (subst (λ (k : ℕ). k < 10 ^ length t) (d .number) (value-lt 10 t (d .digits))) in
+    let l : length t ≤ length u = decimal-short n (length u) t d (e .some) (subst (λ (k : ℕ). k < 10 ^ length u) (e .number) (digits-lt 10 u (e .digits))) in
+    let g : length u ≤ length t = decimal-short n (length t) u e (d .some) (subst (λ (k : ℕ). k < 10 ^ length t) (d .number) (digits-lt 10 t (d .digits))) in
     digits-one 10 (omega arith) t u (d .digits) (e .digits) (le-antisymm l g) (d .number ∙ sym (e .number))
 
 pub hex-one : (n : ℕ) (t u : List ℕ) → Hex8 n t → Hex8 n u → t ≡ u
@@ -281,9 +281,9 @@ hex-one n t u d e = digits-one 16 (omega arith) t u (d .digits) (e .digits) (d .
 
 -- ---- lengths
 
-pub length-decimalOf : (n : ℕ) → length (decimalOf n) ≡ places n
+pub length-decimalOf : (n : ℕ) → length (decimalOf n) ≡ digitPlaces n
 unfolding decimalOf
-length-decimalOf n = length-lastDigits 10 (places n) n
+length-decimalOf n = length-lastDigits 10 (digitPlaces n) n
 
 pub length-hexOf : (n : ℕ) → length (hexOf n) ≡ 8
 unfolding hexOf
@@ -295,8 +295,8 @@ decimal-le-10 n h = decimal-short n 10 (decimalOf n) (decimal-is n) (omega arith
 pub decimal-le-20 : (n : ℕ) → n < 2 ^ 64 → length (decimalOf n) ≤ 20
 decimal-le-20 n h = decimal-short n 20 (decimalOf n) (decimal-is n) (omega arith) (omega arith)
 
-pub places-le-20 : (n : ℕ) → n < 2 ^ 64 → places n ≤ 20
+pub places-le-20 : (n : ℕ) → n < 2 ^ 64 → digitPlaces n ≤ 20
 places-le-20 n h = omega (arith, length-decimalOf n, decimal-le-20 n h)
 
 pub hex-lt : (n : ℕ) (t : List ℕ) → Hex8 n t → n < 2 ^ 32
-hex-lt n t d = omega (arith, d .number, value-lt 16 t (d .digits), ap (λ (k : ℕ). 16 ^ k) (d .eight))
+hex-lt n t d = omega (arith, d .number, digits-lt 16 t (d .digits), ap (λ (k : ℕ). 16 ^ k) (d .eight))

@@ -40,9 +40,9 @@ closing-one whole opened line h =
     h .parts
     ∙ ap (λ (a : List ℕ). closingWord whole ++ (a ++ codes "\n")) (decimal-one opened (h .openedText) (decimalOf opened) (h .decimal) (decimal-is opened))
 
-pub refused-is : (number : ℕ) → RefusedLine number (refusedLine number)
+pub refused-line-is : (number : ℕ) → RefusedLine number (refusedLine number)
 unfolding refusedLine numberEnd
-refused-is number = record { numberText = decimalOf number; decimal = decimal-is number; parts = refl }
+refused-line-is number = record { numberText = decimalOf number; decimal = decimal-is number; parts = refl }
 
 pub refused-one : (number : ℕ) (line : List ℕ) → RefusedLine number line → line ≡ refusedLine number
 unfolding refusedLine numberEnd
@@ -88,13 +88,13 @@ hits-le ids distances h (suc i) =
 
 -- ---- a text after another
 
-pub written : (l : List ℕ) (i : ℕ) (xs m : List ℕ) (j : ℕ) → m ≡ sets l i xs → j ≡ i + length xs → i + length xs ≤ length l → Written l i xs m j
-written l i xs m j e f h =
+pub line-written : (l : List ℕ) (i : ℕ) (xs m : List ℕ) (j : ℕ) → m ≡ sets l i xs → j ≡ i + length xs → i + length xs ≤ length l → Written l i xs m j
+line-written l i xs m j e f h =
     let w : j ≤ length m = omega (arith, ap length e, length-sets l i xs) in
     record { list = e; end = f; within = w; front = sym (length-take-le j m w) }
 
-pub length-written : {l m : List ℕ} {i j : ℕ} {xs : List ℕ} → Written l i xs m j → length m ≡ length l
-length-written {l = l} {i = i} {xs = xs} a = ap length (a .list) ∙ length-sets l i xs
+pub length-line : {l m : List ℕ} {i j : ℕ} {xs : List ℕ} → Written l i xs m j → length m ≡ length l
+length-line {l = l} {i = i} {xs = xs} a = ap length (a .list) ∙ length-sets l i xs
 
 pub written-then : {l m n : List ℕ} {i j k : ℕ} {xs ys : List ℕ} → Written l i xs m j → Written m j ys n k → Written l i (xs ++ ys) n k
 written-then {l = l} {i = i} {xs = xs} {ys = ys} a b = record {
@@ -106,14 +106,14 @@ written-then {l = l} {i = i} {xs = xs} {ys = ys} a b = record {
 
 pub written-byte : {l m : List ℕ} {i j : ℕ} {xs : List ℕ} (c : ℕ) → j < length m → Written l i xs m j
     → Written l i (xs ++ (c ∷ [])) (set m j c) (j + 1)
-written-byte {m = m} {j = j} c h a = written-then a (written m j (c ∷ []) (set m j c) (j + 1) refl refl (let g : j + 1 ≤ length m = omega arith in g))
+written-byte {m = m} {j = j} c h a = written-then a (line-written m j (c ∷ []) (set m j c) (j + 1) refl refl (let g : j + 1 ≤ length m = omega arith in g))
 
 -- no hit, and one hit more
-pub written-none : (ids : List ℕ) (distances : List Float) (l : List ℕ) (at : ℕ) → at ≤ length l → Written l at (hitLines ids distances 0) l at
+pub lines-none : (ids : List ℕ) (distances : List Float) (l : List ℕ) (at : ℕ) → at ≤ length l → Written l at (hitLines ids distances 0) l at
 unfolding hitLines joined countFrom
-written-none ids distances l at h =
+lines-none ids distances l at h =
     let e : at ≡ at + 0 = omega arith in
-    written l at [] l at refl e (let g : at + 0 ≤ length l = omega arith in g)
+    line-written l at [] l at refl e (let g : at + 0 ≤ length l = omega arith in g)
 
 pub written-hit : {l m n : List ℕ} {at j k : ℕ} (ids : List ℕ) (distances : List Float) (i bits : ℕ) → bits ≡ toBits binary32 (getD distances i nan)
     → Written l at (hitLines ids distances i) m j → Written m j (hitLine (getD ids i 0) bits) n k → Written l at (hitLines ids distances (i + 1)) n k

@@ -2,7 +2,7 @@
 ghost use Prim.Native.Nat.{_+_, _<_, _≤_};
 ghost use mathlib.Core.Path.{_≡_};
 ghost use lib.ListN.{length};
-ghost use Rattle.text.specs.Digits.{digitChar, lastDigits, places, decimalOf, hexOf};
+ghost use Rattle.text.specs.Digits.{digitChar, lastDigits, digitPlaces, decimalOf, hexOf};
 ghost use Rattle.text.specs.Lines.{Written};
 
 // The character of a digit below 16.
@@ -19,7 +19,7 @@ fn digit_char(d: u64) -> u8
 
 // How many decimal digits a number has.
 fn decimal_places(n: u64) -> usize
-    ensures { λ r. ⌜ r ≡ places n ⌝ }
+    ensures { λ r. ⌜ r ≡ digitPlaces n ⌝ }
 {
     let mut count = 1;
     let mut rest = n / 10;

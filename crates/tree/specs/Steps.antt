@@ -34,15 +34,15 @@ isLeaf s zero ids = true
 isLeaf s (suc levels) ids = leb (length ids) (s .leaf-size)
 
 -- the children's groups of an inner node with a number of levels, each with one level fewer
-unfoldable pub split : Splitting → List (List Float) → ℕ → List ℕ → List Group
+unfoldable pub splitGroup : Splitting → List (List Float) → ℕ → List ℕ → List Group
 unfolding groups
-split s vectors zero ids = []
-split s vectors (suc levels) ids = map (λ group. record { levels = levels; ids = group }) (groups s vectors ids)
+splitGroup s vectors zero ids = []
+splitGroup s vectors (suc levels) ids = map (λ group. record { levels = levels; ids = group }) (groups s vectors ids)
 
 -- the children's groups of a group's node; a leaf has none
 unfoldable pub childGroups : Splitting → List (List Float) → Group → List Group
-unfolding isLeaf split
-childGroups s vectors g = let below = split s vectors (g .levels) (g .ids) in cond (isLeaf s (g .levels) (g .ids)) [] below
+unfolding isLeaf splitGroup
+childGroups s vectors g = let below = splitGroup s vectors (g .levels) (g .ids) in cond (isLeaf s (g .levels) (g .ids)) [] below
 
 -- the groups that become nodes below and at a group, one for each node, by node number
 unfoldable pub groupsFrom : Splitting → List (List Float) → ℕ → List ℕ → List Group
@@ -64,11 +64,11 @@ grownTree s vectors g = grow s vectors (g .levels) (g .ids)
 module _ (s : Splitting) (vectors : List (List Float)) where
   pub childGroups-leaf : (g : Group) → isLeaf s (g .levels) (g .ids) ≡ true → childGroups s vectors g ≡ []
   unfolding childGroups
-  childGroups-leaf g h = ap (λ (b : Bool). cond b [] (split s vectors (g .levels) (g .ids))) h
+  childGroups-leaf g h = ap (λ (b : Bool). cond b [] (splitGroup s vectors (g .levels) (g .ids))) h
 
-  pub childGroups-split : (g : Group) → isLeaf s (g .levels) (g .ids) ≡ false → childGroups s vectors g ≡ split s vectors (g .levels) (g .ids)
+  pub childGroups-split : (g : Group) → isLeaf s (g .levels) (g .ids) ≡ false → childGroups s vectors g ≡ splitGroup s vectors (g .levels) (g .ids)
   unfolding childGroups
-  childGroups-split g h = ap (λ (b : Bool). cond b [] (split s vectors (g .levels) (g .ids))) h
+  childGroups-split g h = ap (λ (b : Bool). cond b [] (splitGroup s vectors (g .levels) (g .ids))) h
 
   -- ---- the law of the loop
 
@@ -182,10 +182,10 @@ module _ (s : Splitting) (vectors : List (List Float)) where
       go (suc levels) ids h = grow-leaf s vectors (suc levels) ids (leb-true (length ids) (s .leaf-size) h)
 
   pub grown-inner : (g : Group) → isLeaf s (g .levels) (g .ids) ≡ false → grownTree s vectors g ≡ inner (g .ids) (forestGrown (childGroups s vectors g))
-  unfolding isLeaf split
+  unfolding isLeaf splitGroup
   grown-inner g h = go (g .levels) (g .ids) h ∙ ap (λ (l : List Group). inner (g .ids) (forestGrown l)) (sym (childGroups-split g h))
     where
-      go : (levels : ℕ) (ids : List ℕ) → isLeaf s levels ids ≡ false → grow s vectors levels ids ≡ inner ids (forestGrown (split s vectors levels ids))
+      go : (levels : ℕ) (ids : List ℕ) → isLeaf s levels ids ≡ false → grow s vectors levels ids ≡ inner ids (forestGrown (splitGroup s vectors levels ids))
       go zero ids h = absurd (false≢true (sym h))
       go (suc levels) ids h =
           grow-inner s vectors levels ids (leb-false (length ids) (s .leaf-size) h)
@@ -214,11 +214,11 @@ module _ (s : Splitting) (vectors : List (List Float)) where
   -- A split puts the clusters, in order, in the group's place.
   pub split-ids : (g : Group) → isLeaf s (g .levels) (g .ids) ≡ false
       → joined (λ child. child .ids) (childGroups s vectors g) ≡ joined (λ cluster. cluster) (clusters (s .dimension) (s .branching) vectors (g .ids))
-  unfolding isLeaf split
+  unfolding isLeaf splitGroup
   split-ids g h = ap (joined (λ child. child .ids)) (childGroups-split g h) ∙ go (g .levels) (g .ids) h
     where
       go : (levels : ℕ) (ids : List ℕ) → isLeaf s levels ids ≡ false
-          → joined (λ child. child .ids) (split s vectors levels ids) ≡ joined (λ cluster. cluster) (clusters (s .dimension) (s .branching) vectors ids)
+          → joined (λ child. child .ids) (splitGroup s vectors levels ids) ≡ joined (λ cluster. cluster) (clusters (s .dimension) (s .branching) vectors ids)
       go zero ids h = absurd (false≢true (sym h))
       go (suc levels) ids h =
           joined-map (λ child. child .ids) (λ group. record { levels = levels; ids = group }) (groups s vectors ids) ∙ joined-groups s vectors ids

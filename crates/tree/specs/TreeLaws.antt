@@ -4,18 +4,17 @@
 -- tree asks only that it is `Fair`: each inner node keeps the ids of the leaves below it. Every grown tree is.
 use Prim.Native.Nat.{ℕ, zero, suc, _+_, _*_, _≤_, _<_, zero-le}
 use mathlib.Core.Path.{_≡_, refl, ap, _∙_}
-use mathlib.Core.Logic.{inl, inr}
 use mathlib.Core.Bool.{Bool, true, false, cond}
 use mathlib.Core.List.{List, [], _∷_, _++_, List·Memᴰ, List·Memᴰ·head, List·Memᴰ·tail}
 use native.Mathlib.Nat.{suc-mul, mul-add}
 use native.Mathlib.Omega.{arith}
-use borrow.Author.Tests.{ltb-true, ltb-false, leb-true, leb-false, le-leb, lt-leb}
+use borrow.Author.Tests.{ltb-true, ltb-false, le-leb, lt-leb}
 use lib.Dec.{leb, ltb}
 use lib.Ieee.{Float}
 use lib.ListN.{length, length-append}
 use Rattle.lists.specs.Lists.{joined, countFrom}
 use Rattle.lists.specs.Counting.{Memᴰ-keep, length-countFrom}
-use Rattle.lists.specs.Partition.{List·Permᴰ, List·Permᴰ·nil, List·Permᴰ·trans, Permᴰ·refl, perm-of-eq, perm-append, perm-length, joined-keep, count, perm-count, count-append, count-countFrom, count-countFrom-not, Different, once-perm, once-countFrom}
+use Rattle.lists.specs.Partition.{List·Permᴰ, List·Permᴰ·nil, List·Permᴰ·trans, Permᴰ·refl, perm-of-eq, perm-append, perm-length, joined-keep, Different, once-perm, once-countFrom}
 use Rattle.cluster.specs.Clusters.{clusters}
 use Rattle.cluster.specs.ClustersLaws.{perm-clusters}
 use Rattle.tree.specs.Tree.{Tree, Forest, leaf, inner, none, more, Splitting, groups, forestOf, grow, treeOf, size, sizes}

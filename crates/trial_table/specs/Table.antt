@@ -14,7 +14,7 @@ use Rattle.label.specs.Fnv.{fnv, fnvFrom, fnvStep}
 use Rattle.bloom.specs.Filter.{firstBit, secondBit}
 use Rattle.tree.specs.Tree.{treeOf, size, sizes}
 use Rattle.echo_file.specs.Format.{settings, vector, filtered, encode}
-use Rattle.text.specs.Digits.{decimalOf, hexOf, lastDigits, places, tens, digitChar}
+use Rattle.text.specs.Digits.{decimalOf, hexOf, lastDigits, digitPlaces, tens, digitChar}
 use Rattle.text.specs.Lines.{codes, hitLineAt, hitLine, numberEnd, closingWord, refusedWord}
 use Rattle.load.specs.File.{fileText}
 
@@ -78,7 +78,7 @@ unfolding normalized ofBits
 three-four-bits = refl
 
 pub table : Table
-unfolding fnv fnvFrom fnvStep dividedBy distance totalOrder ofBits toBits treeOf size sizes fileText example hitLineAt hitLine numberEnd closingWord refusedWord codes decimalOf hexOf lastDigits places tens digitChar
+unfolding fnv fnvFrom fnvStep dividedBy distance totalOrder ofBits toBits treeOf size sizes fileText example hitLineAt hitLine numberEnd closingWord refusedWord codes decimalOf hexOf lastDigits digitPlaces tens digitChar
 table =
     record {
       empty-label = (refl, refl, refl);

@@ -15,7 +15,7 @@ use Rattle.load.specs.Code.{Narrow, NarrowStep}
 use Rattle.load.specs.Onward.{Onward, steps-onward, steps-printed}
 use Rattle.load.specs.Theorem.{Sized}
 use Rattle.store.specs.declared.Lengths.{Lengths}
-use Rattle.printer.specs.Due.{Due, Reached, begins, text-due, goes-on, all-printed}
+use Rattle.printer.specs.Due.{Due, Reached, due-begins, text-due, goes-on, all-printed}
 use Rattle.printer.proofs.print_file.Statement.{statement}
 use Rattle.printer.proofs.print_file.Tie as tie
 
@@ -102,7 +102,7 @@ loop-holds c = (
   record { store = refl; work = refl; ids = refl; distances = refl },
   refl,
   tt,
-  begins (c .before .args .file .now) _,
+  due-begins (c .before .args .file .now) _,
   omega arith,
   omega arith,
 )

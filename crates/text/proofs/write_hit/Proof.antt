@@ -3,7 +3,7 @@ use native.Mathlib.Omega.{arith}
 use lib.ListN.{length-set}
 use Rattle.text.specs.DigitsLaws.{decimal-le-10, length-hexOf}
 use Rattle.text.specs.Lines.{codes, hitLine}
-use Rattle.text.specs.LinesLaws.{length-written, written-then, written-byte}
+use Rattle.text.specs.LinesLaws.{length-line, written-then, written-byte}
 use Rattle.text.proofs.write_hit.Statement.{statement}
 use Rattle.text.proofs.write_hit.Tie as tie
 
@@ -54,7 +54,7 @@ returns c =
     written-byte 10 (slice-write-out-2 c) (written-then id (c .before .before .write-hex .ensures))
 
 same-length : tie.Need-same-length
-same-length c = length-written (returns c)
+same-length c = length-line (returns c)
 
 pub write-hit-spec : {M : Type 1} → statement M
 write-hit-spec =

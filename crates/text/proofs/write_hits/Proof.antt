@@ -5,7 +5,7 @@ use mathlib.Core.Path.{_≡_, subst}
 use lib.ListN.{getD}
 use denote.Ref.{now}
 use Rattle.text.specs.Lines.{hitLines, Written}
-use Rattle.text.specs.LinesLaws.{hit-le-20, length-written, written-none, written-hit}
+use Rattle.text.specs.LinesLaws.{hit-le-20, length-line, lines-none, written-hit}
 use Rattle.text.proofs.write_hits.Statement.{statement}
 use Rattle.text.proofs.write_hits.Tie as tie
 
@@ -40,7 +40,7 @@ after-to-bits c = c .before .before .before
 loop-holds : tie.Need-loop-holds Inv-loop μ-loop
 loop-holds c =
     let a = at-start c .args in
-    (omega arith, omega arith, written-none (a .ids .now) (a .distances .now) (a .out .now) (a .at) (omega arith))
+    (omega arith, omega arith, lines-none (a .ids .now) (a .distances .now) (a .out .now) (a .at) (omega arith))
 
 mul-write-hit : tie.Need-mul-write-hit Inv-loop μ-loop
 mul-write-hit c = omega arith
@@ -60,7 +60,7 @@ to-bits-requires c κs = tt
 write-hit-requires : tie.Need-write-hit-requires Inv-loop μ-loop
 write-hit-requires c κs =
     let l = at-loop (after-shared-slice-known3 c) .loop in
-    omega (arith, length-written (l .inv .2))
+    omega (arith, length-line (l .inv .2))
 
 add-i : tie.Need-add-i Inv-loop μ-loop
 add-i c = omega arith
@@ -86,7 +86,7 @@ returns c =
     subst (λ (k : ℕ). Written (now (a .out)) (a .at) (hitLines (now (a .ids)) (now (a .distances)) k) (l .out) (l .place)) e (l .inv .2)
 
 same-length : tie.Need-same-length Inv-loop μ-loop
-same-length c = length-written (c .before .loop .inv .2)
+same-length c = length-line (c .before .loop .inv .2)
 
 pub write-hits-spec : {M : Type 1} → statement M
 write-hits-spec =

@@ -3,7 +3,7 @@ use mathlib.Core.List.{List}
 use mathlib.Core.Path.{sym, subst}
 use lib.Ieee.{Float}
 use lib.Seq.{length-take-le}
-use Rattle.echo_file.specs.Reads.{between}
+use Rattle.echo_file.specs.Reads.{bytesBetween}
 use Rattle.store.specs.Store.{Store}
 use Rattle.store.specs.Lent.{lent}
 use Rattle.curator.specs.Changes.{Adds}
@@ -78,7 +78,7 @@ returns c =
     let x = a .add .last .1 in
     let left : Store = record { floats = x .0; numbers = x .1 .0; hashes = x .1 .1 .0 } in (
       a .add .result,
-      subst (λ (y : List Float). Adds (s .args .index) (lent (s .args .floats) (s .args .numbers) (s .args .hashes)) (record { document = v .«doc_id»; vector = y; lengths = between (v .«lengths_at») (v .«labels_at») file; bytes = between (v .«labels_at») (v .«floats_at») file }) (a .add .result) left)
+      subst (λ (y : List Float). Adds (s .args .index) (lent (s .args .floats) (s .args .numbers) (s .args .hashes)) (record { document = v .«doc_id»; vector = y; lengths = bytesBetween (v .«lengths_at») (v .«labels_at») file; bytes = bytesBetween (v .«labels_at») (v .«floats_at») file }) (a .add .result) left)
           (r .floats-at .ensures .1) (a .add .ensures),
       c .added .ensures,
     )

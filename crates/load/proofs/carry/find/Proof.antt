@@ -7,7 +7,7 @@ use lib.Seq.{length-take-le}
 use Rattle.store.specs.Lent.{lent}
 use Rattle.curator.specs.Searches.{SearchEnd, Searches}
 use Rattle.curator.specs.Arguments.{Asked}
-use Rattle.echo_file.specs.Reads.{between}
+use Rattle.echo_file.specs.Reads.{bytesBetween}
 use Rattle.load.specs.Step.{searchWith}
 use Rattle.load.specs.Code.{lists, askedFor}
 use borrow.Author.Needs.{needs}
@@ -39,7 +39,7 @@ finds-as : (s : tie.Start) (end : SearchEnd) {q query : List Float} {a asked : A
 finds-as s end {q} {query} {a} {asked} e k h = subst (λ (x : List Float). Finds s end x asked) e (subst (Finds s end q) k h)
 
 abbrev label : tie.Start → Bool → Asked
-label s filtered = let q = s .args .query in askedFor filtered (between (q .«label_at») (q .«floats_at») (s .args .file .now))
+label s filtered = let q = s .args .query in askedFor filtered (bytesBetween (q .«label_at») (q .«floats_at») (s .args .file .now))
 
 abbrev after-components2 : tie.After-search → tie.After-components2
 after-components2 c = c .before .before .before

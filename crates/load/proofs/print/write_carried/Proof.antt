@@ -4,7 +4,7 @@ use Prim.Native.Nat.{ℕ}
 use native.Mathlib.Omega.{arith}
 use mathlib.Core.List.{List, []}
 use Rattle.text.specs.Lines.{Written, refusedLine}
-use Rattle.text.specs.LinesLaws.{written, written-then, length-written, hits-le}
+use Rattle.text.specs.LinesLaws.{line-written, written-then, length-line, hits-le}
 use Rattle.load.specs.declared.carry.Carried.{Carried}
 use Rattle.load.specs.declared.carry.Carried.the-variants.{Answered}
 use Rattle.load.specs.File.{refusedText}
@@ -16,7 +16,7 @@ use Rattle.load.proofs.print.write_carried.Statement.{statement}
 use Rattle.load.proofs.print.write_carried.Tie as tie
 
 nothing : (l : List ℕ) → Written l 0 [] l 0
-nothing l = written l 0 [] l 0 refl (omega arith) (omega arith)
+nothing l = line-written l 0 [] l 0 refl (omega arith) (omega arith)
 
 -- ---- the places that needs go back to (primed: the same place, from another one)
 
@@ -91,7 +91,7 @@ write-closing-requires c κs =
     let s = found k in
     let w = h .write-hits .ensures in
     let few = hits-le (s .args .ids .now) (s .args .distances .now) (λ i. omega (arith, after-shared-slice-known k .shared-slice-known .given i)) (k .carried2 .given .0 .1 .1 .0) in
-    omega (arith, f .0, s .pre .1, w .end, length-written w, few)
+    omega (arith, f .0, s .pre .1, w .end, length-line w, few)
 
 returns : tie.Need-returns
 returns c = let s = start (c .before .before) in text-as s (c .enum-told .given .1) (nothing (s .args .out .now))

@@ -2,13 +2,13 @@
 use Prim.Native.Nat.{_+_}
 use mathlib.Core.Path.{_≡_}
 use native.Mathlib.Omega.{arith}
-use Rattle.text.specs.Digits.{tens, places}
+use Rattle.text.specs.Digits.{tens, digitPlaces}
 use Rattle.text.specs.DigitsLaws.{tens-step, tens-none, places-step, places-le-20}
 use Rattle.text.proofs.digits.decimal_places.Statement.{statement}
 use Rattle.text.proofs.digits.decimal_places.Tie as tie
 
 abbrev Inv-loop : tie.InvT-loop
-Inv-loop n count₀ rest₀ count rest = count + tens rest rest ≡ places n
+Inv-loop n count₀ rest₀ count rest = count + tens rest rest ≡ digitPlaces n
 
 abbrev μ-loop : tie.MeasureT-loop
 μ-loop n count₀ rest₀ count rest = rest
