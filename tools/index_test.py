@@ -113,7 +113,7 @@ def main():
     print_add((1, 0, 1, True), (8, 15, 5), vector)
     print_add((1, 0, 1, True), (8, 15, 6), [3.0])
     least, greatest, infinity, nan = f32(-1.4e-45), f32(3.4028235e38), math.inf, math.nan
-    for given in [[3.0], [nan, nan, nan], [greatest, 0.0], [0.0, least], [infinity, 0.0], [0.0, -infinity]]:
+    for given in [[3.0], [nan, nan, nan], [greatest, 0.0], [f32(1e30), f32(-1e30)], [0.0, least], [infinity, 0.0], [0.0, -infinity]]:
         print_add(fresh, full, given)
     print_add(fresh, full, [0.0, nan], b"\1", b"")
     for lengths, label_bytes in [(b"\1", b""), (b"\1", b"a"), (b"\1", b"ab"), (b"\1\0", b"a")]:

@@ -73,6 +73,16 @@ pub struct Answer {
     pub whole: bool,
 }
 
+/// What an add is given, as our lists have it.
+pub fn added(id: u32, vector: &[f32], labels: &[String]) -> Added {
+    Added {
+        id,
+        vector: vector.to_vec(),
+        lengths: labels.iter().map(|label| label.len() as u8).collect(),
+        bytes: labels.concat().into_bytes(),
+    }
+}
+
 /// The state of an index and its lists.
 #[derive(Clone)]
 pub struct Ours {
@@ -95,13 +105,7 @@ impl Ours {
 
     /// Adds a vector with its labels.
     pub fn add(&mut self, id: u32, vector: &[f32], labels: &[String]) -> Result<(), u32> {
-        let added = Added {
-            id,
-            vector: vector.to_vec(),
-            lengths: labels.iter().map(|label| label.len() as u8).collect(),
-            bytes: labels.concat().into_bytes(),
-        };
-        done(ffi::add(&mut self.state, self.lists.lend_mut().0, &added))
+        done(ffi::add(&mut self.state, self.lists.lend_mut().0, &added(id, vector, labels)))
     }
 
     pub fn build(&mut self) -> Result<(), u32> {

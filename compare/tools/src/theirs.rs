@@ -2,15 +2,20 @@
 use crate::case::{Case, Query};
 use original::curator::{CuratorIndex, CuratorParams};
 
-/// The original's index, not yet built.
-pub fn filled(case: &Case) -> CuratorIndex {
+/// The original's index with nothing added.
+pub fn empty(case: &Case) -> CuratorIndex {
     let params = CuratorParams {
         branching_factor: case.shape.branching,
         max_leaf_size: case.shape.leaf_size,
         ef_search: case.shape.ef,
         beam_width: case.shape.beam,
     };
-    let mut index = CuratorIndex::new(case.shape.dimension, params).expect("new");
+    CuratorIndex::new(case.shape.dimension, params).expect("new")
+}
+
+/// The original's index, not yet built.
+pub fn filled(case: &Case) -> CuratorIndex {
+    let mut index = empty(case);
     for doc in &case.docs {
         index.add(doc.id, doc.vector.clone(), doc.labels.clone()).expect("add");
     }

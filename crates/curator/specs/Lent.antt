@@ -12,6 +12,9 @@ use Rattle.store.specs.declared.Lengths.{Lengths}
 use Rattle.store.specs.Store.{Store, Limits}
 use Rattle.store.specs.Lent.{lengthsOf, Long}
 use Rattle.settings.specs.declared.Check.{Check}
+use Rattle.settings.specs.declared.Check.the-variants as Check′
+use Rattle.curator.specs.declared.VectorCheck.{VectorCheck}
+use Rattle.curator.specs.declared.VectorCheck.the-variants as VectorCheck′
 use Rattle.curator.specs.declared.CuratorIndex.{CuratorIndex}
 use Rattle.curator.specs.Limits.{stateSound, indexShape}
 use Rattle.curator.specs.Rows.{firstOf, stateRow, addRows}
@@ -23,9 +26,15 @@ abbrev pub adding : ℕ → RefT (List Float) → RefT (List ℕ) → RefT (List
 adding document vector lengths bytes =
     record { document = document; vector = now vector; lengths = now lengths; bytes = now bytes }
 
+-- what the rows come to, as code that scanned a vector answers it: a call that is fine goes on with the sum of the squares
+abbrev pub withSquares : Check → Float → VectorCheck
+withSquares Check′.Fine squares = VectorCheck′.Squares squares
+withSquares (Check′.Refused r) squares = VectorCheck′.Refused r
+
 -- what the rows of an add come to, by the lengths of the lists
-abbrev pub addChecked : CuratorIndex → Lengths → AddCall → Check
-addChecked index lent call = firstOf (stateRow (stateSound index) ∷ addRows (factsOf index) lent call)
+abbrev pub addChecked : CuratorIndex → Lengths → AddCall → VectorCheck
+addChecked index lent call =
+    withSquares (firstOf (stateRow (stateSound index) ∷ addRows (factsOf index) lent call)) (dot (call .vector) (call .vector))
 
 -- What the writing of an add relies on, as plain facts. They hold where no row's case does (`add-facts` of AddLaws).
 pub record AddRoom (index : CuratorIndex) (store : Store) (call : AddCall) : Type 0 where

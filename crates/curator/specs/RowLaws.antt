@@ -7,6 +7,7 @@ use mathlib.Core.Path.{_≡_, refl, sym, ap, _∙_}
 use mathlib.Core.List.{List, [], _∷_, _++_}
 use native.Mathlib.Omega.{arith}
 use borrow.Author.Tests.{not-true, not-false}
+use lib.Ieee.{Float}
 use lib.ListN.{length, getD}
 use mathlib.Core.Logic.{_↔_, _⊎_, inl, inr}
 use Rattle.lists.specs.Lists.{isIn}
@@ -15,6 +16,7 @@ use Rattle.store.specs.Store.{Store}
 use Rattle.settings.specs.declared.Capacities.{Capacities}
 use Rattle.curator.specs.declared.Changed.{Changed}
 use Rattle.curator.specs.declared.Changed.the-variants as Changed′
+use Rattle.curator.specs.declared.VectorCheck.the-variants as VectorCheck′
 use Rattle.settings.specs.declared.Check.{Check}
 use Rattle.settings.specs.declared.Check.the-variants.{Fine, Refused}
 use Rattle.curator.specs.declared.CuratorIndex.{CuratorIndex}
@@ -34,6 +36,7 @@ use Rattle.store.specs.Lent.{lengthsOf}
 use Rattle.curator.specs.Changes.{created, newAnswer, addCheck, AddsBy, Adds, Creates, NewBy}
 use Rattle.curator.specs.OutcomeLaws.{carried-is, is-carried, refused-is, is-refused}
 use Rattle.curator.specs.Arguments.{AddCall}
+use Rattle.curator.specs.Lent.{withSquares}
 
 -- ---- one row
 
@@ -55,6 +58,16 @@ test-failed t = (not-true t, λ e. ap not e)
 
 pub test-passed : (t : Bool) → (not t ≡ false) ↔ (t ≡ true)
 test-passed t = (not-false t, λ e. ap not e)
+
+-- ---- a check that carries the sum of squares
+
+pub squares-fine : (check : Check) (sum squares : Float) → withSquares check sum ≡ VectorCheck′.Squares squares → (check ≡ Fine) × (squares ≡ sum)
+squares-fine Fine sum squares e = (refl, cc)
+squares-fine (Refused r) sum squares e = let z : _≡_ {A = ℕ} 0 1 = cc in absurd (omega arith)
+
+pub squares-refused : (check : Check) (sum : Float) (r : Refusal) → withSquares check sum ≡ VectorCheck′.Refused r → check ≡ Refused r
+squares-refused Fine sum r e = let z : _≡_ {A = ℕ} 0 1 = cc in absurd (omega arith)
+squares-refused (Refused q) sum r e = cc
 
 -- ---- any list of rows
 

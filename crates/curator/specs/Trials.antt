@@ -1,11 +1,23 @@
--- The definitions on small values: `new` at the limits, and the labels of an add.
+-- The definitions on small values: `new` at the limits, the labels of an add, and an add whose squares overflow.
 use Prim.Native.Nat.{ℕ}
-use mathlib.Core.List.{[], _∷_}
-use mathlib.Core.Path.{_≡_, refl}
+use mathlib.Core.List.{[], _∷_, map}
+use mathlib.Core.Path.{_≡_, refl, ap, _∙_}
 use Rattle.lists.specs.Lists.{pieces}
-use Rattle.curator.specs.Changes.{created}
+use lib.Ieee.{binary32, ofBits, toBits}
+use lib.ListN.{replicate}
+use lib.Seq.{sets}
+use Rattle.vector.specs.Vector.{zero32}
+use Rattle.vector.specs.Normalized.{normalized, normalized-is}
+use Rattle.store.specs.Store.{Store}
+use Rattle.settings.specs.declared.Check.the-variants.{Fine}
+use Rattle.curator.specs.declared.CuratorIndex.{CuratorIndex}
+use Rattle.curator.specs.declared.Changed.{Changed}
+use Rattle.curator.specs.Arguments.{AddCall}
+use Rattle.curator.specs.Calls.{fresh}
+use Rattle.curator.specs.Changes.{created, addCheck, AddsBy, Adds}
 use Rattle.settings.specs.Limits.{usual}
 use Rattle.curator.specs.Outcome.{changedNumber}
+use Rattle.curator.specs.OutcomeLaws.{refused-is}
 
 -- D 0 and 129 are 1, also with another setting outside its limits; V 0 and M 0 are 2; D 1 and 128 are accepted
 trial-new :
@@ -22,3 +34,36 @@ trial-new = (refl, refl, refl, refl, refl, refl)
 trial-labels : pieces {A = ℕ} (1 ∷ 0 ∷ 2 ∷ []) (97 ∷ 98 ∷ 99 ∷ []) ≡ (97 ∷ []) ∷ [] ∷ (98 ∷ 99 ∷ []) ∷ []
 unfolding pieces
 trial-labels = refl
+
+-- ---- K2's echo, of which 02 says how it is stored
+
+-- an index of two components with room for one vector, and its store of zeros
+trialIndex : CuratorIndex
+trialIndex = fresh 2 (record { «branching_factor» = 1; «max_leaf_size» = 1; «ef_search» = 1; «beam_width» = 1 }) (record { vectors = 1; entries = 0; nodes = 1 })
+
+trialStore : Store
+unfolding zero32
+trialStore = record { floats = replicate 6 zero32; numbers = replicate 9 0; hashes = replicate 4 0 }
+
+-- the echo of these two patterns under document id 7, without labels
+trialAdd : ℕ → ℕ → AddCall
+unfolding ofBits
+trialAdd first second =
+    record { document = 7; vector = ofBits binary32 first ∷ ofBits binary32 second ∷ []; lengths = []; bytes = [] }
+
+-- (1e30, -1e30) is accepted, and whatever an add leaves begins with 0.0 and -0.0
+trial-overflow-fine : addCheck trialIndex trialStore (trialAdd 0x7149F2CA 0xF149F2CA) ≡ Fine
+unfolding addCheck trialIndex trialStore trialAdd
+trial-overflow-fine = refl
+
+trial-overflow : (answer : Changed) (store′ : Store) → Adds trialIndex trialStore (trialAdd 0x7149F2CA 0xF149F2CA) answer store′
+    → map (toBits binary32) (store′ .floats) ≡ 0 ∷ 0x80000000 ∷ 0 ∷ 0 ∷ 0 ∷ 0 ∷ []
+unfolding Adds AddsBy addCheck trialIndex trialStore trialAdd normalized toBits
+trial-overflow answer store′ (_, wrote) =
+    ap (map (toBits binary32)) (wrote .floats ∙ ap (sets (trialStore .floats) 0) (normalized-is _ _ (wrote .normalized)))
+
+-- an infinite second component is refusal 8, and nothing is written
+trial-infinite : (answer : Changed) (store′ : Store) → Adds trialIndex trialStore (trialAdd 0x3F800000 0xFF800000) answer store′
+    → (changedNumber answer ≡ 8) × (store′ ≡ trialStore)
+unfolding Adds AddsBy addCheck trialIndex trialStore trialAdd
+trial-infinite answer store′ (refused, same) = (ap changedNumber (refused-is _ _ refused), same)

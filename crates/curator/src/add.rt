@@ -6,13 +6,14 @@ ghost use lib.ListN.{length, set, replicate};
 ghost use lib.Seq.{sets};
 ghost use Rattle.label.specs.Fnv.{fnv};
 ghost use Rattle.lists.specs.Lists.{part, total};
+ghost use Rattle.vector.specs.Vector.{dot};
 ghost use Rattle.curator.specs.Calls.{hashesOfLabels, grown};
 ghost use Rattle.curator.specs.Changes.{Wrote};
 ghost use Rattle.curator.specs.Lent.{adding, addChecked, AddRoom, VectorAt};
 ghost use Rattle.store.specs.Lent.{lent};
 use crate::CuratorIndex;
+use crate::VectorCheck;
 use crate::limits;
-use settings::Check;
 use settings::refusal::InputRefusal;
 use settings::refusal::Refusal;
 use settings::refusal::StateRefusal;
@@ -44,50 +45,51 @@ fn sums_to(lengths: &[u8], sum: usize) -> bool
     left == 0
 }
 
-// The first refusal whose case holds. No row looks at the document id.
+// The first refusal whose case holds, or the sum of the vector's squares. One pass looks at the components. No row looks at the document id.
 pub fn add_check(
     index: CuratorIndex,
     lent: Lengths,
     vector: &[f32],
     lengths: &[u8],
     bytes: &[u8],
-) -> Check
+) -> VectorCheck
     ensures { λ r. ⌜ r ≡ addChecked index lent (adding 0 (vector .entry) (lengths .entry) (bytes .entry)) ⌝ }
 {
     if !limits::state_sound(index) {
-        return Check::Refused(Refusal::State(StateRefusal::InvalidState));
+        return VectorCheck::Refused(Refusal::State(StateRefusal::InvalidState));
     }
     if limits::shape_of(index).store_short(lent) {
-        return Check::Refused(Refusal::Store(StoreRefusal::ListTooShort));
+        return VectorCheck::Refused(Refusal::Store(StoreRefusal::ListTooShort));
     }
     if index.built {
-        return Check::Refused(Refusal::State(StateRefusal::AlreadyBuilt));
+        return VectorCheck::Refused(Refusal::State(StateRefusal::AlreadyBuilt));
     }
     if vector.len() != index.dimension {
-        return Check::Refused(Refusal::Input(InputRefusal::DimensionMismatch));
+        return VectorCheck::Refused(Refusal::Input(InputRefusal::DimensionMismatch));
     }
-    if !vector::all_finite(vector) {
-        return Check::Refused(Refusal::Input(InputRefusal::NonFiniteInput));
+    let scanned = vector::scan(vector);
+    if !scanned.finite {
+        return VectorCheck::Refused(Refusal::Input(InputRefusal::NonFiniteInput));
     }
     if !sums_to(lengths, bytes.len()) {
-        return Check::Refused(Refusal::Input(InputRefusal::LabelLengths));
+        return VectorCheck::Refused(Refusal::Input(InputRefusal::LabelLengths));
     }
     if index.counts.vectors == index.capacities.vectors {
-        return Check::Refused(Refusal::Store(StoreRefusal::VectorsFull));
+        return VectorCheck::Refused(Refusal::Store(StoreRefusal::VectorsFull));
     }
     if index.capacities.entries < index.counts.entries + lengths.len() {
-        return Check::Refused(Refusal::Store(StoreRefusal::EntriesFull));
+        return VectorCheck::Refused(Refusal::Store(StoreRefusal::EntriesFull));
     }
-    Check::Fine
+    VectorCheck::Squares(scanned.squares)
 }
 
-// Writes what is stored of a vector.
-fn write_vector(floats: &mut [f32], place: usize, vector: &[f32])
+// Writes what is stored of a vector, the sum of whose squares is `squares`.
+fn write_vector(floats: &mut [f32], place: usize, vector: &[f32], squares: f32)
     requires { ⌜ place + length (now vector) ≤ length (now floats) ⌝ }
+    requires { ⌜ squares ≡ dot (now vector) (now vector) ⌝ }
     ensures { λ _. ⌜ VectorAt (now (floats .entry)) place (now (vector .entry)) (now (floats .exit)) ⌝ }
 {
     let end = place + vector.len();
-    let squares = vector::dot(vector, vector);
     vector::normalize(vector, squares, &mut floats[place..end]);
 }
 
@@ -136,7 +138,7 @@ fn write_numbers(numbers: &mut [u32], vector: usize, doc_id: u32, place: usize, 
     write_all(numbers, place, count, owner);
 }
 
-// Writes what an accepted add writes, after what is held.
+// Writes what an accepted add writes, after what is held; `squares` is the sum of the vector's squares.
 pub fn write_add(
     index: CuratorIndex,
     floats: &mut [f32],
@@ -144,17 +146,19 @@ pub fn write_add(
     hashes: &mut [u64],
     doc_id: u32,
     vector: &[f32],
+    squares: f32,
     lengths: &[u8],
     bytes: &[u8],
 )
     requires { ⌜ AddRoom index (lent floats numbers hashes) (adding «doc_id» vector lengths bytes) ⌝ }
+    requires { ⌜ squares ≡ dot (now vector) (now vector) ⌝ }
     ensures { λ _. ⌜ Wrote index (lent (floats .entry) (numbers .entry) (hashes .entry))
         (adding «doc_id» (vector .entry) (lengths .entry) (bytes .entry))
         (lent (floats .exit) (numbers .exit) (hashes .exit)) ⌝ }
 {
     let held = index.counts;
     let owners = limits::shape_of(index).owners_at() + held.entries;
-    write_vector(floats, held.vectors * index.dimension, vector);
+    write_vector(floats, held.vectors * index.dimension, vector, squares);
     write_numbers(numbers, held.vectors, doc_id, owners, lengths.len());
     write_hashes(hashes, held.entries, lengths, bytes);
 }

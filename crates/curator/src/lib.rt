@@ -8,7 +8,6 @@ mod add;
 pub mod limits;
 
 use settings::Capacities;
-use settings::Check;
 use settings::CuratorParams;
 use settings::refusal::Refusal;
 use settings::refusal::SettingsRefusal;
@@ -27,6 +26,12 @@ pub struct CuratorIndex {
 // What `new`, `add` and `build` answer: the index from now on, or why not.
 pub enum Changed {
     Index(CuratorIndex),
+    Refused(Refusal),
+}
+
+// What the rows of a call with a vector come to: the sum of its squares, from the pass that looked for what is not finite, or why not.
+pub enum VectorCheck {
+    Squares(f32),
     Refused(Refusal),
 }
 
@@ -89,8 +94,8 @@ impl CuratorIndex {
         };
         let check = add::add_check(self, lent, vector, lengths, bytes);
         match check {
-            Check::Refused(refusal) => Changed::Refused(refusal),
-            Check::Fine => {
+            VectorCheck::Refused(refusal) => Changed::Refused(refusal),
+            VectorCheck::Squares(squares) => {
                 add::write_add(
                     self,
                     floats,
@@ -98,6 +103,7 @@ impl CuratorIndex {
                     hashes,
                     doc_id,
                     vector,
+                    squares,
                     lengths,
                     bytes,
                 );

@@ -207,6 +207,7 @@ fn vectors() {
     try_add(state(0, 0, 0, false), 10, 17, 8, &[3.0f32], b"", b"");
     try_add(state(0, 0, 0, false), 10, 17, 8, &[nan, nan, nan], b"", b"");
     try_add(state(0, 0, 0, false), 10, 17, 8, &[greatest, 0.0], b"", b"");
+    try_add(state(0, 0, 0, false), 10, 17, 8, &[1e30, -1e30], b"", b"");
     try_add(state(0, 0, 0, false), 10, 17, 8, &[0.0, least], b"", b"");
     try_add(state(0, 0, 0, false), 10, 17, 8, &[infinity, 0.0], b"", b"");
     try_add(

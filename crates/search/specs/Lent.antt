@@ -10,7 +10,9 @@ use Rattle.walk.specs.Contracts.{StoreLent}
 use Rattle.walk.specs.declared.Searched.{Searched}
 use Rattle.walk.specs.declared.Searched.the-variants as searched
 use Rattle.walk.specs.declared.Wanted.{Wanted}
-use Rattle.settings.specs.declared.Check.{Check}
+use Rattle.vector.specs.Vector.{dot}
+use Rattle.curator.specs.declared.VectorCheck.{VectorCheck}
+use Rattle.curator.specs.Lent.{withSquares}
 use Rattle.curator.specs.declared.CuratorIndex.{CuratorIndex}
 use Rattle.curator.specs.declared.Found.{Found}
 use Rattle.curator.specs.declared.Found.the-variants as answers
@@ -24,8 +26,9 @@ use Rattle.curator.specs.Searches.{wantedOf, SearchEnd, SearchWalked, Searches}
 use Rattle.curator.specs.Arguments.{Asking, Asked, everything, labelled, SearchCall}
 
 -- what the rows of a search come to, by the lengths of the lists
-abbrev pub searchChecked : CuratorIndex → Lengths → ℕ → Asking → Check
-searchChecked index lent work asked = firstOf (stateRow (stateSound index) ∷ searchRows (factsOf index) lent work asked)
+abbrev pub searchChecked : CuratorIndex → Lengths → ℕ → Asking → VectorCheck
+searchChecked index lent work asked =
+    withSquares (firstOf (stateRow (stateSound index) ∷ searchRows (factsOf index) lent work asked)) (dot (asked .query) (asked .query))
 
 abbrev pub askingWith : RefT (List Float) → ℕ → ℕ → ℕ → Asking
 askingWith query k ids distances = record { query = now query; k = k; ids = ids; distances = distances }

@@ -1,12 +1,13 @@
 // Both searches of an index: the refusals, the query normalised, and the walk (document 01, 'Search').
 ghost use mathlib.Core.Path.{_≡_};
+ghost use Rattle.vector.specs.Vector.{dot};
 ghost use Rattle.store.specs.Lent.{lent};
 ghost use Rattle.curator.specs.Searches.{Searches};
 ghost use Rattle.search.specs.Lent.{askingWith, searchChecked, SearchReady, foundOf, looking, leaving, filtered, unfiltered, SearchesFor, WalkedFor};
 use curator::CuratorIndex;
 use curator::Found;
+use curator::VectorCheck;
 use curator::limits;
-use settings::Check;
 use settings::refusal::InputRefusal;
 use settings::refusal::Refusal;
 use settings::refusal::StateRefusal;
@@ -15,7 +16,7 @@ use store::Lengths;
 use walk::Searched;
 use walk::Wanted;
 
-// The first refusal whose case holds, of those that come before the walk.
+// The first refusal whose case holds, of those that come before the walk, or the sum of the query's squares.
 fn search_check(
     index: CuratorIndex,
     lent: Lengths,
@@ -24,28 +25,29 @@ fn search_check(
     k: usize,
     ids: usize,
     distances: usize,
-) -> Check
+) -> VectorCheck
     ensures { λ r. ⌜ r ≡ searchChecked index lent work (askingWith (query .entry) k ids distances) ⌝ }
 {
     if !limits::state_sound(index) {
-        return Check::Refused(Refusal::State(StateRefusal::InvalidState));
+        return VectorCheck::Refused(Refusal::State(StateRefusal::InvalidState));
     }
     if limits::shape_of(index).lists_short(lent, work) {
-        return Check::Refused(Refusal::Store(StoreRefusal::ListTooShort));
+        return VectorCheck::Refused(Refusal::Store(StoreRefusal::ListTooShort));
     }
     if !index.built {
-        return Check::Refused(Refusal::State(StateRefusal::NotBuilt));
+        return VectorCheck::Refused(Refusal::State(StateRefusal::NotBuilt));
     }
     if query.len() != index.dimension {
-        return Check::Refused(Refusal::Input(InputRefusal::DimensionMismatch));
+        return VectorCheck::Refused(Refusal::Input(InputRefusal::DimensionMismatch));
     }
-    if !vector::all_finite(query) {
-        return Check::Refused(Refusal::Input(InputRefusal::NonFiniteInput));
+    let scanned = vector::scan(query);
+    if !scanned.finite {
+        return VectorCheck::Refused(Refusal::Input(InputRefusal::NonFiniteInput));
     }
     if (ids < k) | (distances < k) {
-        return Check::Refused(Refusal::Input(InputRefusal::AnswerTooShort));
+        return VectorCheck::Refused(Refusal::Input(InputRefusal::AnswerTooShort));
     }
-    Check::Fine
+    VectorCheck::Squares(scanned.squares)
 }
 
 // What a walk gave, as an answer.
@@ -66,7 +68,7 @@ fn found(searched: Searched) -> Found
     }
 }
 
-// The walk from the normalised query.
+// The walk from the normalised query, the sum of whose squares before was `squares`.
 fn walk_from(
     index: CuratorIndex,
     floats: &[f32],
@@ -74,19 +76,20 @@ fn walk_from(
     hashes: &[u64],
     work: &mut [u32],
     query: &[f32],
+    squares: f32,
     wanted: Wanted,
     k: usize,
     ids: &mut [u32],
     distances: &mut [f32],
 ) -> Found
     requires { ⌜ SearchReady index (lent floats numbers hashes) (now work) (now query) k (now ids) (now distances) ⌝ }
+    requires { ⌜ squares ≡ dot (now query) (now query) ⌝ }
     ensures { λ r. ⌜ WalkedFor index (lent (floats .entry) (numbers .entry) (hashes .entry)) (now (work .entry)) wanted
         (looking (query .entry) k (ids .entry) (distances .entry))
         (leaving r (work .exit) (ids .exit) (distances .exit)) ⌝ }
 {
     let start = 0;
     let end = query.len();
-    let squares = vector::dot(query, query);
     let mut normalized: [f32; 128] = [0.0; 128];
     vector::normalize(query, squares, &mut normalized[start..end]);
     let counts = index.counts;
@@ -138,14 +141,15 @@ fn search_wanted(
         distances.len(),
     );
     match check {
-        Check::Refused(refusal) => Found::Refused(refusal),
-        Check::Fine => walk_from(
+        VectorCheck::Refused(refusal) => Found::Refused(refusal),
+        VectorCheck::Squares(squares) => walk_from(
             index,
             floats,
             numbers,
             hashes,
             work,
             query,
+            squares,
             wanted,
             k,
             ids,

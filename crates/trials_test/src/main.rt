@@ -84,7 +84,8 @@ fn stored(r: &[u8])
 {
     let v = four(r, 0);
     let mut out = [0.0f32; 4];
-    vector::normalize(&v, vector::dot(&v, &v), &mut out);
+    let scanned = vector::scan(&v);
+    vector::normalize(&v, scanned.squares, &mut out);
     print_float(out[0]);
     print_float(out[1]);
     print_float(out[2]);
@@ -140,6 +141,22 @@ fn filter(r: &[u8])
     line_end();
 }
 
+// 8: the pass over a vector of `count` components: whether all are finite, and the sum of squares.
+fn scanned(r: &[u8])
+    requires { ⌜ length (now r) ≡ 40 ⌝ }
+{
+    let v = four(r, 0);
+    let start = 0;
+    let n = count(r, 4);
+    let scanned = vector::scan(&v[start..n]);
+    if scanned.finite {
+        io::write_all(STDOUT_FILENO, b"finite ");
+    } else {
+        io::write_all(STDOUT_FILENO, b"not finite ");
+    }
+    print_float(scanned.squares);
+}
+
 fn answer(r: &[u8])
     requires { ⌜ length (now r) ≡ 40 ⌝ }
 {
@@ -152,6 +169,7 @@ fn answer(r: &[u8])
         5 => keys(r),
         6 => hash(r),
         7 => filter(r),
+        8 => scanned(r),
         _ => line_end(),
     }
 }

@@ -1,7 +1,8 @@
--- One turn of `all_finite`, and its end: what is still due from the place i on is what the turn does, then what is due from the next place.
+-- One turn of `scan`, and its end, for finiteness; those of the sum are laws of `dotFrom`. What is still due from the place i on is what the turn
+-- does, then what is due from the next place.
 use Prim.Native.Nat.{ℕ, suc, _+_, _≤_, _<_}
-use mathlib.Core.Path.{_≡_, sym, _∙_}
-use mathlib.Core.Bool.{Bool, true, false, _&&_}
+use mathlib.Core.Path.{_≡_, sym, ap, _∙_}
+use mathlib.Core.Bool.{Bool, _&&_, and-assoc, and-true}
 use mathlib.Core.List.{List}
 use native.Mathlib.Numerals.{add-one}
 use lib.ListN.{length, getD, drop, drop-of-length-le}
@@ -13,13 +14,11 @@ allFinite-cons : (v : List Float) (i : ℕ) → i < length v → allFinite (drop
 unfolding allFinite
 allFinite-cons v i h = rw (drop-cons v i nan)
 
-pub allFinite-turn : (x : Bool) (v : List Float) (i : ℕ) → x ≡ allFinite (drop i v) → i < length v → finite (getD v i nan) ≡ true
-    → x ≡ allFinite (drop (i + 1) v)
-allFinite-turn x v i e h f = e ∙ allFinite-cons v i h ∙ rw (f, add-one)
+pub allFinite-turn : (x all one : Bool) (v : List Float) (i : ℕ) → x ≡ all && allFinite (drop i v) → i < length v → one ≡ finite (getD v i nan)
+    → x ≡ (all && one) && allFinite (drop (i + 1) v)
+allFinite-turn x all one v i e h f =
+    e ∙ ap (λ (b : Bool). all && b) (allFinite-cons v i h) ∙ sym (and-assoc all (finite (getD v i nan)) (allFinite (drop (suc i) v))) ∙ rw (f, add-one)
 
-pub allFinite-out : (x : Bool) (v : List Float) (i : ℕ) → x ≡ allFinite (drop i v) → i < length v → finite (getD v i nan) ≡ false → false ≡ x
-allFinite-out x v i e h f = sym (e ∙ allFinite-cons v i h ∙ rw f)
-
-pub allFinite-end : (x : Bool) (v : List Float) (i : ℕ) → x ≡ allFinite (drop i v) → length v ≤ i → true ≡ x
+pub allFinite-end : (x all : Bool) (v : List Float) (i : ℕ) → x ≡ all && allFinite (drop i v) → length v ≤ i → all ≡ x
 unfolding allFinite
-allFinite-end x v i e h = sym (e ∙ rw (drop-of-length-le v h))
+allFinite-end x all v i e h = sym (e ∙ rw (drop-of-length-le v h) (and-true all))

@@ -1,10 +1,40 @@
--- A value beside document 01's trial echoes (those are crates/trial_table/specs/Table.antt), computed from the definitions.
+-- Values beside document 01's trial echoes (those are crates/trial_table/specs/Table.antt), computed from the definitions.
+use Prim.Native.Nat.{ℕ}
 use mathlib.Core.Path.{_≡_, refl}
-use mathlib.Core.List.{[], _∷_, map}
-use lib.Ieee.{binary32, ofBits, toBits}
+use mathlib.Core.Bool.{true, false}
+use mathlib.Core.List.{List, [], _∷_, map}
+use lib.Ieee.{Float, binary32, ofBits, toBits}
+use Rattle.vector.specs.Vector.{allFinite, dot}
 use Rattle.vector.specs.Normalized.{normalized}
 
--- the sum of squares of (1e30, -1e30) is infinite: it is stored as (0.0, -0.0)
-overflow : map (toBits binary32) (normalized (map (ofBits binary32) (0x7149F2CA ∷ 0xF149F2CA ∷ []))) ≡ 0 ∷ 0x80000000 ∷ []
-unfolding normalized ofBits toBits
-overflow = refl
+-- a vector by its patterns, and the pattern of the sum of its squares
+vectorOf : List ℕ → List Float
+unfolding ofBits
+vectorOf patterns = map (ofBits binary32) patterns
+
+squaresOf : List ℕ → ℕ
+unfolding vectorOf dot toBits
+squaresOf patterns = toBits binary32 (dot (vectorOf patterns) (vectorOf patterns))
+
+-- (1e30, -1e30): both are finite, the sum of their squares is infinite, and they are stored as (0.0, -0.0)
+overflow :
+    (allFinite (vectorOf (0x7149F2CA ∷ 0xF149F2CA ∷ [])) ≡ true)
+    × (squaresOf (0x7149F2CA ∷ 0xF149F2CA ∷ []) ≡ 0x7F800000)
+    × (map (toBits binary32) (normalized (vectorOf (0x7149F2CA ∷ 0xF149F2CA ∷ []))) ≡ 0 ∷ 0x80000000 ∷ [])
+unfolding vectorOf squaresOf allFinite normalized toBits
+overflow = (refl, refl, refl)
+
+-- from left to right: after 1 each 2^-24 is rounded away; before it the two add up to 2^-23
+order :
+    (squaresOf (0x3F800000 ∷ 0x39800000 ∷ 0x39800000 ∷ []) ≡ 0x3F800000)
+    × (squaresOf (0x39800000 ∷ 0x39800000 ∷ 0x3F800000 ∷ []) ≡ 0x3F800001)
+unfolding squaresOf
+order = (refl, refl)
+
+-- an infinity or a NaN is not finite at any place
+unfinite :
+    (allFinite (vectorOf (0x7F800000 ∷ 0 ∷ [])) ≡ false)
+    × (allFinite (vectorOf (0 ∷ 0xFF800000 ∷ [])) ≡ false)
+    × (allFinite (vectorOf (0 ∷ 0x7FC00000 ∷ 0 ∷ [])) ≡ false)
+unfolding vectorOf allFinite
+unfinite = (refl, refl, refl)

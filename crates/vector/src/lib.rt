@@ -1,4 +1,4 @@
-// Vectors: finiteness, the sum of products, the norm, and what is stored of a vector.
+// Vectors: one pass over an incoming one, the sum of products, the norm, and what is stored of a vector.
 use square_root::sqrt;
 ghost use mathlib.Core.Path.{_≡_};
 ghost use mathlib.Core.List.{map};
@@ -15,18 +15,27 @@ fn is_finite(x: f32) -> bool
     (-top < x) & (x < top)
 }
 
-// Whether every component is finite.
-pub fn all_finite(v: &[f32]) -> bool
-    ensures { λ r. ⌜ r ≡ allFinite (now (v .entry)) ⌝ }
+// What one pass over a vector tells: whether every component is finite, and the sum of the squares.
+pub struct Scanned {
+    pub finite: bool,
+    pub squares: f32,
+}
+
+// Goes once over the components, to the end whatever they are; the squares are summed from left to right.
+pub fn scan(v: &[f32]) -> Scanned
+    ensures { λ r. ⌜ r .finite ≡ allFinite (now (v .entry)) ⌝ }
+    ensures { λ r. ⌜ r .squares ≡ dot (now (v .entry)) (now (v .entry)) ⌝ }
 {
-    let mut i = 0;
-    while i < v.len() {
-        if !is_finite(v[i]) {
-            return false;
-        }
-        i += 1;
+    let mut finite = true;
+    let mut squares = 0.0;
+    let mut seen = 0;
+    while seen < v.len() {
+        let x = v[seen];
+        finite = finite & is_finite(x);
+        squares = squares + x * x;
+        seen += 1;
     }
-    true
+    Scanned { finite, squares }
 }
 
 fn shorter(m: usize, n: usize) -> usize

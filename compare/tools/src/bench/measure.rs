@@ -2,8 +2,8 @@
 use super::inputs::K;
 use crate::case::{Case, Query};
 use crate::check::search::{same_hits, search};
-use crate::ffi::{Asked, Filled};
-use crate::ours::{Lists, Ours};
+use crate::ffi::{self, Added, Asked, Filled};
+use crate::ours::{added, Lists, Ours};
 use crate::theirs;
 use original::curator::CuratorIndex;
 use std::hint::black_box;
@@ -12,6 +12,7 @@ use std::time::Instant;
 /// What is called.
 #[derive(Clone, Copy, Debug, PartialEq)]
 pub enum Call {
+    Add,
     Build,
     Filtered,
     Search,
@@ -20,6 +21,7 @@ pub enum Call {
 impl Call {
     pub fn name(self) -> &'static str {
         match self {
+            Call::Add => "add",
             Call::Build => "build",
             Call::Filtered => "search_filtered",
             Call::Search => "search",
@@ -92,13 +94,54 @@ fn processor_microseconds(call: impl FnOnce()) -> f64 {
     processor_time() - start
 }
 
+/// Our index with nothing added.
+fn empty(case: &Case) -> Ours {
+    Ours::new(case.shape, Lists::new(case.shape, 0, 0)).expect("new")
+}
+
 /// Our index with everything added.
 pub fn filled(case: &Case) -> Ours {
-    let mut ours = Ours::new(case.shape, Lists::new(case.shape, 0, 0)).expect("new");
+    let mut ours = empty(case);
     for doc in &case.docs {
         ours.add(doc.id, &doc.vector, &doc.labels).expect("add");
     }
     ours
+}
+
+/// One add: the time of filling an empty index over the number of vectors.
+fn add_ours(case: &Case, given: &[Added]) -> f64 {
+    let mut ours = empty(case);
+    let time = processor_microseconds(|| {
+        for added in given {
+            assert_eq!(ffi::add(&mut ours.state, ours.lists.lend_mut().0, added), 0);
+        }
+    });
+    black_box(ours);
+    time / given.len() as f64
+}
+
+/// The same of the original, which takes a vector and its labels for itself: they are copied beforehand.
+fn add_theirs(case: &Case) -> f64 {
+    let mut theirs = theirs::empty(case);
+    let given = case.docs.clone();
+    let time = processor_microseconds(|| {
+        for doc in given {
+            theirs.add(doc.id, doc.vector, doc.labels).expect("add");
+        }
+    });
+    black_box(theirs);
+    time / case.docs.len() as f64
+}
+
+/// Adds: `rounds` blocks of `size` fillings each.
+pub fn adds(case: &Case, rounds: usize, size: usize) -> Times {
+    let given: Vec<Added> = case.docs.iter().map(|doc| added(doc.id, &doc.vector, &doc.labels)).collect();
+    let mut times = Times::default();
+    for _ in 0..rounds {
+        times.ours.push(median((0..size).map(|_| add_ours(case, &given)).collect()));
+        times.theirs.push(median((0..size).map(|_| add_theirs(case)).collect()));
+    }
+    times
 }
 
 fn build_ours(fresh: &Ours) -> f64 {
@@ -172,8 +215,10 @@ pub fn searches(case: &Case, call: Call, rounds: usize) -> Times {
 }
 
 pub fn measure(case: &Case, call: Call, rounds: usize) -> Times {
+    let size = if case.docs.len() > 1000 { 3 } else { 15 };
     match call {
-        Call::Build => builds(case, rounds, if case.docs.len() > 1000 { 3 } else { 15 }),
+        Call::Add => adds(case, rounds, size),
+        Call::Build => builds(case, rounds, size),
         _ => searches(case, call, rounds),
     }
 }

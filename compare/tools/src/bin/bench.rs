@@ -8,7 +8,7 @@ const USUAL_EF: usize = 256;
 const GROWTH: &str = "Up to n 128 the root is the only leaf. A search opens at most `ef_search` nodes; at n 4,096 the tree has fewer than 300, so from there on \
 nothing grows with `ef_search`. A filtered search of ours checks every entry of a leaf that it opens, as 01 has it; the Rust looks one hash up in the leaf's map. \
 The Rust's build looks for the leaf of every label entry anew.";
-const CALLS: [Call; 3] = [Call::Build, Call::Filtered, Call::Search];
+const CALLS: [Call; 4] = [Call::Add, Call::Build, Call::Filtered, Call::Search];
 
 /// The rows that document the speed.
 fn main_rows(rounds: usize) -> Vec<Row> {
@@ -36,6 +36,7 @@ fn rows(call: Call, xs: &[usize], times: &[Times]) -> Vec<Row> {
 /// The two lines of a call.
 fn lines(call: Call, xs: &[usize], times: &[Times]) -> Vec<Line> {
     let colour = match call {
+        Call::Add => "#7d3c98",
         Call::Build => "#c0392b",
         Call::Filtered => "#2471a3",
         Call::Search => "#1e8449",
@@ -68,12 +69,12 @@ fn main() {
     let path = words.get(2).map_or("benchmarks.svg", |word| word);
     println!("## Times\n\n{}", table(&["call", "n", "labels a vector"], &main_rows(rounds)));
     let sizes = [64, 128, 256, 512, 1024, 2048, 4096];
-    let (by_n, first) = grown(&CALLS, rounds / 2 + 1, &sizes, |n| (n, USUAL_EF), "n");
+    let (by_n, first) = grown(&CALLS[1..], rounds / 2 + 1, &sizes, |n| (n, USUAL_EF), "n");
     println!("## How cost grows\n\n![Times by n and by ef_search](benchmarks.svg)\n");
     println!("{GROWTH}\n");
     println!("By n, one label a vector:\n\n{}", table(&["call", "n"], &by_n));
     let efs = [1, 4, 16, 64, 256, 1024];
-    let (by_ef, second) = grown(&CALLS[1..], rounds / 2 + 1, &efs, |ef| (4096, ef), "ef_search");
+    let (by_ef, second) = grown(&CALLS[2..], rounds / 2 + 1, &efs, |ef| (4096, ef), "ef_search");
     println!("By ef_search, n 4,096, one label a vector:\n\n{}", table(&["call", "ef_search"], &by_ef));
     std::fs::write(path, svg(&[first, second])).expect("the plot");
 }

@@ -12,11 +12,8 @@ use Rattle.search.proofs.walk_from.Tie as tie
 
 -- ---- the places that needs go back to (primed: the same place, from another one)
 
-abbrev entry : tie.After-dot → tie.Start
-entry c = c .before .before .before .before .before .before .before .before
-
-abbrev after-dot : tie.After-normalize → tie.After-dot
-after-dot c = c .before .before
+abbrev entry : tie.After-normalize → tie.Start
+entry c = c .before .before .before .before .before .before .before .before .before
 
 abbrev after-normalize : tie.After-shape-of → tie.After-normalize
 after-normalize c = c .before .before .before
@@ -29,9 +26,6 @@ after-shape-of′ c = c .before .before .before .before .before .before
 
 abbrev after-best-first-search : tie.After-found → tie.After-best-first-search
 after-best-first-search c = c .before .before .before .before .before .before .before
-
-dot-requires : tie.Need-dot-requires
-dot-requires c κs = search needs
 
 mul-normalized : tie.Need-mul-normalized
 mul-normalized c = search needs
@@ -66,7 +60,7 @@ part-best-first-search-end c =
     front-room (normalized .last .1 .1 .0) _ _ (length-stored (normalized .ensures))
 
 best-first-search-requires : tie.Need-best-first-search-requires
-best-first-search-requires c κs = search-lent _ _ _ _ _ _ _ (entry (after-dot (after-normalize (after-shape-of c))) .pre) _ (after-shape-of c .shape-of .ensures)
+best-first-search-requires c κs = search-lent _ _ _ _ _ _ _ (entry (after-normalize (after-shape-of c)) .pre .0) _ (after-shape-of c .shape-of .ensures)
 
 found-requires : tie.Need-found-requires
 found-requires c κs = search needs
@@ -85,17 +79,16 @@ returns c =
     let best-first-search = after-best-first-search c in
     let shape-of = after-shape-of′ best-first-search in
     let normalize = after-normalize shape-of in
-    let dot = after-dot normalize in
-    let start = entry dot in
+    let start = entry normalize in
     let normalized = normalize .normalize in
     let stored = normalized .last .1 .1 .0 in
     let n = length (now (start .args .query)) in
     λ asked e. walked-of _ _ _ _ _ _ _ _ stored _ _ (shape-of .shape-of .ensures)
     (front-back _ stored n (n - 0) (length-stored (normalized .ensures)) (omega arith))
     e
-    (dot .dot .ensures)
+    (start .pre .1)
     (normalized .ensures)
-    (start .pre .lent .work-size)
+    (start .pre .0 .lent .work-size)
     (c .found .ensures)
     (best-first-search .best-first-search .ensures)
 
@@ -103,7 +96,6 @@ pub walk-from-spec : {M : Type 1} → statement M
 walk-from-spec =
     tie.close
     (tie.spec
-    dot-requires
     mul-normalized
     sub-normalize
     part-normalized-start

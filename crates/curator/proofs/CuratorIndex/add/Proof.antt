@@ -4,6 +4,8 @@ use native.Mathlib.Omega.{arith}
 use Rattle.store.specs.Store.{Store}
 use Rattle.curator.specs.declared.Changed.the-variants.{Index}
 use Rattle.settings.specs.declared.Check.the-variants.{Fine}
+use Rattle.vector.specs.Vector.{dot}
+use Rattle.curator.specs.RowLaws.{squares-fine, squares-refused}
 use Rattle.curator.specs.AddLaws.{Accepted, add-facts, adds-by}
 use Rattle.curator.specs.Changes.{AddsBy, addCheck}
 use Rattle.curator.specs.Arguments.{AddCall}
@@ -16,9 +18,9 @@ use Rattle.curator.specs.OutcomeLaws.{is-refused, is-carried}
 
 -- ---- the places that needs go back to (primed: the same place, from another one)
 
--- the function's entry, from the place where the check is known to be `Fine`
-abbrev entry : tie.After-enum-told → tie.Start
-entry c = c .before .before .before .before .before .before .before .before .before
+-- the function's entry, from the place where the check is known to have the sum
+abbrev entry : tie.After-known-told2 → tie.Start
+entry c = c .before .before .before .before .before .before .before .before .before .before
 
 abbrev storeOf : tie.Start → Store
 storeOf s = lent (s .args .floats) (s .args .numbers) (s .args .hashes)
@@ -26,21 +28,27 @@ storeOf s = lent (s .args .floats) (s .args .numbers) (s .args .hashes)
 abbrev callOf : tie.Start → AddCall
 callOf s = adding (s .args .doc-id) (s .args .vector) (s .args .lengths) (s .args .bytes)
 
-fine : (c : tie.After-enum-told) → addCheck (entry c .args .self) (storeOf (entry c)) (callOf (entry c)) ≡ Fine
-unfolding addCheck
-fine c = sym (c .before .before .add-check .ensures) ∙ c .enum-told .given .1
+abbrev check-of : tie.After-known-told2 → tie.After-add-check
+check-of c = c .before .before .before
 
-facts : (c : tie.After-enum-told) → Accepted (entry c .args .self) (storeOf (entry c)) (callOf (entry c))
-facts c = add-facts _ _ _ (fine c)
+-- no row's case holds, and what was carried is the sum of squares
+fine : (c : tie.After-known-told2)
+    → (addCheck (entry c .args .self) (storeOf (entry c)) (callOf (entry c)) ≡ Fine)
+    × (c .before .check2 .given .0 .0 ≡ dot (callOf (entry c) .vector) (callOf (entry c) .vector))
+unfolding addCheck
+fine c = squares-fine _ _ _ (sym (check-of c .add-check .ensures) ∙ c .before .check2 .given .1)
+
+facts : (c : tie.After-known-told2) → Accepted (entry c .args .self) (storeOf (entry c)) (callOf (entry c))
+facts c = add-facts _ _ _ (fine c .0)
 
 abbrev after-add-check : tie.After-known-told → tie.After-add-check
 after-add-check c = c .before .before .before
 
-abbrev after-enum-told : tie.After-write-add-arg3 → tie.After-enum-told
-after-enum-told c = c .before .before .before
+abbrev after-known-told2 : tie.After-write-add-arg3 → tie.After-known-told2
+after-known-told2 c = c .before .before .before
 
-abbrev after-enum-told′ : tie.After-write-add → tie.After-enum-told
-after-enum-told′ c = c .before .before .before .before
+abbrev after-known-told2′ : tie.After-write-add → tie.After-known-told2
+after-known-told2′ c = c .before .before .before .before
 
 abbrev after-write-add : tie.After-slice-known6 → tie.After-write-add
 after-write-add c = c .before .before .before .before .before .before
@@ -54,20 +62,20 @@ add-check-requires c κs = search needs
 enum-known-check : tie.Need-enum-known-check
 enum-known-check c = search needs
 
-enum-told : tie.Need-enum-told
-enum-told c = search needs
+enum-known-check-2 : tie.Need-enum-known-check-2
+enum-known-check-2 c = search needs
 
 write-add-requires : tie.Need-write-add-requires
-write-add-requires c κs = facts (after-enum-told c) .room
+write-add-requires c κs = (facts (after-known-told2 c) .room, fine (after-known-told2 c) .1)
 
 grown-requires : tie.Need-grown-requires
 grown-requires c κs =
-    let r = facts (after-enum-told′ (after-write-add c)) .room in
+    let r = facts (after-known-told2′ (after-write-add c)) .room in
     (omega arith, omega arith)
 
 returns : tie.Need-returns
 unfolding AddsBy addCheck
-returns c = adds-by _ _ _ _ _ _ (sym (after-add-check c .add-check .ensures) ∙ c .before .check .given .1) (is-refused _ _ refl, refl)
+returns c = adds-by _ _ _ _ _ _ (squares-refused _ _ _ (sym (after-add-check c .add-check .ensures) ∙ c .before .check .given .1)) (is-refused _ _ refl, refl)
 
 same-length : tie.Need-same-length
 same-length c = search needs
@@ -82,7 +90,7 @@ returns-2 : tie.Need-returns-2
 unfolding AddsBy
 returns-2 c =
     let wrote = after-write-add′ c in
-    adds-by _ _ _ _ _ _ (fine (after-enum-told′ wrote)) (is-carried _ _ (ap Index (c .grown .ensures)), wrote .write-add .ensures)
+    adds-by _ _ _ _ _ _ (fine (after-known-told2′ wrote) .0) (is-carried _ _ (ap Index (c .grown .ensures)), wrote .write-add .ensures)
 
 pub add-spec : {M : Type 1} → statement M
 add-spec =
@@ -90,7 +98,7 @@ add-spec =
     (tie.spec
     add-check-requires
     enum-known-check
-    enum-told
+    enum-known-check-2
     write-add-requires
     grown-requires
     returns

@@ -54,7 +54,7 @@ shape-of-requires c κs = search needs
 owners-at-requires : tie.Need-owners-at-requires
 owners-at-requires c κs =
     let start = at-start c in
-    subst (λ (s : Shape). Limits s) (sym (c .shape-of .ensures)) (start .pre .limits)
+    subst (λ (s : Shape). Limits s) (sym (c .shape-of .ensures)) (start .pre .0 .limits)
 
 add-owners : tie.Need-add-owners
 add-owners c = let start = owners (c .before) in omega arith
@@ -69,19 +69,19 @@ write-vector-requires c κs =
     let fits =
     place-room (index .counts .vectors) (index .dimension) (index .capacities .vectors) (index .capacities .nodes)
     (index .params .«branching_factor»)
-    (start .pre .vectors) in
-    omega arith
+    (start .pre .0 .vectors) in
+    (omega arith, start .pre .1)
 
 write-numbers-requires : tie.Need-write-numbers-requires
 write-numbers-requires c κs =
     let known = after-owners-at′ (after-write-vector c) in
     let start = owners known in
-    (omega (arith, entry known .pre), omega (arith, entry known .pre), omega (arith, entry known .pre))
+    (omega (arith, entry known .pre .0), omega (arith, entry known .pre .0), omega (arith, entry known .pre .0))
 
 write-hashes-requires : tie.Need-write-hashes-requires
 write-hashes-requires c κs =
     let known = after-owners-at′ (after-write-vector′ (after-write-numbers c)) in
-    (omega (arith, entry known .pre), entry known .pre .labels)
+    (omega (arith, entry known .pre .0), entry known .pre .0 .labels)
 
 same-length : tie.Need-same-length
 same-length c = search needs

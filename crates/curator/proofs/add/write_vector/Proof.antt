@@ -13,17 +13,11 @@ use Rattle.curator.proofs.add.write_vector.Tie as tie
 
 -- ---- the places that needs go back to (primed: the same place, from another one)
 
-abbrev start : tie.After-dot → tie.Start
-start c = c .before .before .before
-
-abbrev after-dot : tie.After-slice-known2 → tie.After-dot
-after-dot c = c .before .before .before .before
+abbrev start : tie.After-slice-known2 → tie.Start
+start c = c .before .before .before .before .before .before
 
 add-end : tie.Need-add-end
 add-end c = search needs
-
-dot-requires : tie.Need-dot-requires
-dot-requires c κs = search needs
 
 mul-normalize : tie.Need-mul-normalize
 mul-normalize c = search needs
@@ -45,10 +39,9 @@ same-length c = search needs
 
 returns : tie.Need-returns
 returns c =
-    let args = start (after-dot c) .args in
+    let args = start c .args in
     let stored = c .before .before .normalize .last .1 .1 .0 in
-    let squares = after-dot c .dot .ensures in
-    let h = subst (λ (s : Float). Normalized s (args .vector .now) stored) squares (c .before .before .normalize .ensures) in
+    let h = subst (λ (s : Float). Normalized s (args .vector .now) stored) (start c .pre .1) (c .before .before .normalize .ensures) in
     let n = length-stored h in
     let end = args .place + length (args .vector .now) in
     record {
@@ -62,7 +55,6 @@ write-vector-spec =
     tie.close
     (tie.spec
     add-end
-    dot-requires
     mul-normalize
     sub-normalize
     part-normalize-start
