@@ -123,6 +123,40 @@ static void test_add(void) {
     drop(&x);
 }
 
+/* one echo without labels */
+static uint32_t add_plain(index_t *x, const float *echo, size_t d) {
+    return curator_add(STATE(x), STORE(x), 1, echo, d, (const uint8_t *)"", 0, (const uint8_t *)"", 0);
+}
+
+/* what is not finite */
+static const uint32_t odd[] = {0x7F800000u, 0xFF800000u, NAN_PATTERNS};
+enum { ODD = sizeof odd / sizeof odd[0] };
+
+/* an infinity or NaN at any place of an echo is 8 and writes nothing; the squares of (1e30, -1e30) overflow, and it is stored as 0.0 and -0.0 */
+static void test_components(void) {
+    enum { D = 9 };
+    static const float huge[] = {1e30f, -1e30f};
+    index_t x;
+    CHECK(make(&x, D, 1, 1, 1, 1, 0, 1) == 0);
+    copy_t c = copy(&x);
+    for (size_t i = 0; i < ODD; i++)
+        for (size_t place = 0; place < D; place++) {
+            float echo[D] = {0};
+            memcpy(echo + place, odd + i, 4);
+            CHECK(add_plain(&x, echo, D) == CURATOR_NON_FINITE_INPUT);
+            CHECK(unchanged(&x, &c));
+        }
+    forget(&c);
+    drop(&x);
+
+    CHECK(make(&x, 2, 1, 1, 1, 1, 0, 1) == 0);
+    void *before = floats_before(&x);
+    CHECK(add_plain(&x, huge, 2) == 0);
+    CHECK(bits_of(x.floats[0]) == 0 && bits_of(x.floats[1]) == 0x80000000u);
+    CHECK(floats_kept(&x, before, 0, 2, 2, 2));
+    drop(&x);
+}
+
 static void test_build(void) {
     index_t x;
     CHECK(make(&x, 2, 2, 1, 5, 4, 8, 16) == 0);
@@ -195,6 +229,12 @@ static void test_search(void) {
         both(&x, query, 2, x.work_len, 0, 0, 0, n, n < 3 ? CURATOR_ANSWER_TOO_SHORT : 0);
     }
 
+    for (size_t i = 0; i < 2 * ODD; i++) {
+        float q[2] = {1.0f, 1.0f};
+        memcpy(q + i % 2, odd + i / 2, 4);
+        both(&x, q, 2, x.work_len, 4, 4, 4, 3, CURATOR_NON_FINITE_INPUT);
+    }
+
     CHECK(search_filtered(&x, &a, query, "a", 4) == 0);
     CHECK(a.answer[CURATOR_HITS] == 2 && a.answer[CURATOR_OPENED] == 5 && a.answer[CURATOR_WHOLE] == 1);
     CHECK(a.ids[0] == 7 && bits_of(a.distances[0]) == 0x00000000u);
@@ -227,6 +267,7 @@ int main(void) {
     test_new();
     test_state();
     test_add();
+    test_components();
     test_build();
     test_search();
     return report();

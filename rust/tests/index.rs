@@ -176,6 +176,26 @@ fn calls_refused() {
     );
 }
 
+/// The squares of (1e30, -1e30) overflow: it is taken and stored as zeros, at distance 1 from every query. An echo that is not finite is refused.
+#[test]
+fn squares_that_overflow() {
+    let mut index = CuratorIndex::with_capacities(2, params(2, 1, 17), SMALL).unwrap();
+    for echo in [[f32::NAN, 0.0], [0.0, f32::NEG_INFINITY]] {
+        assert_eq!(
+            index.add(6, &echo, &["a"]),
+            Err(RetrieveError::NonFiniteInput)
+        );
+    }
+    assert!(index.is_empty());
+    index.add(7, &[1e30, -1e30], &["a"]).unwrap();
+    index.build().unwrap();
+    assert_eq!(
+        index.search_filtered(&[0.6, 0.8], 1, "a").unwrap(),
+        [(7, 1.0)]
+    );
+    assert_eq!(index.search(&[1e30, -1e30], 1).unwrap(), [(7, 1.0)]);
+}
+
 /// One vector and leaf size 0: 17 nodes. With more room the same index can be built later.
 #[test]
 fn nodes_full() {

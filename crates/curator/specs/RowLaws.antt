@@ -61,6 +61,10 @@ test-passed t = (not-false t, λ e. ap not e)
 
 -- ---- a check that carries the sum of squares
 
+-- the answer by what the rows come to
+pub squares-by : (rows : List Row) (sum : Float) {check : Check} → firstOf rows ≡ check → withSquares check sum ≡ withSquares (firstOf rows) sum
+squares-by rows sum e = ap (λ (k : Check). withSquares k sum) (sym e)
+
 pub squares-fine : (check : Check) (sum squares : Float) → withSquares check sum ≡ VectorCheck′.Squares squares → (check ≡ Fine) × (squares ≡ sum)
 squares-fine Fine sum squares e = (refl, cc)
 squares-fine (Refused r) sum squares e = let z : _≡_ {A = ℕ} 0 1 = cc in absurd (omega arith)

@@ -1,5 +1,4 @@
 // The index: settings, state, refusals and the entry points.
-ghost use mathlib.Core.Path.{_≡_};
 ghost use Rattle.curator.specs.Changes.{Creates, Adds};
 ghost use Rattle.curator.specs.Lent.{adding};
 ghost use Rattle.store.specs.Lent.{lent};

@@ -68,7 +68,7 @@ fn found(searched: Searched) -> Found
     }
 }
 
-// The walk from the normalised query, the sum of whose squares before was `squares`.
+// The walk from the query, normalised by `squares`, the sum of its squares.
 fn walk_from(
     index: CuratorIndex,
     floats: &[f32],

@@ -8,20 +8,20 @@ use Rattle.vector.specs.Vector.{allFinite, dot}
 use Rattle.vector.specs.Normalized.{normalized}
 
 -- a vector by its patterns, and the pattern of the sum of its squares
-vectorOf : List ℕ → List Float
+ofPatterns : List ℕ → List Float
 unfolding ofBits
-vectorOf patterns = map (ofBits binary32) patterns
+ofPatterns patterns = map (ofBits binary32) patterns
 
 squaresOf : List ℕ → ℕ
-unfolding vectorOf dot toBits
-squaresOf patterns = toBits binary32 (dot (vectorOf patterns) (vectorOf patterns))
+unfolding ofPatterns dot toBits
+squaresOf patterns = toBits binary32 (dot (ofPatterns patterns) (ofPatterns patterns))
 
 -- (1e30, -1e30): both are finite, the sum of their squares is infinite, and they are stored as (0.0, -0.0)
 overflow :
-    (allFinite (vectorOf (0x7149F2CA ∷ 0xF149F2CA ∷ [])) ≡ true)
+    (allFinite (ofPatterns (0x7149F2CA ∷ 0xF149F2CA ∷ [])) ≡ true)
     × (squaresOf (0x7149F2CA ∷ 0xF149F2CA ∷ []) ≡ 0x7F800000)
-    × (map (toBits binary32) (normalized (vectorOf (0x7149F2CA ∷ 0xF149F2CA ∷ []))) ≡ 0 ∷ 0x80000000 ∷ [])
-unfolding vectorOf squaresOf allFinite normalized toBits
+    × (map (toBits binary32) (normalized (ofPatterns (0x7149F2CA ∷ 0xF149F2CA ∷ []))) ≡ 0 ∷ 0x80000000 ∷ [])
+unfolding ofPatterns squaresOf allFinite normalized toBits
 overflow = (refl, refl, refl)
 
 -- from left to right: after 1 each 2^-24 is rounded away; before it the two add up to 2^-23
@@ -31,10 +31,10 @@ order :
 unfolding squaresOf
 order = (refl, refl)
 
--- an infinity or a NaN is not finite at any place
-unfinite :
-    (allFinite (vectorOf (0x7F800000 ∷ 0 ∷ [])) ≡ false)
-    × (allFinite (vectorOf (0 ∷ 0xFF800000 ∷ [])) ≡ false)
-    × (allFinite (vectorOf (0 ∷ 0x7FC00000 ∷ 0 ∷ [])) ≡ false)
-unfolding vectorOf allFinite
-unfinite = (refl, refl, refl)
+-- an infinity or a NaN at the first, the last and a middle place
+not-finite :
+    (allFinite (ofPatterns (0x7F800000 ∷ 0 ∷ [])) ≡ false)
+    × (allFinite (ofPatterns (0 ∷ 0xFF800000 ∷ [])) ≡ false)
+    × (allFinite (ofPatterns (0 ∷ 0x7FC00000 ∷ 0 ∷ [])) ≡ false)
+unfolding ofPatterns allFinite
+not-finite = (refl, refl, refl)

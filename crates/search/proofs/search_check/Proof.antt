@@ -2,19 +2,14 @@
 use mathlib.Core.Bool.{not}
 use mathlib.Core.Path.{_≡_, sym, ap, _∙_, subst}
 use mathlib.Core.List.{List, _∷_}
-use denote.Ref.{now}
-use lib.Ieee.{Float}
 use borrow.Author.Tests.{not-false, eq-eqb, ne-eqb}
 use lib.ListN.{drop}
 use Rattle.store.specs.declared.Shape.{Shape}
 use Rattle.store.specs.Store.{Limits}
-use Rattle.settings.specs.declared.Check.{Check}
-use Rattle.vector.specs.Vector.{dot}
 use Rattle.curator.specs.declared.VectorCheck.the-variants.{Squares}
 use Rattle.curator.specs.Calls.{factsOf}
-use Rattle.curator.specs.Lent.{withSquares}
 use Rattle.curator.specs.Limits.{stateSound, indexShape}
-use Rattle.curator.specs.RowLaws.{no-rows, row-stops, row-passes}
+use Rattle.curator.specs.RowLaws.{no-rows, row-stops, row-passes, squares-by}
 use Rattle.curator.specs.Rows.{Row, firstOf, stateRow, searchRows}
 use Rattle.store.specs.declared.Lengths.{Lengths}
 use Rattle.store.specs.Lent.{listsShort}
@@ -25,9 +20,6 @@ use Rattle.search.proofs.search_check.Statement.{statement}
 use Rattle.search.proofs.search_check.Tie as tie
 
 -- the function's entry, from the place after a test
-abbrev start-0 : tie.Then1 → tie.Start
-start-0 c = c .before .before .before
-
 abbrev start-1 : tie.Else1 → tie.Start
 start-1 c = c .before .before .before
 
@@ -54,9 +46,6 @@ rows s =
     stateRow (stateSound (s .args .index))
     ∷ searchRows (factsOf (s .args .index)) (lens s) (s .args .work) (askingWith (s .args .query) (s .args .k) (s .args .ids) (s .args .distances))
 
-abbrev sum : tie.Start → Float
-sum s = dot (now (s .args .query)) (now (s .args .query))
-
 sound : (c : tie.Else1) → Sound (start-1 c .args .index)
 sound c = sound-facts _ (sym (c .before .state-sound .ensures) ∙ not-false _ (c .if1 .left))
 
@@ -66,10 +55,6 @@ short : (c : tie.After-lists-short)
 short c =
     let start = start-1 (c .before .before) in
     c .lists-short .ensures ∙ ap (λ (s : Shape). listsShort s (lens start) (start .args .work)) (c .before .shape-of .ensures)
-
--- the answer by what the rows come to
-answered : (s : tie.Start) {k : Check} → firstOf (rows s) ≡ k → withSquares k (sum s) ≡ withSquares (firstOf (rows s)) (sum s)
-answered s e = ap (λ (k : Check). withSquares k (sum s)) (sym e)
 
 abbrev else4 : tie.Else5 → tie.Else4
 else4 c = c .before .before .before
@@ -109,7 +94,7 @@ state-sound-requires c κs = search needs
 
 returns : tie.Need-returns
 unfolding searchRows
-returns c = answered (start-0 c) (row-stops _ _ (ap not (sym (c .before .state-sound .ensures)) ∙ c .if1 .taken))
+returns c = squares-by _ _ (row-stops _ _ (ap not (sym (c .before .state-sound .ensures)) ∙ c .if1 .taken))
 
 shape-of-requires : tie.Need-shape-of-requires
 shape-of-requires c κs = search needs
@@ -119,30 +104,30 @@ lists-short-requires c κs = subst (λ (s : Shape). Limits s) (sym (c .shape-of 
 
 returns-2 : tie.Need-returns-2
 unfolding searchRows
-returns-2 c = answered (start-1 (c .before .before .before)) (after-1 (c .before .before .before) ∙ row-stops _ _ (sym (short (c .before)) ∙ c .if2 .taken))
+returns-2 c = squares-by _ _ (after-1 (c .before .before .before) ∙ row-stops _ _ (sym (short (c .before)) ∙ c .if2 .taken))
 
 returns-3 : tie.Need-returns-3
 unfolding searchRows
-returns-3 c = answered (start-2 (c .before .before)) (after-2 (c .before .before) ∙ row-stops _ _ (c .if3 .taken))
+returns-3 c = squares-by _ _ (after-2 (c .before .before) ∙ row-stops _ _ (c .if3 .taken))
 
 returns-4 : tie.Need-returns-4
 unfolding searchRows
-returns-4 c = answered (start-3 (c .before .before)) (after-3 (c .before .before) ∙ row-stops _ _ (ap not (ne-eqb _ _ (c .if4 .taken))))
+returns-4 c = squares-by _ _ (after-3 (c .before .before) ∙ row-stops _ _ (ap not (ne-eqb _ _ (c .if4 .taken))))
 
 scan-requires : tie.Need-scan-requires
 scan-requires c κs = search needs
 
 returns-5 : tie.Need-returns-5
 unfolding searchRows
-returns-5 c = answered (start-4 (else4′ c)) (after-4 (else4′ c) ∙ row-stops _ _ (ap not (sym (c .before .before .scan .ensures .0)) ∙ c .if5 .taken))
+returns-5 c = squares-by _ _ (after-4 (else4′ c) ∙ row-stops _ _ (ap not (sym (c .before .before .scan .ensures .0)) ∙ c .if5 .taken))
 
 returns-6 : tie.Need-returns-6
 unfolding searchRows
-returns-6 c = answered (start-5 (c .before)) (after-5 (c .before) ∙ row-stops _ _ (c .if6 .taken))
+returns-6 c = squares-by _ _ (after-5 (c .before) ∙ row-stops _ _ (c .if6 .taken))
 
 returns-7 : tie.Need-returns-7
 unfolding searchRows
-returns-7 c = ap Squares (scanned c .scan .ensures .1) ∙ answered (start-6 c) (after-6 c ∙ no-rows)
+returns-7 c = ap Squares (scanned c .scan .ensures .1) ∙ squares-by _ _ (after-6 c ∙ no-rows)
 
 pub search-check-spec : {M : Type 1} → statement M
 search-check-spec =

@@ -2,8 +2,6 @@
 use mathlib.Core.Bool.{not}
 use mathlib.Core.Path.{_≡_, sym, ap, _∙_, subst}
 use mathlib.Core.List.{List, _∷_}
-use denote.Ref.{now}
-use lib.Ieee.{Float}
 use native.Mathlib.Omega.{arith}
 use borrow.Author.Needs.{needs}
 use borrow.Author.Tests.{not-false, eq-eqb, ne-eqb, lt-ltb, le-ltb}
@@ -12,11 +10,9 @@ use Rattle.store.specs.declared.Shape.{Shape}
 use Rattle.store.specs.Store.{Limits}
 use Rattle.curator.specs.Calls.{factsOf}
 use Rattle.curator.specs.declared.VectorCheck.the-variants.{Squares}
-use Rattle.settings.specs.declared.Check.{Check}
-use Rattle.vector.specs.Vector.{dot}
-use Rattle.curator.specs.Lent.{adding, withSquares}
+use Rattle.curator.specs.Lent.{adding}
 use Rattle.curator.specs.Limits.{stateSound, indexShape}
-use Rattle.curator.specs.RowLaws.{no-rows, row-stops, row-passes}
+use Rattle.curator.specs.RowLaws.{no-rows, row-stops, row-passes, squares-by}
 use Rattle.curator.specs.Rows.{Row, firstOf, stateRow, addRows}
 use Rattle.store.specs.declared.Lengths.{Lengths}
 use Rattle.store.specs.Lent.{storeShort}
@@ -27,9 +23,6 @@ use Rattle.curator.proofs.add.add_check.Tie as tie
 -- ---- the places that needs go back to (primed: the same place, from another one)
 
 -- the function's entry, from the place after a test
-abbrev start-0 : tie.Then1 → tie.Start
-start-0 c = c .before .before .before .before .before
-
 abbrev start-1 : tie.Else1 → tie.Start
 start-1 c = c .before .before .before .before .before
 
@@ -62,9 +55,6 @@ rows s =
     stateRow (stateSound (s .args .index))
     ∷ addRows (factsOf (s .args .index)) (lens s) (adding 0 (s .args .vector) (s .args .lengths) (s .args .bytes))
 
-abbrev sum : tie.Start → Float
-sum s = dot (now (s .args .vector)) (now (s .args .vector))
-
 sound : (c : tie.Else1) → Sound (start-1 c .args .index)
 sound c = sound-facts _ (sym (c .before .state-sound .ensures) ∙ not-false _ (c .if1 .left))
 
@@ -76,10 +66,6 @@ short c = c .store-short .ensures ∙ ap (λ (s : Shape). storeShort s (lens (st
 after-1 : (c : tie.Else1) → firstOf (rows (start-1 c)) ≡ firstOf (drop 1 (rows (start-1 c)))
 unfolding addRows
 after-1 c = row-passes _ _ (ap not (sym (c .before .state-sound .ensures)) ∙ c .if1 .left)
-
--- the answer by what the rows come to
-answered : (s : tie.Start) {k : Check} → firstOf (rows s) ≡ k → withSquares k (sum s) ≡ withSquares (firstOf (rows s)) (sum s)
-answered s e = ap (λ (k : Check). withSquares k (sum s)) (sym e)
 
 abbrev else1 : tie.Else2 → tie.Else1
 else1 c = c .before .before .before
@@ -138,7 +124,7 @@ state-sound-requires c κs = search needs
 
 returns : tie.Need-returns
 unfolding addRows
-returns c = answered (start-0 c) (row-stops _ _ (ap not (sym (c .before .state-sound .ensures)) ∙ c .if1 .taken))
+returns c = squares-by _ _ (row-stops _ _ (ap not (sym (c .before .state-sound .ensures)) ∙ c .if1 .taken))
 
 shape-of-requires : tie.Need-shape-of-requires
 shape-of-requires c κs = search needs
@@ -148,33 +134,33 @@ store-short-requires c κs = subst (λ (s : Shape). Limits s) (sym (c .shape-of 
 
 returns-2 : tie.Need-returns-2
 unfolding addRows
-returns-2 c = answered (start-1 (else1′ c)) (after-1 (else1′ c) ∙ row-stops _ _ (sym (short (c .before)) ∙ c .if2 .taken))
+returns-2 c = squares-by _ _ (after-1 (else1′ c) ∙ row-stops _ _ (sym (short (c .before)) ∙ c .if2 .taken))
 
 returns-3 : tie.Need-returns-3
 unfolding addRows
-returns-3 c = answered (start-2 (c .before)) (after-2 (c .before) ∙ row-stops _ _ (c .if3 .taken))
+returns-3 c = squares-by _ _ (after-2 (c .before) ∙ row-stops _ _ (c .if3 .taken))
 
 returns-4 : tie.Need-returns-4
 unfolding addRows
-returns-4 c = answered (start-3 (c .before .before)) (after-3 (c .before .before) ∙ row-stops _ _ (ap not (ne-eqb _ _ (c .if4 .taken))))
+returns-4 c = squares-by _ _ (after-3 (c .before .before) ∙ row-stops _ _ (ap not (ne-eqb _ _ (c .if4 .taken))))
 
 scan-requires : tie.Need-scan-requires
 scan-requires c κs = search needs
 
 returns-5 : tie.Need-returns-5
 unfolding addRows
-returns-5 c = answered (start-4 (else4′ c)) (after-4 (else4′ c) ∙ row-stops _ _ (ap not (sym (c .before .before .scan .ensures .0)) ∙ c .if5 .taken))
+returns-5 c = squares-by _ _ (after-4 (else4′ c) ∙ row-stops _ _ (ap not (sym (c .before .before .scan .ensures .0)) ∙ c .if5 .taken))
 
 sums-to-requires : tie.Need-sums-to-requires
 sums-to-requires c κs = search needs
 
 returns-6 : tie.Need-returns-6
 unfolding addRows
-returns-6 c = answered (start-5 (c .before .before)) (after-5 (c .before .before) ∙ row-stops _ _ (ap not (sym (c .before .sums-to .ensures)) ∙ c .if6 .taken))
+returns-6 c = squares-by _ _ (after-5 (c .before .before) ∙ row-stops _ _ (ap not (sym (c .before .sums-to .ensures)) ∙ c .if6 .taken))
 
 returns-7 : tie.Need-returns-7
 unfolding addRows
-returns-7 c = answered (start-6 (c .before .before)) (after-6 (c .before .before) ∙ row-stops _ _ (eq-eqb _ _ (c .if7 .taken)))
+returns-7 c = squares-by _ _ (after-6 (c .before .before) ∙ row-stops _ _ (eq-eqb _ _ (c .if7 .taken)))
 
 add-if8 : tie.Need-add-if8
 add-if8 c =
@@ -184,11 +170,11 @@ add-if8 c =
 
 returns-8 : tie.Need-returns-8
 unfolding addRows
-returns-8 c = answered (start-7 (else7′ c)) (after-7 (else7′ c) ∙ row-stops _ _ (lt-ltb _ _ (c .if8 .taken)))
+returns-8 c = squares-by _ _ (after-7 (else7′ c) ∙ row-stops _ _ (lt-ltb _ _ (c .if8 .taken)))
 
 returns-9 : tie.Need-returns-9
 unfolding addRows
-returns-9 c = ap Squares (scanned c .scan .ensures .1) ∙ answered (start-8 c) (after-8 c ∙ no-rows)
+returns-9 c = ap Squares (scanned c .scan .ensures .1) ∙ squares-by _ _ (after-8 c ∙ no-rows)
 
 pub add-check-spec : {M : Type 1} → statement M
 add-check-spec =
