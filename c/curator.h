@@ -49,13 +49,18 @@ enum {
 #define CURATOR_HASHES_SIZE(e, m) ((e) + 4 * (m))
 #define CURATOR_WORK_SIZE(v, e, m) (3 * (m) + 3 * ((v) < (e) ? (e) : (v)))
 
+/* A filter: the four words of a node stand in the hashes from this place on, in a built index. The root is node 0; its filter has the labels of all that
+   is held. */
+#define CURATOR_FILTER 4
+#define CURATOR_FILTER_AT(e, node) ((e) + 4 * (node))
+
 /* What is returned. Where several cases hold, the earliest in the call's order is returned:
-   new 1, 2, 4; add 4, 3, 5, 7, 8, 9, 10, 11; build 4, 3, then 0 for a built index, then 12, 15, 13; search 4, 3, 6, 7, 8, 14, 15. */
+   new 1, 2, 4; add 4, 3, 5, 7, 8, 9, 10, 11; build 4, 3, then 0 for a built index, then 12, 15, 13; search 4, 3, 6, 7, 8, 14, 15; pool 3. */
 enum {
     CURATOR_OK = 0,
     CURATOR_INVALID_DIMENSION = 1,
     CURATOR_INVALID_CONFIG = 2,      /* another setting or capacity outside its limits */
-    CURATOR_LIST_TOO_SHORT = 3,      /* a list of the store, or the work list */
+    CURATOR_LIST_TOO_SHORT = 3,      /* a list of the store, or the work list; pool: fewer than four words */
     CURATOR_INVALID_STATE = 4,       /* no sound state in the list; new: no room for one */
     CURATOR_ALREADY_BUILT = 5,
     CURATOR_NOT_BUILT = 6,
@@ -106,6 +111,10 @@ uint32_t curator_search(const size_t *state, size_t state_len,
                         uint32_t *work, size_t work_len, const float *query, size_t query_len, size_t k,
                         uint32_t *ids, size_t ids_len, float *distances, size_t distances_len,
                         size_t *answer, size_t answer_len);
+
+/* Pools a filter into another: the first four words of filter get the bits of the first four of other too. The pool of filters of several indexes is the
+   filter of all their labels, in whatever order they are pooled; pooling one again changes nothing. */
+uint32_t curator_pool(uint64_t *filter, size_t filter_len, const uint64_t *other, size_t other_len);
 
 #ifdef __cplusplus
 }

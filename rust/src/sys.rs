@@ -4,6 +4,7 @@ use crate::Hit;
 
 pub const STATE: usize = 12;
 pub const ANSWER: usize = 3;
+pub const FILTER: usize = 4;
 
 extern "C" {
     pub fn curator_new(
@@ -94,6 +95,13 @@ extern "C" {
         distances_len: usize,
         answer: *mut usize,
         answer_len: usize,
+    ) -> u32;
+
+    pub fn curator_pool(
+        filter: *mut u64,
+        filter_len: usize,
+        other: *const u64,
+        other_len: usize,
     ) -> u32;
 
     pub fn curator_hits(

@@ -1,6 +1,6 @@
 //! The index as its users call it.
 
-use curator::{Capacities, CuratorIndex, CuratorParams, Found, Hit, RetrieveError};
+use curator::{pool, Capacities, CuratorIndex, CuratorParams, Found, Hit, RetrieveError};
 
 const SMALL: Capacities = Capacities {
     vectors: 4,
@@ -373,4 +373,27 @@ fn a_copy() {
         other.search_filtered(&[0.0, 1.0], 4, "a").unwrap(),
         [(2, 0.0), (1, 1.0)]
     );
+}
+
+/// Two gateways' filters, pooled either way, are the filter of an index that holds what both hold.
+#[test]
+fn pooled_filters() {
+    let north = [(1, [1.0, 0.0], "a"), (2, [0.5, 1.0], "kerb-7")];
+    let south = [(3, [0.0, 2.0], "b"), (4, [3.0, 4.0], "a")];
+    let filter = |parts: &[&[(u32, [f32; 2], &str)]]| {
+        let mut index = CuratorIndex::with_capacities(2, params(2, 1, 5), SMALL).unwrap();
+        assert_eq!(index.filter(), Err(RetrieveError::NotBuilt));
+        for (id, vector, label) in parts.concat() {
+            index.add(id, &vector, &[label]).unwrap();
+        }
+        index.build().unwrap();
+        index.filter().unwrap()
+    };
+    let (first, second) = (filter(&[&north]), filter(&[&south]));
+    assert_ne!(first, second);
+    assert_eq!(pool(first, second), filter(&[&north, &south]));
+    assert_eq!(pool(second, first), pool(first, second));
+    assert_eq!(pool(first, first), first);
+    // FNV-1a of `a` is af63dc4c8601ec8c: bits 8c and, by (af63dc4c times 9e3779b9) mod 256, ec
+    assert_eq!(filter(&[&north[..1]]), [0, 0, 1 << 0x0c, 1 << 0x2c]);
 }

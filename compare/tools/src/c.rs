@@ -89,4 +89,6 @@ extern "C" {
         answer: *mut usize,
         answer_len: usize,
     ) -> u32;
+
+    pub fn curator_pool(filter: *mut u64, filter_len: usize, other: *const u64, other_len: usize) -> u32;
 }

@@ -110,3 +110,7 @@ pub fn search(state: &[usize], store: Store, work: &mut [u32], asked: Asked, fil
         },
     }
 }
+
+pub fn pool(filter: &mut [u64], other: &[u64]) -> u32 {
+    unsafe { c::curator_pool(filter.as_mut_ptr(), filter.len(), other.as_ptr(), other.len()) }
+}

@@ -45,7 +45,7 @@ mayContain filter hash = hasBit filter (firstBit hash) && hasBit filter (secondB
 abbrev pub emptyFilter : List ℕ
 emptyFilter = 0 ∷ 0 ∷ 0 ∷ 0 ∷ []
 
--- The bits of both filters: word by word, a missing word counting as 0.
+-- 02, K6: "Let pooling be the or of two filters". The bits of both, word by word; a missing word counts as 0.
 unfoldable pub union : List ℕ → List ℕ → List ℕ
 union [] g = g
 union (w ∷ f) [] = w ∷ f
@@ -57,7 +57,7 @@ unfolding insertHash
 insertAll filter [] = filter
 insertAll filter (hash ∷ hashes) = insertAll (insertHash filter hash) hashes
 
--- The filters of a list, united into one from left to right.
+-- The pool of a filter and those of a list, from left to right.
 unfoldable pub unionAll : List ℕ → List (List ℕ) → List ℕ
 unfolding union
 unionAll filter [] = filter

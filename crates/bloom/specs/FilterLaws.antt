@@ -1,7 +1,7 @@
 -- Laws of the filter. To insert a hash is to unite with the filter that has the hash's bits alone. So every law below follows
 -- from what `union` inherits of `bitOr`, which is associative, commutative and idempotent, and from what `bitOr` does to one bit.
 use mathlib.Core.Bool.{Bool, true, false, cond, _&&_, _||_, or-true}
-use mathlib.Core.List.{List, [], _∷_, _++_, List·Memᴰ, List·Memᴰ·head, List·Memᴰ·tail, List·Permᴰ, List·Permᴰ·nil, List·Permᴰ·cons, List·Permᴰ·swap, List·Permᴰ·trans}
+use mathlib.Core.List.{List, [], _∷_, _++_, List·Memᴰ, List·Memᴰ·head, List·Memᴰ·tail}
 use mathlib.Core.Path.{_≡_, refl, sym, ap, ap₂, subst, _∙_}
 use Prim.Native.Nat.{ℕ, zero, suc, _+_, _*_, _/_, _%_, _^_, _≤_, _<_, max}
 use native.Mathlib.Nat.{mod-lt, add-zero, one-mul, suc-mul, pow-suc, mul-mod-left, div-one, zero-div, div-eq-of-lt, mul-div-mul-right}
@@ -215,13 +215,7 @@ insert-is f hash e =
 pub insert-four : (f : List ℕ) (hash : ℕ) → length f ≡ 4 → length (insertHash f hash) ≡ 4
 insert-four f hash e = length-insertHash f hash ∙ e
 
--- Inserting two hashes commutes, and inserting one twice is inserting it once.
-pub insertHash-comm : (f : List ℕ) (a b : ℕ) → length f ≡ 4 → insertHash (insertHash f a) b ≡ insertHash (insertHash f b) a
-insertHash-comm f a b e =
-    insert-is (insertHash f a) b (insert-four f a e) ∙ ap (λ (l : List ℕ). union l (hashBits b)) (insert-is f a e)
-    ∙ union-swap f (hashBits a) (hashBits b)
-    ∙ sym (insert-is (insertHash f b) a (insert-four f b e) ∙ ap (λ (l : List ℕ). union l (hashBits a)) (insert-is f b e))
-
+-- Inserting a hash twice is inserting it once.
 pub insert-twice : (f : List ℕ) (hash : ℕ) → length f ≡ 4 → insertHash (insertHash f hash) hash ≡ insertHash f hash
 insert-twice f hash e =
     insert-is (insertHash f hash) hash (insert-four f hash e) ∙ ap (λ (l : List ℕ). union l (hashBits hash)) (insert-is f hash e)
@@ -332,16 +326,6 @@ pub insertAll-split : (xs ys : List ℕ) → insertAll emptyFilter (xs ++ ys) �
 insertAll-split xs ys =
     insertAll-append emptyFilter xs ys ∙ insertAll-from (insertAll emptyFilter xs) ys (insertAll-four emptyFilter xs refl)
     ∙ union-comm (insertAll emptyFilter ys) (insertAll emptyFilter xs)
-
--- The order of the hashes does not matter.
-pub insertAll-perm : {xs ys : List ℕ} → List·Permᴰ xs ys → (f : List ℕ) → length f ≡ 4 → insertAll f xs ≡ insertAll f ys
-unfolding insertAll
-insertAll-perm List·Permᴰ·nil f e = refl
-insertAll-perm (List·Permᴰ·cons {a} {b} {l₁} {l₂} p d) f e =
-    insertAll-perm d (insertHash f a) (insert-four f a e) ∙ ap (λ (x : ℕ). insertAll (insertHash f x) l₂) p
-insertAll-perm (List·Permᴰ·swap {a} {b} {a′} {b′} {l} p q) f e =
-    ap (λ (g : List ℕ). insertAll g l) (insertHash-comm f a b e ∙ ap₂ (λ (x y : ℕ). insertHash (insertHash f x) y) q p)
-insertAll-perm (List·Permᴰ·trans d₁ d₂) f e = insertAll-perm d₁ f e ∙ insertAll-perm d₂ f e
 
 -- What the filter admitted it still admits, and it admits each hash of the list.
 pub mayContain-insertAll : (f hashes : List ℕ) (hash : ℕ) → length f ≡ 4 → mayContain f hash ≡ true → mayContain (insertAll f hashes) hash ≡ true

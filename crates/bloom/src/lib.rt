@@ -1,6 +1,8 @@
 // The filter of a node: 256 bits in four words, lent by the caller.
 ghost use mathlib.Core.Path.{_≡_};
-ghost use Prim.Native.Nat.{_<_};
+ghost use Prim.Native.Nat.{_+_, _<_, _≤_};
+ghost use lib.Seq.{sets};
+ghost use Rattle.lists.specs.Lists.{part};
 ghost use Rattle.bloom.specs.Filter.{firstBit, secondBit, hasBit, setBit, insertHash, mayContain, emptyFilter, union};
 
 // The two bits of a hash.
@@ -57,15 +59,35 @@ pub fn may_contain(filter: &[u64], hash: u64) -> bool
     has_bit(filter, first) & has_bit(filter, second)
 }
 
-// Adds the bits of `other`, the four words of another filter.
-pub fn unite(filter: &mut [u64], other: [u64; 4])
-    requires { do ⌜ (← ⟦filter.len()⟧) ≡ 4 ⌝ }
-    ensures { λ r. ⌜ now (filter .exit) ≡ union (now (filter .entry)) other ⌝ }
+// The pool of two filters: the bits of both.
+pub fn unite(filter: [u64; 4], other: [u64; 4]) -> [u64; 4]
+    ensures { λ r. ⌜ r ≡ union filter other ⌝ }
 {
-    filter[0] = filter[0] | other[0];
-    filter[1] = filter[1] | other[1];
-    filter[2] = filter[2] | other[2];
-    filter[3] = filter[3] | other[3];
+    [
+        filter[0] | other[0],
+        filter[1] | other[1],
+        filter[2] | other[2],
+        filter[3] | other[3],
+    ]
+}
+
+// The filter whose four words begin at `at`.
+pub fn words(list: &[u64], at: usize) -> [u64; 4]
+    requires { do ⌜ at + 4 ≤ (← ⟦list.len()⟧) ⌝ }
+    ensures { λ r. ⌜ r ≡ part at 4 (now (list .entry)) ⌝ }
+{
+    [list[at], list[at + 1], list[at + 2], list[at + 3]]
+}
+
+// Writes the four words of a filter from `at` on.
+pub fn write_words(list: &mut [u64], at: usize, filter: [u64; 4])
+    requires { do ⌜ at + 4 ≤ (← ⟦list.len()⟧) ⌝ }
+    ensures { λ r. ⌜ now (list .exit) ≡ sets (now (list .entry)) at filter ⌝ }
+{
+    list[at] = filter[0];
+    list[at + 1] = filter[1];
+    list[at + 2] = filter[2];
+    list[at + 3] = filter[3];
 }
 
 // Clears every bit.

@@ -1,28 +1,26 @@
 -- 'Parts past the counts held are never read', of a build: it reads the lengths of the lists, the vectors held and the entries held. Stores that
 -- agree on these, whatever else stands in them and in the work lists, give the same answer, and the same nodes are laid out in both.
-use Prim.Native.Nat.{ℕ, _-_, _*_, _≤_, _<_}
+use Prim.Native.Nat.{ℕ, _-_, _*_}
 use mathlib.Core.Bool.{Bool, true, false, not, _&&_}
-use mathlib.Core.List.{List, [], _∷_, _++_}
+use mathlib.Core.List.{List, [], _∷_}
 use mathlib.Core.Path.{_≡_, refl, sym, ap, ap₂, _∙_, subst}
 use native.Mathlib.Omega.{arith}
-use borrow.Author.Tests.{ltb-false}
 use lib.Dec.{eqb, ltb}
 use lib.Ieee.{Float}
-use lib.ListN.{length, getD}
+use lib.ListN.{length}
 use Rattle.lists.specs.Lists.{part, joined}
-use Rattle.lists.specs.Parts.{length-part, getD-part, part-sets-same}
+use Rattle.lists.specs.Parts.{part-sets-same}
 use Rattle.store.specs.declared.Shape.{Shape}
-use Rattle.store.specs.Store.{Store, centroidsAt, ownersAt, orderAt, nodesAt, linksAt, entryOrderAt, filtersAt}
-use Rattle.cluster.specs.VectorsLaws.{length-vectorsIn}
-use Rattle.tree.specs.Tree.{Splitting, treeOf, size}
+use Rattle.store.specs.Store.{Store, centroidsAt, orderAt, nodesAt, linksAt, entryOrderAt, filtersAt}
+use Rattle.tree.specs.Tree.{treeOf, size}
 use Rattle.tree.specs.Nodes.{Entries, Node, nodesOf}
 use Rattle.tree.specs.NodeLaws.{length-nodesOf, length-ids, length-links}
 use Rattle.tree.specs.NodeEntryLaws.{length-entries}
 use Rattle.tree.specs.NumberedNodes.{nodesOf-four, nodesOf-wide}
 use Rattle.tree.specs.Layout.{sixFrom, numbersOf, hashesOf, floatsOf}
-use Rattle.tree.specs.LayoutLaws.{nodesOf-fit, length-blocks, length-sixFrom, numbers-order, numbers-six, numbers-links, numbers-entries, floats-centroids}
+use Rattle.tree.specs.LayoutLaws.{length-blocks, length-sixFrom, numbers-order, numbers-six, numbers-links, numbers-entries, floats-centroids}
 use Rattle.store.specs.declared.Counts.{Counts}
-use Rattle.lists.specs.Tests.{allPass, and-false}
+use Rattle.lists.specs.Tests.{allPass}
 use Rattle.curator.specs.declared.Changed.{Changed}
 use Rattle.curator.specs.declared.Changed.the-variants as Changed′
 use Rattle.settings.specs.declared.Check.{Check}
@@ -35,12 +33,10 @@ use Rattle.curator.specs.Calls.{heldVectors, heldEntries, splittingOf, builtWit
 use Rattle.store.specs.Lent.{lengthsOf, listsShort}
 use Rattle.curator.specs.Changes.{ownersDamaged, tooManyNodes, buildCheck, heldNodes, LaidOut, BuildsFine, BuildsBy, Builds}
 use Rattle.curator.specs.Limits.{stateSound, indexShape}
-use Rattle.curator.specs.RowLaws.{none-fine, fine-none}
 use Rattle.curator.specs.Rows.{row, firstOf, stateRow, buildRows}
 use Rattle.build.specs.Asked.{BuildReady}
-use Rattle.build.specs.CheckLaws.{earlyBuildRows, fullRow, check-rows, checked-rows, ready}
 use Rattle.build.specs.BuildLaws.{builds-accepted}
-use Rattle.build.specs.WrittenLaws.{held-vectors-are}
+use Rattle.build.specs.FitLaws.{fine-ready, fine-few, vectors-length, owners-length, owners-below, nodes-fit}
 use Rattle.curator.specs.OutcomeLaws.{carried-is, refused-is}
 
 -- What a build reads is the same: whether a list is too short, the vectors held, and the owners and hashes of the entries held. Document ids are not
@@ -149,16 +145,6 @@ laid-of index store work store′ work′ nodes e l =
       hashes = l .hashes ∙ ap (λ (n : List Node). hashesOf s n (store .hashes)) e;
     }
 
--- an accepted build of an unbuilt index was ready
-fine-ready : (index : CuratorIndex) (store : Store) (work : List ℕ) → buildCheck index store work ≡ Fine → index .built ≡ false → BuildReady index store work
-fine-ready index store work f u =
-    let early = earlyBuildRows index (lengthsOf store) (length work) (store .numbers) in
-    let (a, (b, (c, (d, _)))) = fine-none (early ++ (fullRow index (tooManyNodes index store) ∷ [])) (sym (check-rows index store work) ∙ f) in
-    ready index store work
-    (checked-rows index (lengthsOf store) (length work) (store .numbers)
-    ∙ none-fine (early ++ (fullRow index false ∷ [])) (a, (b, (c, (d, (and-false (not (index .built)), tt))))))
-    u
-
 -- what stands where in a store with nodes laid out
 record HeldStanding (s : Shape) (c : Counts) (nodes : List Node) (store : Store) : Type 0 where
   centroids : part (centroidsAt s) (c .nodes * s .dimension) (store .floats) ≡ joined (λ node. node .centroid) nodes
@@ -174,43 +160,16 @@ part-of at n xs list list′ e f h = ap₂ (λ (k : ℕ) (l : List _). part at k
 
 module _ (index : CuratorIndex) (store : Store) (work : List ℕ) (r : BuildReady index store work) (full : tooManyNodes index store ≡ false)
     (store′ : Store) (laid : LaidBy (indexShape index) (heldNodes index store) store store′) where
-  splitting : Splitting
-  splitting = splittingOf (index .dimension) (index .params)
-
-  vectors-length : length (heldVectors index store) ≡ index .counts .vectors
-  vectors-length = ap length (held-vectors-are index store) ∙ length-vectorsIn (index .dimension) (index .counts .vectors) (store .floats)
-
-  owners-length : length (heldEntries index store .owners) ≡ index .counts .entries
-  unfolding heldEntries
-  owners-length =
-      length-part (ownersAt (indexShape index)) (index .counts .entries) (store .numbers) (let e = r .sound .entries in omega (arith, r .long .numbers))
-
-  owners-below : (k : ℕ) → k < length (heldEntries index store .owners) → getD (heldEntries index store .owners) k 0 < length (heldVectors index store)
-  unfolding heldEntries
-  owners-below k h =
-      let e = owners-length in
-      let b : k < index .counts .entries = omega arith in
-      let o = getD-part (ownersAt (indexShape index)) (index .counts .entries) (store .numbers) k 0 b in
-      let n = vectors-length in
-      let below = r .owned k b in
-      omega arith
-
-  few : size (treeOf splitting (heldVectors index store)) ≤ index .capacities .nodes
-  unfolding tooManyNodes splitting
-  few = ltb-false _ _ full
-
   standing : HeldStanding (indexShape index) (builtWith index (length (heldNodes index store)) .counts) (heldNodes index store) store′
-  unfolding heldNodes splitting hashesOf
+  unfolding heldNodes hashesOf
   standing =
       let s = indexShape index in
+      let splitting = splittingOf (index .dimension) (index .params) in
       let v = heldVectors index store in
       let e = heldEntries index store in
       let nodes = nodesOf splitting v e in
       let b = r .sound .limits .branching-low in
-      let n = vectors-length in
-      let o = owners-length in
-      let fit =
-      nodesOf-fit s splitting v e b owners-below (omega (arith, n, r .sound .vectors)) (omega (arith, o, r .sound .entries)) few in
+      let fit = nodes-fit index store work r full in
       let four = length-blocks (λ node. node .filter) 4 nodes (nodesOf-four splitting v e) in
       record {
         centroids =
@@ -220,7 +179,7 @@ module _ (index : CuratorIndex) (store : Store) (work : List ℕ) (r : BuildRead
             (floats-centroids s nodes (laid .centres) (store .floats) (nodesOf-wide splitting v e) (fit .nodes-fit) (r .long .floats));
         order =
             part-of (orderAt s) (index .counts .vectors) (joined (λ node. node .ids) nodes) _ (store′ .numbers)
-            (length-ids splitting v e b ∙ n)
+            (length-ids splitting v e b ∙ vectors-length index store)
             (laid .numbers)
             (numbers-order s nodes (store .numbers) fit (r .long .numbers));
         six =
@@ -233,7 +192,7 @@ module _ (index : CuratorIndex) (store : Store) (work : List ℕ) (r : BuildRead
             (numbers-links s nodes (store .numbers) fit (r .long .numbers));
         entry-order =
             part-of (entryOrderAt s) (index .counts .entries) (joined (λ node. node .entries) nodes) _ (store′ .numbers)
-            (length-entries splitting v e b owners-below ∙ o)
+            (length-entries splitting v e b (owners-below index store work r) ∙ owners-length index store work r)
             (laid .numbers)
             (numbers-entries s nodes (store .numbers) fit (r .long .numbers));
         filters =
@@ -254,14 +213,6 @@ same-standing s c nodes a b x y =
     }
 
 -- ---- the law
-
--- accepted, so not too many nodes
-fine-few : (index : CuratorIndex) (store : Store) (work : List ℕ) → buildCheck index store work ≡ Fine → index .built ≡ false
-    → tooManyNodes index store ≡ false
-fine-few index store work f u =
-    let early = earlyBuildRows index (lengthsOf store) (length work) (store .numbers) in
-    let (_, (_, (_, (_, (full, _))))) = fine-none (early ++ (fullRow index (tooManyNodes index store) ∷ [])) (sym (check-rows index store work) ∙ f) in
-    ap (λ (t : Bool). not t && tooManyNodes index store) (sym u) ∙ full
 
 -- Stores that agree on what a build reads give the same answer; where it makes an unbuilt index built, the same nodes are laid out in both, and they
 -- agree on these nodes afterwards.

@@ -4,4 +4,9 @@ pub mod CheckLaws
 pub mod WrittenLaws
 pub mod MakeLaws
 pub mod BuildLaws
+pub mod FitLaws
 pub mod HeldLaws
+-- the filters of inner nodes after a build (02, K6)
+pub mod Pooled
+pub mod PooledLaws
+pub mod Pools

@@ -1,12 +1,14 @@
--- What each exported function returns and leaves, by the result of the index's own call on the state that the list holds.
+-- What each exported function returns and leaves: by the result of the index's own call on the state that the list holds, or of the pooling of two filters.
 use Prim.Native.Nat.{ℕ, _+_}
-use mathlib.Core.Bool.{cond}
+use mathlib.Core.Bool.{Bool, true, false, cond, _||_}
 use mathlib.Core.List.{List}
 use mathlib.Core.Path.{_≡_}
 use lib.Dec.{ltb}
 use lib.Ieee.{Float}
 use lib.ListN.{length}
 use lib.Seq.{sets}
+use Rattle.lists.specs.Lists.{part}
+use Rattle.bloom.specs.Filter.{union}
 use Rattle.store.specs.Store.{Store}
 use Rattle.settings.specs.declared.Capacities.{Capacities}
 use Rattle.curator.specs.declared.Changed.{Changed}
@@ -16,6 +18,8 @@ use Rattle.curator.specs.declared.Found.{Found}
 use Rattle.settings.specs.declared.refusal.Refusal.{Refusal}
 use Rattle.settings.specs.declared.refusal.Refusal.the-variants as Refusal′
 use Rattle.settings.specs.declared.refusal.StateRefusal.the-variants.{InvalidState}
+use Rattle.settings.specs.declared.refusal.StoreRefusal.the-variants.{ListTooShort}
+use Rattle.settings.specs.Refusals.{number}
 use Rattle.curator.specs.Outcome.{changedNumber, foundNumber, foundValues, ChangeRefused}
 use Rattle.curator.specs.Changes.{Creates, Adds, Builds}
 use Rattle.curator.specs.Arguments.{AddCall, SearchCall}
@@ -106,3 +110,20 @@ pub record SearchResult (state : List ℕ) (store : Store) (lent : List ℕ) (ca
   pub searches : SearchesIn (stateIn state) store lent (asking answer call) (ended found lent′ ids′ distances′)
   pub number : returned ≡ foundNumber found
   pub values : answer′ ≡ sets answer 0 (foundValues found)
+
+-- ---- pooling
+
+-- a filter is four words
+unfoldable pub poolShort : List ℕ → List ℕ → Bool
+poolShort filter other = ltb (length filter) 4 || ltb (length other) 4
+
+unfoldable pub PoolsBy : Bool → List ℕ → List ℕ → ℕ → List ℕ → Type 0
+unfolding union
+PoolsBy true filter other returned filter′ = (returned ≡ number (Refusal′.Store ListTooShort)) × (filter′ ≡ filter)
+PoolsBy false filter other returned filter′ = (returned ≡ 0) × (filter′ ≡ sets filter 0 (union (part 0 4 filter) (part 0 4 other)))
+
+-- The whole result of `curator_pool` (02, K6): the first four words of the one list become the pool of these and the other's first four; row 3 where a
+-- list has fewer, and then nothing is written.
+unfoldable pub PoolResult : List ℕ → List ℕ → ℕ → List ℕ → Type 0
+unfolding PoolsBy poolShort
+PoolResult filter other returned filter′ = PoolsBy (poolShort filter other) filter other returned filter′

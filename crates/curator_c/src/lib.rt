@@ -1,4 +1,4 @@
-// The index for C and Rust: each function takes the state as a lent list of numbers and returns 0, or document 01's number of the refusal.
+// The index for C and Rust: each function returns 0, or document 01's number of the refusal. The state is a lent list of numbers.
 ghost use mathlib.Core.Path.{_≡_};
 ghost use Prim.Native.Nat.{_<_, _≤_, _^_};
 ghost use denote.Ref.{now};
@@ -10,7 +10,7 @@ ghost use Rattle.curator.specs.Outcome.{foundNumber, foundValues};
 ghost use Rattle.search.specs.Lent.{filtered, unfiltered};
 ghost use Rattle.settings.specs.Given.{paramsOf, capacitiesOf};
 ghost use Rattle.curator_c.specs.Results.{storable, Returns, hitsAsked};
-ghost use Rattle.curator_c.specs.Results.{NewResult, AddResult, BuildResult, SearchResult};
+ghost use Rattle.curator_c.specs.Results.{NewResult, AddResult, BuildResult, SearchResult, PoolResult};
 
 pub mod state;
 
@@ -21,8 +21,10 @@ use settings::Capacities;
 use settings::CuratorParams;
 use state::StateRead;
 
-// What is returned where the call is answered, and where the list holds no state.
+// What is returned where the call is answered, where a list has too few words, and where the list holds no state.
 const ANSWERED: u32 = 0;
+
+const LIST_TOO_SHORT: u32 = 3;
 
 const INVALID_STATE: u32 = 4;
 
@@ -230,4 +232,17 @@ pub extern "C" fn curator_search(
             )
         }
     }
+}
+
+// Pools a filter into another: the first four words of `filter` get the bits of the first four of `other` too.
+#[no_mangle]
+pub extern "C" fn curator_pool(filter: &mut [u64], other: &[u64]) -> u32
+    ensures { λ r. ⌜ PoolResult (now (filter .entry)) (now (other .entry)) r (now (filter .exit)) ⌝ }
+{
+    if (filter.len() < 4) | (other.len() < 4) {
+        return LIST_TOO_SHORT;
+    }
+    let pool = bloom::unite(bloom::words(filter, 0), bloom::words(other, 0));
+    bloom::write_words(filter, 0, pool);
+    ANSWERED
 }

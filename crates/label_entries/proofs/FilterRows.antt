@@ -20,7 +20,7 @@ use Rattle.tree.specs.TreeLaws.{fair-treeOf}
 use Rattle.tree.specs.NodeLaws.{length-nodesOf}
 use Rattle.tree.specs.NodeEntryLaws.{entry-below}
 use Rattle.tree.specs.NumberedNodes.{node-entries, node-filter-length, node-children, filter-at}
-use Rattle.tree.specs.LayoutLaws.{blockAt, NodesFit, sixOf, length-numbersOf, field-read, children-read, entries-read, start-end, length-blocks, row-read}
+use Rattle.tree.specs.LayoutLaws.{blockAt, NodesFit, sixOf, length-numbersOf, field-read, start-at, count-at, children-read, entries-read, start-end, length-blocks, row-read}
 use Rattle.node_table.specs.Table.{placesOf, cell}
 use Rattle.node_filters.specs.Filters.{entryBlock, childBlock, filterMade, filtersMade}
 use Rattle.node_filters.specs.Contracts.{RowFits}
@@ -71,7 +71,9 @@ module _ (shape : Shape) (s : Splitting) (vectors : List (List Float)) (e : Entr
 
   children-are : (i : ℕ) → i < length nodes → childBlock (placesOf shape) laid i ≡ getD nodes i noNode .children
   children-are i h =
-      ap₂ (λ (a n : ℕ). part (linksAt shape + a) n laid) (child-start i h) (child-count i h) ∙ children-read shape nodes numbers fit long i noNode h
+      ap₂ (λ (a n : ℕ). part (linksAt shape + a) n laid) (child-start i h ∙ sym (start-at shape nodes numbers fit long i noNode h))
+      (child-count i h ∙ sym (count-at shape nodes numbers fit long i noNode h))
+      ∙ children-read shape nodes numbers fit long i noNode h
 
   entries-are : (i : ℕ) → i < length nodes → entryBlock (placesOf shape) laid i ≡ getD nodes i noNode .entries
   entries-are i h =

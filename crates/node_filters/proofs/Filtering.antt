@@ -8,15 +8,11 @@ use lib.ListN.{length, getD, take, drop}
 use lib.Seq.{sets, length-sets, take-suc}
 use Rattle.lists.specs.Lists.{part}
 use Rattle.lists.specs.Maps.{map-same}
-use Rattle.lists.specs.Parts.{length-part, part-four, getD-sets-before, part-sets-same, part-sets-after, sets-sets-same, sets-self, lent-part, lent-run}
+use Rattle.lists.specs.Parts.{length-part, getD-sets-before, part-sets-same, part-sets-after, sets-sets-same, sets-self, lent-part, lent-run}
 use Rattle.bloom.specs.Filter.{emptyFilter, insertHash, insertAll, union, unionAll}
 use Rattle.bloom.specs.FilterLaws.{insertAll-append, insertAll-four, union-four}
 use Rattle.node_table.specs.declared.Places.{Places}
 use Rattle.node_filters.specs.Filters.{filterMade, entryBlock, childBlock}
-
-pub four-words : (l : List ℕ) (at : ℕ) → at + 4 ≤ length l
-    → getD l at 0 ∷ getD l (at + 1) 0 ∷ getD l (at + 2) 0 ∷ getD l (at + 3) 0 ∷ [] ≡ part at 4 l
-four-words l at h = sym (part-four at l 0 h)
 
 -- four words that were lent, and the list when they come back
 pub lent-four : (l : List ℕ) (at : ℕ) (ys : List ℕ) → at + 4 ≤ length l → length ys ≡ 4
@@ -111,18 +107,21 @@ united-four l filters at children k g n b =
     ap (λ (r : List ℕ). length r) (united-step l filters at children k g)
     ∙ union-four (united l filters at children k) (part (filters + 4 * getD children k 0) 4 l) n (length-four l (filters + 4 * getD children k 0) b)
 
-pub united-next : (l₀ l ys other : List ℕ) (filters at : ℕ) (children : List ℕ) (k x : ℕ) → at + 4 ≤ length l₀ → k < length children
+-- a turn: the filter that stands there, pooled with that of a child that stands after it, is written over it
+pub united-next : (l₀ l l′ own other pool : List ℕ) (filters at : ℕ) (children : List ℕ) (k x : ℕ) → at + 4 ≤ length l₀ → k < length children
     → length (united l₀ filters at children k) ≡ 4 → length (united l₀ filters at children (k + 1)) ≡ 4
     → l ≡ sets l₀ at (united l₀ filters at children k) → x ≡ getD children k 0 → at + 4 ≤ filters + 4 * x → other ≡ part (filters + 4 * x) 4 l
-    → ys ≡ union (take (at + 4 - at) (drop at l)) other
-    → take at l ++ (ys ++ drop (at + 4 - at) (drop at l)) ≡ sets l₀ at (united l₀ filters at children (k + 1))
-united-next l₀ l ys other filters at children k x h g n n′ is e b q w =
+    → own ≡ part at 4 l → pool ≡ union own other → l′ ≡ sets l at pool
+    → l′ ≡ sets l₀ at (united l₀ filters at children (k + 1))
+united-next l₀ l l′ own other pool filters at children k x h g n n′ is e b q o p w =
     let f = united l₀ filters at children k in
     let read : other ≡ part (filters + 4 * getD children k 0) 4 l₀ =
     q ∙ ap (part (filters + 4 * x) 4) is ∙ part-sets-after (filters + 4 * x) 4 l₀ at f (omega arith)
     ∙ ap (λ (j : ℕ). part (filters + 4 * j) 4 l₀) e in
-    back l₀ l f ys at h n is (united l₀ filters at children (k + 1)) n′
-    (w ∙ ap₂ union (words-there l₀ l f ys at h n is) read ∙ sym (united-step l₀ filters at children k g))
+    let there : own ≡ f = o ∙ ap (part at 4) is ∙ filter-read l₀ f at h n in
+    w
+    ∙ ap₂ (λ (r y : List ℕ). sets r at y) is (p ∙ ap₂ union there read ∙ sym (united-step l₀ filters at children k g))
+    ∙ filter-over l₀ f (united l₀ filters at children (k + 1)) at n n′
 
 -- ---- the filter of a node
 

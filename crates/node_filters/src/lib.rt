@@ -11,14 +11,6 @@ ghost use Rattle.node_filters.specs.Contracts.{RowFits};
 use node_table::Places;
 use store::wide;
 
-// The four words of a filter.
-fn words(hashes: &[u64], at: usize) -> [u64; 4]
-    requires { do ⌜ at + 4 ≤ (← ⟦hashes.len()⟧) ⌝ }
-    ensures { λ r. ⌜ r ≡ part at 4 (now (hashes .entry)) ⌝ }
-{
-    [hashes[at], hashes[at + 1], hashes[at + 2], hashes[at + 3]]
-}
-
 // Inserts the hash of each of `entries` into the filter at `at`.
 fn insert_hashes(hashes: &mut [u64], at: usize, entries: &[u32])
     requires { do ⌜ at + 4 ≤ (← ⟦hashes.len()⟧) ⌝ }
@@ -42,11 +34,11 @@ fn unite_children(hashes: &mut [u64], filters: usize, at: usize, children: &[u32
     requires { ⌜ ((k : ℕ) → k < length (now children) → filters + 4 * getD (now children) k 0 + 4 ≤ length (now hashes)) ⌝ }
     ensures { λ r. ⌜ now (hashes .exit) ≡ sets (now (hashes .entry)) at (unionAll (part at 4 (now (hashes .entry))) (map (λ c. part (filters + 4 * c) 4 (now (hashes .entry))) (now (children .entry)))) ⌝ }
 {
-    let end = at + 4;
     let mut k = 0;
     while k < children.len() {
-        let other = words(hashes, filters + 4 * wide(children[k]));
-        bloom::unite(&mut hashes[at..end], other);
+        let other = bloom::words(hashes, filters + 4 * wide(children[k]));
+        let pool = bloom::unite(bloom::words(hashes, at), other);
+        bloom::write_words(hashes, at, pool);
         k += 1;
     }
 }

@@ -18,7 +18,7 @@ use Rattle.lists.specs.Parts.{getD-part, part-part}
 use Rattle.distance.specs.Distance.{distance}
 use Rattle.total_order.specs.TotalOrder.{keyOf}
 use Rattle.store.specs.declared.Shape.{Shape}
-use Rattle.store.specs.Store.{Store, vectorAt, nodesAt, linksAt, filtersAt}
+use Rattle.store.specs.Store.{Store, vectorAt, nodesAt, linksAt, filtersAt, nodeField}
 use Rattle.tree.specs.Tree.{treeOf}
 use Rattle.tree.specs.Nodes.{Node, nodesOf, entriesOf}
 use Rattle.tree.specs.Layout.{startOf, sixFrom}
@@ -32,7 +32,7 @@ use Rattle.walk.specs.SameWalkLaws.{same-below}
 use Rattle.walk.specs.Answer.{hitOf}
 use Rattle.walk.specs.Wanted.{LeafList, vector-list, entry-list, denies, listRead, passes, given, heldIn}
 use Rattle.walk.specs.WantedLaws.{SameNumber, numbers-same, passes-same, given-same, given-read}
-use Rattle.walk.specs.StoreView.{blockHeld, hitAt, fieldOf, partOf, nodeField, entryRead, childrenShown, listShown, leafShown, nodeShown, storeView}
+use Rattle.walk.specs.StoreView.{blockHeld, hitAt, fieldOf, partOf, entryRead, childrenShown, listShown, leafShown, nodeShown, storeView}
 use Rattle.walk.specs.StoreViewLaws.{store-shown, store-children-below}
 use Rattle.curator.specs.Calls.{splittingOf}
 use Rattle.runs.specs.Model.{Setting, Model, noRow, noNode, rowHashes, rowVectors, rowEntries, nodeCount, modelNodes, modelCounts, settingShape, rowHit, rowRead, nodeList, leafHits, nodeGives, treeView}
@@ -106,7 +106,7 @@ module _ (s : Setting) (m : Model) (store : Store) (a : Allowed s) (w : Within s
   nodeAt i = getD (modelNodes s m) i noNode
 
   field-at : (i field : ℕ) → i < length (modelNodes s m) → field < 6
-      → nodeField shape (modelCounts s m) store i field
+      → nodeField shape (store .numbers) i field
       ≡ getD (sixOf (blockAt (λ node. node .children) (modelNodes s m) i) (blockAt (λ node. node .ids) (modelNodes s m) i) (blockAt (λ node. node .entries) (modelNodes s m) i) (nodeAt i)) field 0
   field-at i field h g =
       let N = modelNodes s m in
@@ -221,13 +221,13 @@ module _ (s : Setting) (m : Model) (store : Store) (a : Allowed s) (w : Within s
   list-stands entry-list = laid .entries
 
   list-start : (list : LeafList) (i : ℕ) → i < length (modelNodes s m)
-      → nodeField shape (modelCounts s m) store i (fieldOf list) ≡ startOf (blockAt (nodeList list) (modelNodes s m) i) (nodeList list (nodeAt i))
+      → nodeField shape (store .numbers) i (fieldOf list) ≡ startOf (blockAt (nodeList list) (modelNodes s m) i) (nodeList list (nodeAt i))
   unfolding sixOf
   list-start vector-list i h = field-at i 2 h (omega arith)
   list-start entry-list i h = field-at i 4 h (omega arith)
 
   list-count : (list : LeafList) (i : ℕ) → i < length (modelNodes s m)
-      → nodeField shape (modelCounts s m) store i (fieldOf list + 1) ≡ length (nodeList list (nodeAt i))
+      → nodeField shape (store .numbers) i (fieldOf list + 1) ≡ length (nodeList list (nodeAt i))
   unfolding sixOf
   list-count vector-list i h = field-at i 3 h (omega arith)
   list-count entry-list i h = field-at i 5 h (omega arith)
@@ -274,7 +274,7 @@ module _ (s : Setting) (m : Model) (store : Store) (a : Allowed s) (w : Within s
 
   by-fields : (query : List Float) (wanted : Wanted) (i : ℕ)
       → nodeShown shape (modelCounts s m) store query wanted i
-      ≡ byFields query wanted i (nodeField shape (modelCounts s m) store i 0) (nodeField shape (modelCounts s m) store i 1)
+      ≡ byFields query wanted i (nodeField shape (store .numbers) i 0) (nodeField shape (store .numbers) i 1)
   unfolding nodeShown byFields
   by-fields query wanted i = refl
 

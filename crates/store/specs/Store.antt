@@ -2,6 +2,7 @@
 use Prim.Native.Nat.{ℕ, _+_, _*_, _≤_, max}
 use mathlib.Core.List.{List}
 use lib.Ieee.{Float}
+use lib.ListN.{getD}
 use Rattle.lists.specs.Lists.{part}
 use Rattle.lists.specs.Frame.{Part}
 use Rattle.store.specs.declared.Shape.{Shape}
@@ -107,3 +108,13 @@ workPart s = record { start = 0; count = workSize s }
 -- 'a vector or centroid is the part of the float list that starts at its number times D'
 abbrev pub vectorAt : ℕ → List Float → ℕ → List Float
 vectorAt dimension floats i = part (i * dimension) dimension floats
+
+-- where what a node has stands: one of its six numbers; its child links, by the first two of them; its filter, four words
+abbrev pub nodeField : Shape → List ℕ → ℕ → ℕ → ℕ
+nodeField s numbers i field = getD numbers (nodesAt s + i * 6 + field) 0
+
+abbrev pub childLinks : Shape → List ℕ → ℕ → List ℕ
+childLinks s numbers i = part (linksAt s + nodeField s numbers i 0) (nodeField s numbers i 1) numbers
+
+abbrev pub nodeFilter : Shape → List ℕ → ℕ → List ℕ
+nodeFilter s hashes i = part (filtersAt s + i * 4) 4 hashes

@@ -11,7 +11,7 @@ use Rattle.lists.specs.Lists.{part, joined}
 use Rattle.lists.specs.Counting.{sumOf, getD-Memᴰ}
 use Rattle.lists.specs.Parts.{getD-part, part-part, part-append-right, part-sets-same, part-sets-before}
 use Rattle.store.specs.declared.Shape.{Shape}
-use Rattle.store.specs.Store.{vectorAt, centroidsAt, centresAt, floatsSize, orderAt, nodesAt, linksAt, entryOrderAt, numbersSize, filtersAt, hashesSize}
+use Rattle.store.specs.Store.{vectorAt, centroidsAt, centresAt, floatsSize, orderAt, nodesAt, linksAt, entryOrderAt, numbersSize, filtersAt, hashesSize, nodeField, childLinks, nodeFilter}
 use Rattle.tree.specs.Tree.{Splitting, treeOf, size}
 use Rattle.tree.specs.Nodes.{Entries, Node, nodesOf}
 use Rattle.tree.specs.Layout.{startOf, sixFrom, numbersOf, hashesOf, floatsOf}
@@ -241,7 +241,7 @@ module _ (s : Shape) (nodes : List Node) (numbers : List ℕ) (fit : NodesFit s 
 
   -- the node with a number: its six numbers and its blocks
   pub field-read : (i : ℕ) (d : Node) (field : ℕ) → i < length nodes → field < 6
-      → getD (numbersOf s nodes numbers) (nodesAt s + i * 6 + field) 0
+      → nodeField s (numbersOf s nodes numbers) i field
       ≡ getD
       (sixOf (blockAt (λ node. node .children) nodes i) (blockAt (λ node. node .ids) nodes i) (blockAt (λ node. node .entries) nodes i) (getD nodes i d))
       field 0
@@ -261,10 +261,19 @@ module _ (s : Shape) (nodes : List Node) (numbers : List ℕ) (fit : NodesFit s 
       ∙ ap (λ (l : List ℕ). part (startOf (blockAt f nodes i) block) (length block) l) h
       ∙ start-read f nodes i d g
 
-  pub children-read : (i : ℕ) (d : Node) → i < length nodes
-      → part (linksAt s + startOf (blockAt (λ node. node .children) nodes i) (getD nodes i d .children)) (length (getD nodes i d .children)) (numbersOf s nodes numbers)
-      ≡ getD nodes i d .children
-  children-read i d h = block-in (λ node. node .children) (linksAt s) i d numbers-links h
+  pub start-at : (i : ℕ) (d : Node) → i < length nodes
+      → nodeField s (numbersOf s nodes numbers) i 0 ≡ startOf (blockAt (λ node. node .children) nodes i) (getD nodes i d .children)
+  unfolding sixOf
+  start-at i d h = field-read i d 0 h (omega arith)
+
+  pub count-at : (i : ℕ) (d : Node) → i < length nodes → nodeField s (numbersOf s nodes numbers) i 1 ≡ length (getD nodes i d .children)
+  unfolding sixOf
+  count-at i d h = field-read i d 1 h (omega arith)
+
+  pub children-read : (i : ℕ) (d : Node) → i < length nodes → childLinks s (numbersOf s nodes numbers) i ≡ getD nodes i d .children
+  children-read i d h =
+      ap₂ (λ (start count : ℕ). part (linksAt s + start) count (numbersOf s nodes numbers)) (start-at i d h) (count-at i d h)
+      ∙ block-in (λ node. node .children) (linksAt s) i d numbers-links h
 
   pub entries-read : (i : ℕ) (d : Node) → i < length nodes
       → part (entryOrderAt s + startOf (blockAt (λ node. node .entries) nodes i) (getD nodes i d .entries)) (length (getD nodes i d .entries)) (numbersOf s nodes numbers)
@@ -279,7 +288,7 @@ length-hashesOf s nodes hashes = length-sets hashes (filtersAt s) (joined (λ no
 
 module _ (s : Shape) (nodes : List Node) (hashes : List ℕ) (four : (node : Node) → List·Memᴰ node nodes → length (node .filter) ≡ 4) where
   pub filter-read : length nodes ≤ s .nodes → hashesSize s ≤ length hashes → (i : ℕ) (d : Node) → i < length nodes
-      → part (filtersAt s + i * 4) 4 (hashesOf s nodes hashes) ≡ getD nodes i d .filter
+      → nodeFilter s (hashesOf s nodes hashes) i ≡ getD nodes i d .filter
   unfolding hashesOf
   filter-read fit long i d h =
       let e = length-blocks (λ node. node .filter) 4 nodes four in

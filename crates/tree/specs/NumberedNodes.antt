@@ -1,6 +1,6 @@
 -- The nodes of a tree by their numbers: the node with number i shows what the i-th subtree, parent first, says. So a fact about every subtree is a
 -- fact about every node number.
-use Prim.Native.Nat.{ℕ, zero, suc, _+_, _<_}
+use Prim.Native.Nat.{ℕ, zero, suc, _+_, _≤_, _<_}
 use mathlib.Core.Path.{_≡_, refl, sym, ap, ap₂, subst, _∙_}
 use mathlib.Core.Logic.{_⊎_, inl, inr}
 use mathlib.Core.List.{List, [], _∷_, _++_, map, map-map, List·Memᴰ, List·Memᴰ·head, List·Memᴰ·tail, List·Memᴰ·not-nil, List·Memᴰ·cases-cons}
@@ -205,3 +205,22 @@ module _ (s : Splitting) (vectors : List (List Float)) (e : Entries) where
       (sym (node-at s vectors e t i d (leaf []) h))
       (filter-root e sub (fair-sub t sub fair (getD-Memᴰ (subs t) i (leaf []) (rw length-subs h)))
       ∙ ap (unionAll own) (sym (filters-at t i d h)))
+
+  -- a node that has children has no entries of its own
+  root-entries : (i : ℕ) (t : Tree) → 1 ≤ length (rootNode s vectors e i t .children) → rootNode s vectors e i t .entries ≡ []
+  unfolding rootNode childrenOf ownIds roots
+  root-entries i (leaf ids) h = absurd (not-suc-le-zero h)
+  root-entries i (inner ids children) h = entriesOf-nil e
+
+  -- so its filter is the pool of its children's
+  pub inner-filter : (t : Tree) → Fair t → (i : ℕ) (d : Node) → i < size t → 1 ≤ length (getD (nodesFrom s vectors e 0 t) i d .children)
+      → getD (nodesFrom s vectors e 0 t) i d .filter
+      ≡ unionAll emptyFilter (map (λ c. getD (nodesFrom s vectors e 0 t) c d .filter) (getD (nodesFrom s vectors e 0 t) i d .children))
+  unfolding insertAll
+  inner-filter t fair i d h some =
+      let node = getD (nodesFrom s vectors e 0 t) i d in
+      let none : node .entries ≡ [] =
+      subst (λ (n : Node). 1 ≤ length (n .children) → n .entries ≡ []) (sym (node-at s vectors e t i d (leaf []) h)) (root-entries i (getD (subs t) i (leaf []))) some in
+      filter-at t fair i d h
+      ∙ ap (λ (entries : List ℕ). unionAll (insertAll emptyFilter (map (λ number. getD (e .hashes) number 0) entries)) (map (λ c. getD (nodesFrom s vectors e 0 t) c d .filter) (node .children)))
+      none

@@ -1,5 +1,6 @@
 // Builds the indexes that standard input describes and prints the nodes of each: node count, leaf order of vectors, six numbers per node, child links, leaf
-// order of entries, filters and centroids, or the refusal. The cases and the lines that they must give are made by tools/builds.c.
+// order of entries, filters, of each node that has children the pool of their filters, and centroids; or the refusal. The cases and the lines that they must
+// give are made by tools/trees.c.
 use curator::Changed;
 use curator::CuratorIndex;
 use libc::STDIN_FILENO;
@@ -222,11 +223,70 @@ fn product(a: usize, b: usize) -> usize
     a * b
 }
 
+// A number of a list; 0 where the list ends before.
+fn number_in(list: &[u32], at: usize) -> usize
+    ensures { λ r. ⌜ r < 2 ^ 32 ⌝ }
+{
+    if at < list.len() {
+        return store::wide(list[at]);
+    }
+    0
+}
+
+// The filter at a place; the empty one where the list ends before.
+fn filter_in(list: &[u64], at: usize) -> [u64; 4] {
+    if list.len() < 4 {
+        return [0, 0, 0, 0];
+    }
+    if list.len() - 4 < at {
+        return [0, 0, 0, 0];
+    }
+    bloom::words(list, at)
+}
+
+// The pool of the filters of the children whose links stand from a place on.
+fn pool_of(numbers: &[u32], hashes: &[u64], from: usize, count: usize) -> [u64; 4] {
+    let end = forward(numbers.len(), from, count);
+    let mut pool = [0u64; 4];
+    let mut i = from;
+    while i < end {
+        let other = filter_in(hashes, 128 + 4 * number_in(numbers, i));
+        let both = bloom::unite(bloom::words(&pool, 0), other);
+        bloom::write_words(&mut pool, 0, both);
+        i += 1;
+    }
+    pool
+}
+
+// The number of each node that has children, and the pool of their filters.
+fn print_pools(numbers: &[u32], hashes: &[u64], nodes: usize, room: usize)
+    requires { ⌜ nodes ≤ 65537 ⌝ }
+    requires { ⌜ room ≤ 65537 ⌝ }
+{
+    let mut i = 0;
+    while i < nodes {
+        let start = number_in(numbers, 256 + 6 * i);
+        let count = number_in(numbers, 257 + 6 * i);
+        if 0 < count {
+            let pool = pool_of(numbers, hashes, 256 + 6 * room + start, count);
+            print_number(i as u64);
+            print_number(pool[0]);
+            print_number(pool[1]);
+            print_number(pool[2]);
+            print_number(pool[3]);
+        }
+        i += 1;
+    }
+    line_end();
+}
+
 // The parts of a built index with V 64 and E 128.
 fn print_index(index: CuratorIndex, floats: &[f32], numbers: &[u32], hashes: &[u64]) {
     let dimension = at_most(index.dimension, 8);
     let nodes = at_most(index.counts.nodes, 65537);
     let room = at_most(index.capacities.nodes, 65537);
+    let centroids = 64 * dimension;
+    let components = product(dimension, nodes);
     io::write_all(STDOUT_FILENO, b"nodes");
     print_number(nodes as u64);
     line_end();
@@ -242,8 +302,10 @@ fn print_index(index: CuratorIndex, floats: &[f32], numbers: &[u32], hashes: &[u
     print_numbers(numbers, 256 + 7 * room, index.counts.entries);
     io::write_all(STDOUT_FILENO, b"filters");
     print_hashes(hashes, 128, 4 * nodes);
+    io::write_all(STDOUT_FILENO, b"pools");
+    print_pools(numbers, hashes, nodes, room);
     io::write_all(STDOUT_FILENO, b"centroids");
-    print_floats(floats, 64 * dimension, product(dimension, nodes));
+    print_floats(floats, centroids, components);
 }
 
 fn settings_at(s: &[u8], at: usize) -> CuratorParams {

@@ -11,7 +11,7 @@ use lib.ListN.{getD}
 use Rattle.lists.specs.Lists.{part}
 use Rattle.lists.specs.Parts.{getD-part, part-part}
 use Rattle.store.specs.declared.Shape.{Shape}
-use Rattle.store.specs.Store.{Store, vectorAt, centroidsAt, ownersAt, orderAt, nodesAt, linksAt, entryOrderAt, filtersAt}
+use Rattle.store.specs.Store.{Store, vectorAt, centroidsAt, ownersAt, orderAt, nodesAt, linksAt, entryOrderAt, filtersAt, nodeField, nodeFilter}
 use Rattle.lists.specs.Tests.{either}
 use Rattle.walk.specs.declared.Wanted.{Wanted}
 use Rattle.store.specs.declared.Counts.{Counts}
@@ -19,7 +19,7 @@ use Rattle.walk.specs.Walk.{walk}
 use Rattle.walk.specs.SameWalkLaws.{opens-below}
 use Rattle.walk.specs.Wanted.{LeafList, vector-list, entry-list, listRead, heldIn, denies}
 use Rattle.walk.specs.WantedLaws.{SameNumber, numbers-same}
-use Rattle.walk.specs.StoreView.{blockHeld, fieldOf, partOf, nodeField, ownerOf, entryRead, filterAt, storeView}
+use Rattle.walk.specs.StoreView.{blockHeld, fieldOf, partOf, ownerOf, entryRead, storeView}
 use Rattle.walk.specs.StoreViewLaws.{block-within, store-children-below}
 use Rattle.walk.specs.ReadLaws.{SameCentroid, SameList, SameVector, SameLeaf, SameNode, SameRead, same-read}
 
@@ -73,7 +73,7 @@ module _ (s : Shape) (c : Counts) (a b : Store) (same : SameHeld s c a b) where
       (same-part (centroidsAt s) (c .nodes * s .dimension) (a .floats) (b .floats) (same .centroids) (i * s .dimension) (s .dimension)
       (run-within i (c .nodes) (s .dimension) h))
 
-  field-same : (i field : ℕ) → i < c .nodes → field < 6 → nodeField s c a i field ≡ nodeField s c b i field
+  field-same : (i field : ℕ) → i < c .nodes → field < 6 → nodeField s (a .numbers) i field ≡ nodeField s (b .numbers) i field
   field-same i field h f =
       subst (λ (at : ℕ). getD (a .numbers) at 0 ≡ getD (b .numbers) at 0) (sym (add-assoc (nodesAt s) (i * 6) field))
       (same-at (nodesAt s) (c .nodes * 6) (a .numbers) (b .numbers) (same .nodes) (i * 6 + field) 0 (let t : i * 6 + field < c .nodes * 6 = omega arith in t))
@@ -102,7 +102,7 @@ module _ (s : Shape) (c : Counts) (a b : Store) (same : SameHeld s c a b) where
   list-held i field base held Same h f equal each = record {
     count = field-same i (field + 1) h f;
     start = λ some. field-same i field h (let t : field < 6 = omega arith in t);
-    numbers = λ e. same-block base held (a .numbers) (b .numbers) equal (nodeField s c a i field) (nodeField s c a i (field + 1)) e;
+    numbers = λ e. same-block base held (a .numbers) (b .numbers) equal (nodeField s (a .numbers) i field) (nodeField s (a .numbers) i (field + 1)) e;
     each = λ e x m. each x;
   }
 
@@ -120,7 +120,7 @@ module _ (s : Shape) (c : Counts) (a b : Store) (same : SameHeld s c a b) where
       list-held i (fieldOf l) (partOf s l) (heldIn l c) (SameNumber wanted c (entryRead s c a) (entryRead s c b) (SameVector s c a b)) h (field-low l) (list-same l)
       (number-held wanted)
 
-  filter-held : (i : ℕ) → i < c .nodes → filterAt s c a i ≡ filterAt s c b i
+  filter-held : (i : ℕ) → i < c .nodes → nodeFilter s (a .hashes) i ≡ nodeFilter s (b .hashes) i
   filter-held i h =
       same-part (filtersAt s) (c .nodes * 4) (a .hashes) (b .hashes) (same .filters) (i * 4) 4 (let t : i * 4 + 4 ≤ c .nodes * 4 = omega arith in t)
 

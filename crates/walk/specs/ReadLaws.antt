@@ -14,7 +14,7 @@ use Rattle.lists.specs.Maps.{map-on}
 use Rattle.lists.specs.Lists.{part}
 use Rattle.lists.specs.Tests.{which, allPass}
 use Rattle.store.specs.declared.Shape.{Shape}
-use Rattle.store.specs.Store.{Store, vectorAt, linksAt}
+use Rattle.store.specs.Store.{Store, vectorAt, linksAt, nodeField, childLinks, nodeFilter}
 use Rattle.distance.specs.Distance.{distance}
 use Rattle.total_order.specs.TotalOrder.{keyOf}
 use Rattle.walk.specs.declared.Wanted.{Wanted}
@@ -26,7 +26,7 @@ use Rattle.walk.specs.SameWalkLaws.{AlikeAt, Opens, same-walk}
 use Rattle.walk.specs.Answer.{hitOf}
 use Rattle.walk.specs.Wanted.{listRead, heldIn, denies, passes, given}
 use Rattle.walk.specs.WantedLaws.{SameNumber, passes-same, given-same, given-read}
-use Rattle.walk.specs.StoreView.{blockHeld, fieldOf, partOf, nodeField, hitAt, childrenShown, entryRead, listShown, leafShown, nodeShown, filterAt, storeView}
+use Rattle.walk.specs.StoreView.{blockHeld, fieldOf, partOf, hitAt, childrenShown, entryRead, listShown, leafShown, nodeShown, storeView}
 use Rattle.walk.specs.StoreViewLaws.{store-shown, store-child}
 use Rattle.walk.specs.Contracts.{SearchEnds, SearchGives}
 
@@ -40,13 +40,13 @@ module _ (s : Shape) (c : Counts) (a b : Store) where
   -- of a list of an opened node, whose start and count are two of the node's six numbers: the count; if it is not empty the start; if it lies within
   -- what is held its numbers, and something of each. An empty list has no place, so its start is not read.
   pub record SameList (i field base held : ℕ) (Same : ℕ → Type 0) : Type 0 where
-    pub count : nodeField s c a i (field + 1) ≡ nodeField s c b i (field + 1)
-    pub start : (nodeField s c a i (field + 1) ≡ 0 → ⊥) → nodeField s c a i field ≡ nodeField s c b i field
-    pub numbers : blockHeld (nodeField s c a i field) (nodeField s c a i (field + 1)) held ≡ true
-        → part (base + nodeField s c a i field) (nodeField s c a i (field + 1)) (a .numbers)
-        ≡ part (base + nodeField s c a i field) (nodeField s c a i (field + 1)) (b .numbers)
-    pub each : blockHeld (nodeField s c a i field) (nodeField s c a i (field + 1)) held ≡ true
-        → (x : ℕ) → List·Memᴰ x (part (base + nodeField s c a i field) (nodeField s c a i (field + 1)) (a .numbers)) → Same x
+    pub count : nodeField s (a .numbers) i (field + 1) ≡ nodeField s (b .numbers) i (field + 1)
+    pub start : (nodeField s (a .numbers) i (field + 1) ≡ 0 → ⊥) → nodeField s (a .numbers) i field ≡ nodeField s (b .numbers) i field
+    pub numbers : blockHeld (nodeField s (a .numbers) i field) (nodeField s (a .numbers) i (field + 1)) held ≡ true
+        → part (base + nodeField s (a .numbers) i field) (nodeField s (a .numbers) i (field + 1)) (a .numbers)
+        ≡ part (base + nodeField s (a .numbers) i field) (nodeField s (a .numbers) i (field + 1)) (b .numbers)
+    pub each : blockHeld (nodeField s (a .numbers) i field) (nodeField s (a .numbers) i (field + 1)) held ≡ true
+        → (x : ℕ) → List·Memᴰ x (part (base + nodeField s (a .numbers) i field) (nodeField s (a .numbers) i (field + 1)) (a .numbers)) → Same x
 
   -- of a vector that is a hit: document id and components
   pub record SameVector (v : ℕ) : Type 0 where
@@ -61,14 +61,14 @@ module _ (s : Shape) (c : Counts) (a b : Store) where
 
   -- of a node that is opened and not denied: the count of children; where there are some, they and their centroids; where there are none, the leaf's list
   pub record SameShown (wanted : Wanted) (i : ℕ) : Type 0 where
-    pub count : nodeField s c a i 1 ≡ nodeField s c b i 1
-    pub inner : (nodeField s c a i 1 ≡ 0 → ⊥) → SameList i 0 (linksAt s) (c .nodes) (λ child. i < child → child < c .nodes → SameCentroid child)
-    pub leaf : nodeField s c a i 1 ≡ 0 → SameLeaf wanted i
+    pub count : nodeField s (a .numbers) i 1 ≡ nodeField s (b .numbers) i 1
+    pub inner : (nodeField s (a .numbers) i 1 ≡ 0 → ⊥) → SameList i 0 (linksAt s) (c .nodes) (λ child. i < child → child < c .nodes → SameCentroid child)
+    pub leaf : nodeField s (a .numbers) i 1 ≡ 0 → SameLeaf wanted i
 
   -- of a node that is opened: whether its filter denies; an unfiltered search does not read it
   pub record SameNode (wanted : Wanted) (i : ℕ) : Type 0 where
-    pub filter : denies wanted (filterAt s c a i) ≡ denies wanted (filterAt s c b i)
-    pub shows : denies wanted (filterAt s c a i) ≡ false → SameShown wanted i
+    pub filter : denies wanted (nodeFilter s (a .hashes) i) ≡ denies wanted (nodeFilter s (b .hashes) i)
+    pub shows : denies wanted (nodeFilter s (a .hashes) i) ≡ false → SameShown wanted i
 
   -- Two stores agree on what a search reads: the root's centroid, and what is read of each node that the search opens
   pub record SameRead (query : List Float) (wanted : Wanted) (ef : ℕ) : Type 0 where
@@ -100,16 +100,16 @@ module _ (s : Shape) (c : Counts) (a b : Store) where
   -- a list that is read is shown alike
   list-same : (i field base held : ℕ) (Same : ℕ → Type 0) → SameList s c a b i field base held Same → (f g : List ℕ → Shown)
       → ((l : List ℕ) → ((x : ℕ) → List·Memᴰ x l → Same x) → f l ≡ g l)
-      → cond (blockHeld (nodeField s c a i field) (nodeField s c a i (field + 1)) held) (f (part (base + nodeField s c a i field) (nodeField s c a i (field + 1)) (a .numbers))) damage
-      ≡ cond (blockHeld (nodeField s c b i field) (nodeField s c b i (field + 1)) held) (g (part (base + nodeField s c b i field) (nodeField s c b i (field + 1)) (b .numbers))) damage
+      → cond (blockHeld (nodeField s (a .numbers) i field) (nodeField s (a .numbers) i (field + 1)) held) (f (part (base + nodeField s (a .numbers) i field) (nodeField s (a .numbers) i (field + 1)) (a .numbers))) damage
+      ≡ cond (blockHeld (nodeField s (b .numbers) i field) (nodeField s (b .numbers) i (field + 1)) held) (g (part (base + nodeField s (b .numbers) i field) (nodeField s (b .numbers) i (field + 1)) (b .numbers))) damage
   list-same i field base held Same same f g alike =
-      let list : List ℕ = part (base + nodeField s c a i field) (nodeField s c a i (field + 1)) (a .numbers) in
-      same-cond (blockHeld (nodeField s c a i field) (nodeField s c a i (field + 1)) held) (blockHeld (nodeField s c b i field) (nodeField s c b i (field + 1)) held)
-      (f list) (g (part (base + nodeField s c b i field) (nodeField s c b i (field + 1)) (b .numbers)))
-      (block-same (nodeField s c a i field) (nodeField s c b i field) (nodeField s c a i (field + 1)) (nodeField s c b i (field + 1)) held (same .count) (same .start))
+      let list : List ℕ = part (base + nodeField s (a .numbers) i field) (nodeField s (a .numbers) i (field + 1)) (a .numbers) in
+      same-cond (blockHeld (nodeField s (a .numbers) i field) (nodeField s (a .numbers) i (field + 1)) held) (blockHeld (nodeField s (b .numbers) i field) (nodeField s (b .numbers) i (field + 1)) held)
+      (f list) (g (part (base + nodeField s (b .numbers) i field) (nodeField s (b .numbers) i (field + 1)) (b .numbers)))
+      (block-same (nodeField s (a .numbers) i field) (nodeField s (b .numbers) i field) (nodeField s (a .numbers) i (field + 1)) (nodeField s (b .numbers) i (field + 1)) held (same .count) (same .start))
       (λ e. alike list (same .each e)
       ∙ ap g (same .numbers e
-      ∙ part-same (nodeField s c a i field) (nodeField s c b i field) (nodeField s c a i (field + 1)) (nodeField s c b i (field + 1)) base (b .numbers) (same .count) (same .start)))
+      ∙ part-same (nodeField s (a .numbers) i field) (nodeField s (b .numbers) i field) (nodeField s (a .numbers) i (field + 1)) (nodeField s (b .numbers) i (field + 1)) base (b .numbers) (same .count) (same .start)))
 
   hit-same : (query : List Float) (v : ℕ) → SameVector s c a b v → hitAt s (a .floats) (a .numbers) query v ≡ hitAt s (b .floats) (b .numbers) query v
   hit-same query v same = ap₂ (λ (x : List Float) (d : ℕ). hitOf (distance query x) d v) (same .components) (same .document)
@@ -141,37 +141,37 @@ module _ (s : Shape) (c : Counts) (a b : Store) where
 
   node-same : (query : List Float) (wanted : Wanted) (i : ℕ) → SameShown s c a b wanted i → nodeShown s c a query wanted i ≡ nodeShown s c b query wanted i
   unfolding nodeShown
-  node-same query wanted i same = go (which (eqb (nodeField s c a i 1) 0))
+  node-same query wanted i same = go (which (eqb (nodeField s (a .numbers) i 1) 0))
     where
       innerOf : Store → Shown
       innerOf store =
-          cond (blockHeld (nodeField s c store i 0) (nodeField s c store i 1) (c .nodes))
-          (childrenShown s c store i (part (linksAt s + nodeField s c store i 0) (nodeField s c store i 1) (store .numbers))) damage
+          cond (blockHeld (nodeField s (store .numbers) i 0) (nodeField s (store .numbers) i 1) (c .nodes))
+          (childrenShown s c store i (childLinks s (store .numbers) i)) damage
 
       shownOf : Bool → Store → Shown
       shownOf leaf store = cond leaf (leafShown s c store query wanted i) (innerOf store)
 
-      go : (eqb (nodeField s c a i 1) 0 ≡ true) ⊎ (eqb (nodeField s c a i 1) 0 ≡ false)
-          → shownOf (eqb (nodeField s c a i 1) 0) a ≡ shownOf (eqb (nodeField s c b i 1) 0) b
+      go : (eqb (nodeField s (a .numbers) i 1) 0 ≡ true) ⊎ (eqb (nodeField s (a .numbers) i 1) 0 ≡ false)
+          → shownOf (eqb (nodeField s (a .numbers) i 1) 0) a ≡ shownOf (eqb (nodeField s (b .numbers) i 1) 0) b
       go (inl e) =
-          ap (λ (t : Bool). shownOf t a) e ∙ leaf-same query wanted i (same .leaf (eqb-true (nodeField s c a i 1) 0 e))
+          ap (λ (t : Bool). shownOf t a) e ∙ leaf-same query wanted i (same .leaf (eqb-true (nodeField s (a .numbers) i 1) 0 e))
           ∙ ap (λ (t : Bool). shownOf t b) (sym e ∙ ap (λ (n : ℕ). eqb n 0) (same .count))
       go (inr e) =
           ap (λ (t : Bool). shownOf t a) e
           ∙ list-same i 0 (linksAt s) (c .nodes) (λ child. i < child → child < c .nodes → SameCentroid s c a b child)
-          (same .inner (eqb-false (nodeField s c a i 1) 0 e)) (childrenShown s c a i) (childrenShown s c b i) (λ l h. children-same i l)
+          (same .inner (eqb-false (nodeField s (a .numbers) i 1) 0 e)) (childrenShown s c a i) (childrenShown s c b i) (λ l h. children-same i l)
           ∙ ap (λ (t : Bool). shownOf t b) (sym e ∙ ap (λ (n : ℕ). eqb n 0) (same .count))
 
   shown-same : (query : List Float) (wanted : Wanted) (i : ℕ) → SameNode s c a b wanted i
       → shown (storeView s c a query wanted) i ≡ shown (storeView s c b query wanted) i
   shown-same query wanted i same =
-      store-shown s c a query wanted i ∙ go (which (denies wanted (filterAt s c a i)))
+      store-shown s c a query wanted i ∙ go (which (denies wanted (nodeFilter s (a .hashes) i)))
       ∙ ap (λ (d : Bool). cond d (hits []) (nodeShown s c b query wanted i)) (same .filter) ∙ sym (store-shown s c b query wanted i)
     where
-      go : (denies wanted (filterAt s c a i) ≡ true) ⊎ (denies wanted (filterAt s c a i) ≡ false)
-          → cond (denies wanted (filterAt s c a i)) (hits []) (nodeShown s c a query wanted i) ≡ cond (denies wanted (filterAt s c a i)) (hits []) (nodeShown s c b query wanted i)
+      go : (denies wanted (nodeFilter s (a .hashes) i) ≡ true) ⊎ (denies wanted (nodeFilter s (a .hashes) i) ≡ false)
+          → cond (denies wanted (nodeFilter s (a .hashes) i)) (hits []) (nodeShown s c a query wanted i) ≡ cond (denies wanted (nodeFilter s (a .hashes) i)) (hits []) (nodeShown s c b query wanted i)
       go (inl e) = rw e
-      go (inr e) = ap (cond (denies wanted (filterAt s c a i)) (hits [])) (node-same query wanted i (same .shows e))
+      go (inr e) = ap (cond (denies wanted (nodeFilter s (a .hashes) i)) (hits [])) (node-same query wanted i (same .shows e))
 
   key-same : (query : List Float) (wanted : Wanted) (i : ℕ) → SameCentroid s c a b i → storeView s c a query wanted .key i ≡ storeView s c b query wanted .key i
   unfolding storeView

@@ -1,5 +1,5 @@
 -- What a lent store shows of its nodes, whatever numbers stand in it (document 01, 'Search' and 'Search's 15').
-use Prim.Native.Nat.{ℕ, zero, suc, _+_, _*_}
+use Prim.Native.Nat.{ℕ, zero, suc, _+_}
 use mathlib.Core.Bool.{Bool, true, _&&_, cond}
 use mathlib.Core.List.{List, map}
 use lib.Dec.{leb, ltb, eqb}
@@ -8,7 +8,7 @@ use lib.ListN.{getD}
 use Rattle.lists.specs.Lists.{part}
 use Rattle.lists.specs.Tests.{allPass}
 use Rattle.store.specs.declared.Shape.{Shape}
-use Rattle.store.specs.Store.{Store, vectorAt, ownersAt, orderAt, nodesAt, linksAt, entryOrderAt, filtersAt}
+use Rattle.store.specs.Store.{Store, vectorAt, ownersAt, orderAt, entryOrderAt, nodeField, childLinks, nodeFilter}
 use Rattle.distance.specs.Distance.{distance}
 use Rattle.total_order.specs.TotalOrder.{keyOf}
 use Rattle.walk.specs.declared.Wanted.{Wanted}
@@ -40,10 +40,6 @@ abbrev pub entriesIn : Shape → List ℕ → List ℕ → EntryRead
 entriesIn s numbers hashes = record { hash = λ entry. getD hashes entry 0; owner = λ entry. getD numbers (ownersAt s + entry) 0 }
 
 module _ (s : Shape) (c : Counts) (store : Store) where
-  -- one of the six numbers of a node
-  abbrev pub nodeField : ℕ → ℕ → ℕ
-  nodeField i field = getD (store .numbers) (nodesAt s + i * 6 + field) 0
-
   -- the distance from a query to the centroid with a number
   abbrev pub centroidDistance : List Float → ℕ → Float
   centroidDistance query i = distance query (vectorAt (s .dimension) (store .floats) (s .vectors + i))
@@ -70,21 +66,17 @@ module _ (s : Shape) (c : Counts) (store : Store) where
   unfolding listShown blockHeld
   leafShown query wanted i =
       let list = listRead wanted in
-      let start = nodeField i (fieldOf list) in
-      let count = nodeField i (fieldOf list + 1) in
+      let start = nodeField s (store .numbers) i (fieldOf list) in
+      let count = nodeField s (store .numbers) i (fieldOf list + 1) in
       cond (blockHeld start count (heldIn list c)) (listShown query wanted (part (partOf s list + start) count (store .numbers))) damage
 
   -- 'children; where there are none, entries, unfiltered vectors'
   unfoldable pub nodeShown : List Float → Wanted → ℕ → Shown
   unfolding leafShown childrenShown blockHeld
   nodeShown query wanted i =
-      cond (eqb (nodeField i 1) 0) (leafShown query wanted i)
-      (cond (blockHeld (nodeField i 0) (nodeField i 1) (c .nodes))
-      (childrenShown i (part (linksAt s + nodeField i 0) (nodeField i 1) (store .numbers))) damage)
-
-  -- a node's filter, four words
-  abbrev pub filterAt : ℕ → List ℕ
-  filterAt i = part (filtersAt s + i * 4) 4 (store .hashes)
+      cond (eqb (nodeField s (store .numbers) i 1) 0) (leafShown query wanted i)
+      (cond (blockHeld (nodeField s (store .numbers) i 0) (nodeField s (store .numbers) i 1) (c .nodes))
+      (childrenShown i (childLinks s (store .numbers) i)) damage)
 
   -- the view of a lent store from a normalised query
   unfoldable pub storeView : List Float → Wanted → View
@@ -92,7 +84,7 @@ module _ (s : Shape) (c : Counts) (store : Store) where
   storeView query wanted =
       record {
         key = λ i. keyOf (centroidDistance query i);
-        denied = λ i. denies wanted (filterAt i);
+        denied = λ i. denies wanted (nodeFilter s (store .hashes) i);
         shows = nodeShown query wanted;
         most = most wanted c;
       }

@@ -10,7 +10,7 @@ use lib.Ieee.{Float}
 use borrow.Author.Tests.{leb-true, ltb-true, eqb-false}
 use Rattle.lists.specs.Lists.{part}
 use Rattle.store.specs.declared.Shape.{Shape}
-use Rattle.store.specs.Store.{Store, linksAt}
+use Rattle.store.specs.Store.{Store, nodeField, childLinks, nodeFilter}
 use Rattle.lists.specs.Tests.{either, allPass}
 use Rattle.lists.specs.Tests.{and-left, and-right, allPass-Memᴰ, cond-cases}
 use Rattle.walk.specs.declared.Wanted.{Wanted}
@@ -18,7 +18,7 @@ use Rattle.store.specs.declared.Counts.{Counts}
 use Rattle.walk.specs.Walk.{Shown, children, hits, damage, shown}
 use Rattle.walk.specs.DifferentLaws.{ChildrenBelow}
 use Rattle.walk.specs.Wanted.{listRead, heldIn, denies, passes, given}
-use Rattle.walk.specs.StoreView.{blockHeld, fieldOf, partOf, nodeField, hitAt, childrenShown, entryRead, listShown, leafShown, nodeShown, filterAt, storeView}
+use Rattle.walk.specs.StoreView.{blockHeld, fieldOf, partOf, hitAt, childrenShown, entryRead, listShown, leafShown, nodeShown, storeView}
 
 -- ---- blocks
 
@@ -62,8 +62,8 @@ module _ (s : Shape) (c : Counts) (store : Store) where
   unfolding leafShown
   childless-leaf query wanted i =
       let list = listRead wanted in
-      let start = nodeField s c store i (fieldOf list) in
-      let count = nodeField s c store i (fieldOf list + 1) in
+      let start = nodeField s (store .numbers) i (fieldOf list) in
+      let count = nodeField s (store .numbers) i (fieldOf list + 1) in
       let l : List ℕ = part (partOf s (listRead wanted) + start) count (store .numbers) in
       childless-cond (blockHeld start count (heldIn list c)) (listShown s c store query wanted l) damage (childless-list query wanted l) childless-damage
 
@@ -82,9 +82,9 @@ module _ (s : Shape) (c : Counts) (store : Store) where
 
   -- A child x that node i shows: the node has children, all within what is held, and x is one of them, above its parent and below the node count
   pub record ShownChild (i x : ℕ) : Type 0 where
-    pub inner : nodeField s c store i 1 ≡ 0 → ⊥
-    pub held : blockHeld (nodeField s c store i 0) (nodeField s c store i 1) (c .nodes) ≡ true
-    pub listed : List·Memᴰ x (part (linksAt s + nodeField s c store i 0) (nodeField s c store i 1) (store .numbers))
+    pub inner : nodeField s (store .numbers) i 1 ≡ 0 → ⊥
+    pub held : blockHeld (nodeField s (store .numbers) i 0) (nodeField s (store .numbers) i 1) (c .nodes) ≡ true
+    pub listed : List·Memᴰ x (childLinks s (store .numbers) i)
     pub above : i < x
     pub below : x < c .nodes
 
@@ -92,25 +92,25 @@ module _ (s : Shape) (c : Counts) (store : Store) where
       → (x : ℕ) → List·Memᴰ x numbers → ShownChild i x
   unfolding nodeShown
   nodeShown-child query wanted i numbers e x m =
-      let list : List ℕ = part (linksAt s + nodeField s c store i 0) (nodeField s c store i 1) (store .numbers) in
-      let held : Bool = blockHeld (nodeField s c store i 0) (nodeField s c store i 1) (c .nodes) in
-      either (cond-cases (eqb (nodeField s c store i 1) 0) (leafShown s c store query wanted i) (cond held (childrenShown s c store i list) damage))
+      let list : List ℕ = childLinks s (store .numbers) i in
+      let held : Bool = blockHeld (nodeField s (store .numbers) i 0) (nodeField s (store .numbers) i 1) (c .nodes) in
+      either (cond-cases (eqb (nodeField s (store .numbers) i 1) 0) (leafShown s c store query wanted i) (cond held (childrenShown s c store i list) damage))
       (λ p. absurd (childless-leaf query wanted i numbers (sym (p .1) ∙ e)))
       (λ p. either (cond-cases held (childrenShown s c store i list) damage)
       (λ q. let child = childrenShown-below i list numbers (sym (q .1) ∙ sym (p .1) ∙ e) x m in
-      record { inner = eqb-false (nodeField s c store i 1) 0 (p .0); held = q .0; listed = child .0; above = child .1; below = child .2 })
+      record { inner = eqb-false (nodeField s (store .numbers) i 1) 0 (p .0); held = q .0; listed = child .0; above = child .1; below = child .2 })
       (λ q. absurd (childless-damage numbers (sym (q .1) ∙ sym (p .1) ∙ e))))
 
   pub store-shown : (query : List Float) (wanted : Wanted) (i : ℕ)
-      → shown (storeView s c store query wanted) i ≡ cond (denies wanted (filterAt s c store i)) (hits []) (nodeShown s c store query wanted i)
+      → shown (storeView s c store query wanted) i ≡ cond (denies wanted (nodeFilter s (store .hashes) i)) (hits []) (nodeShown s c store query wanted i)
   unfolding shown storeView
   store-shown query wanted i = refl
 
   -- The children that a store shows, by a node that its filter does not deny
   pub store-child : (query : List Float) (wanted : Wanted) (i : ℕ) (numbers : List ℕ) (x : ℕ) → shown (storeView s c store query wanted) i ≡ children numbers
-      → List·Memᴰ x numbers → (denies wanted (filterAt s c store i) ≡ false) × ShownChild i x
+      → List·Memᴰ x numbers → (denies wanted (nodeFilter s (store .hashes) i) ≡ false) × ShownChild i x
   store-child query wanted i numbers x e m =
-      either (cond-cases (denies wanted (filterAt s c store i)) (hits []) (nodeShown s c store query wanted i))
+      either (cond-cases (denies wanted (nodeFilter s (store .hashes) i)) (hits []) (nodeShown s c store query wanted i))
       (λ p. absurd (childless-hits [] numbers (sym (p .1) ∙ sym (store-shown query wanted i) ∙ e)))
       (λ p. (p .0, nodeShown-child query wanted i numbers (sym (p .1) ∙ sym (store-shown query wanted i) ∙ e) x m))
 

@@ -1,6 +1,7 @@
 //! damage SEED COUNT: calls on damaged indexes, their lists between guard pages, against the model.
 use std::collections::BTreeMap;
 use tools::damage::check::{self, Ended};
+use tools::damage::pool::pool;
 use tools::damage::random_calls::{added, damaged, vector};
 use tools::damage::short::{short_answer, short_state};
 use tools::ffi::Asked;
@@ -20,6 +21,7 @@ fn calls(random: &mut Random, ours: &Ours, labels: &[String], codes: &mut Codes)
     };
     note("add", check::add(ours, &added(random, dimension))?);
     note("build", check::build(ours)?);
+    note("pool", pool(random)?);
     for _ in 0..4 {
         let query = vector(random, dimension);
         let k = random.below(70);

@@ -1,6 +1,7 @@
 //! All checks of one case.
 use super::domain::{self, Domain};
 use super::layout;
+use super::pool::unpooled;
 use super::search::{same, same_hits, search};
 use crate::case::{Case, Query};
 use crate::model::search::{answer, brute_force, walk};
@@ -57,7 +58,9 @@ fn check_build(ours: &mut Ours, tree: &Tree, lists: Lists) -> Result<(), String>
     ours.build().map_err(|n| format!("build refused {n}"))?;
     need(ours.state[10] == tree.nodes.len(), || format!("{} nodes", ours.state[10]))?;
     let built = layout::expected(tree, &shape, lists, true);
-    need(layout::same_store(&shape, &ours.lists, &built), || "build: the store differs from the model".into())
+    need(layout::same_store(&shape, &ours.lists, &built), || "build: the store differs from the model".into())?;
+    let unpooled = unpooled(ours);
+    need(unpooled.is_none(), || format!("build: the filter of node {unpooled:?} is not the pool of its children's"))
 }
 
 fn check_search(query: &Query, plain: bool, tree: &Tree, ours: &mut Ours, theirs: &CuratorIndex, tally: &mut Tally) -> Result<(), String> {

@@ -2,5 +2,6 @@
 pub mod case;
 pub mod domain;
 pub mod layout;
+pub mod pool;
 pub mod search;
 pub mod shrink;

@@ -17,9 +17,9 @@ pub struct Ended {
     pub nan: bool,
 }
 
-type Checked = Result<Ended, String>;
+pub type Checked = Result<Ended, String>;
 
-fn ended(code: u32) -> Checked {
+pub fn ended(code: u32) -> Checked {
     Ok(Ended { code, nan: false })
 }
 

@@ -4,5 +4,6 @@ pub mod calls;
 pub mod check;
 pub mod guard;
 pub mod make;
+pub mod pool;
 pub mod random_calls;
 pub mod short;

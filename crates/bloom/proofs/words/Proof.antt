@@ -1,9 +1,10 @@
 -- The four words are read one by one.
 -- Assumes nothing.
-use Rattle.node_filters.proofs.Filtering.{four-words}
+use mathlib.Core.Path.{sym}
+use Rattle.lists.specs.Parts.{part-four}
 use borrow.Author.Needs.{needs}
-use Rattle.node_filters.proofs.words.Statement.{statement}
-use Rattle.node_filters.proofs.words.Tie as tie
+use Rattle.bloom.proofs.words.Statement.{statement}
+use Rattle.bloom.proofs.words.Tie as tie
 
 -- ---- the places that needs go back to (primed: the same place, from another one)
 
@@ -46,7 +47,7 @@ shared-slice-read-t17 c = search needs
 returns : tie.Need-returns
 returns c =
     let start = entry c in
-    four-words (start .args .hashes .now) (start .args .at) (start .pre)
+    sym (part-four (start .args .at) (start .args .list .now) 0 (start .pre))
 
 pub words-spec : {M : Type 1} → statement M
 words-spec =
