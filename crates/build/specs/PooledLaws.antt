@@ -13,11 +13,10 @@ use Rattle.bloom.specs.Filter.{emptyFilter, union, unionAll}
 use Rattle.bloom.specs.FilterLaws.{getD-union}
 use Rattle.store.specs.declared.Shape.{Shape}
 use Rattle.store.specs.Store.{Store, filtersAt, numbersSize, hashesSize, nodeField, childLinks, nodeFilter}
-use Rattle.tree.specs.Tree.{Splitting, treeOf}
+use Rattle.tree.specs.Tree.{Splitting}
 use Rattle.tree.specs.Nodes.{Entries, Node, nodesOf}
-use Rattle.tree.specs.TreeLaws.{fair-treeOf}
 use Rattle.tree.specs.NodeLaws.{length-nodesOf, length-links}
-use Rattle.tree.specs.NumberedNodes.{nodesOf-four, node-children, inner-filter}
+use Rattle.tree.specs.NumberedNodes.{nodesOf-four, nodesOf-children, nodesOf-pool}
 use Rattle.tree.specs.Layout.{startOf, numbersOf, hashesOf}
 use Rattle.tree.specs.LayoutLaws.{NodesFit, blockAt, start-end, start-at, count-at, children-read, filter-read}
 use Rattle.build.specs.Pooled.{Pooled}
@@ -57,22 +56,6 @@ anyNode = record { centroid = []; children = []; ids = []; entries = []; filter 
 
 module _ (shape : Shape) (s : Splitting) (vectors : List (List Float)) (e : Entries) (numbers hashes : List ℕ) (some : 1 ≤ s .branching)
     (fit : NodesFit shape (nodesOf s vectors e)) (numbers-long : numbersSize shape ≤ length numbers) (hashes-long : hashesSize shape ≤ length hashes) where
-  children-of : (i : ℕ) → i < length (nodesOf s vectors e) → (child : ℕ) → List·Memᴰ child (getD (nodesOf s vectors e) i anyNode .children)
-      → (i < child) × (child < length (nodesOf s vectors e))
-  unfolding nodesOf
-  children-of i h child m =
-      let n = length-nodesOf s vectors e in
-      let r = node-children s vectors e (treeOf s vectors) i anyNode child (omega arith) m in
-      (r .0, omega (arith, r .1))
-
-  filter-of : (i : ℕ) → i < length (nodesOf s vectors e) → 1 ≤ length (getD (nodesOf s vectors e) i anyNode .children)
-      → getD (nodesOf s vectors e) i anyNode .filter
-      ≡ unionAll emptyFilter (map (λ c. getD (nodesOf s vectors e) c anyNode .filter) (getD (nodesOf s vectors e) i anyNode .children))
-  unfolding nodesOf
-  filter-of i h inner =
-      let n = length-nodesOf s vectors e in
-      inner-filter s vectors e (treeOf s vectors) (fair-treeOf s vectors some) i anyNode (omega arith) inner
-
   pub laid-pooled : (store : Store) → store .numbers ≡ numbersOf shape (nodesOf s vectors e) numbers → store .hashes ≡ hashesOf shape (nodesOf s vectors e) hashes
       → (i : ℕ) → i < length (nodesOf s vectors e) → 1 ≤ nodeField shape (store .numbers) i 1 → Pooled shape (length (nodesOf s vectors e)) store i
   laid-pooled store n-are h-are i h inner =
@@ -88,10 +71,10 @@ module _ (shape : Shape) (s : Splitting) (vectors : List (List Float)) (e : Entr
       λ k b.
       ap (λ (l : List ℕ). nodeFilter shape l k) h-are
       ∙ filter-read shape nodes hashes (nodesOf-four s vectors e) (fit .nodes-fit) hashes-long k anyNode b in
-      let below = children-of i h in
+      let below : (child : ℕ) → List·Memᴰ child (node .children) → (i < child) × (child < length nodes) = λ child m. nodesOf-children s vectors e i anyNode child h m in
       let pool : nodeFilter shape (store .hashes) i ≡ unionAll emptyFilter (map (nodeFilter shape (store .hashes)) (childLinks shape (store .numbers) i)) =
       read i h
-      ∙ filter-of i h (subst (λ (k : ℕ). 1 ≤ k) count inner)
+      ∙ nodesOf-pool s vectors e some i anyNode h (subst (λ (k : ℕ). 1 ≤ k) count inner)
       ∙ ap (unionAll emptyFilter) (sym (map-on (nodeFilter shape (store .hashes)) (λ c. getD nodes c anyNode .filter) (node .children) (λ c m. read c (below c m .1))))
       ∙ ap (λ (l : List ℕ). unionAll emptyFilter (map (nodeFilter shape (store .hashes)) l)) (sym links) in
       let all = length-links s vectors e in

@@ -2,8 +2,10 @@
 use mathlib.Core.Bool.{true}
 use mathlib.Core.List.{[], _∷_}
 use mathlib.Core.Path.{_≡_, refl}
+use Rattle.bloom.specs.Filter.{union}
 use Rattle.curator_c.specs.declared.state.StateRead.the-variants.{State, Nothing}
 use Rattle.curator_c.specs.State.{stateIn}
+use Rattle.curator_c.specs.Results.{poolShort, PoolsBy, PoolResult}
 
 -- the state of document 01's worked example, built, with a number more in the list
 built-example :
@@ -27,3 +29,12 @@ flag-2 = refl
 eleven : stateIn (2 ∷ 2 ∷ 1 ∷ 5 ∷ 4 ∷ 128 ∷ 256 ∷ 512 ∷ 3 ∷ 3 ∷ 0 ∷ []) ≡ Nothing
 unfolding stateIn
 eleven = refl
+
+-- two filters pooled, each with a word more in its list; and three words
+pooled : PoolResult (1 ∷ 2 ∷ 4 ∷ 8 ∷ 9 ∷ []) (2 ∷ 2 ∷ 0 ∷ 1 ∷ 7 ∷ []) 0 (3 ∷ 2 ∷ 4 ∷ 9 ∷ 9 ∷ [])
+unfolding PoolResult PoolsBy poolShort union
+pooled = (refl, refl)
+
+three-words : PoolResult (1 ∷ 2 ∷ 4 ∷ 8 ∷ []) (2 ∷ 2 ∷ 0 ∷ []) 3 (1 ∷ 2 ∷ 4 ∷ 8 ∷ [])
+unfolding PoolResult PoolsBy poolShort
+three-words = (refl, refl)

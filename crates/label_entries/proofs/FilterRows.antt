@@ -19,7 +19,7 @@ use Rattle.tree.specs.Layout.{startOf, numbersOf, hashesOf}
 use Rattle.tree.specs.TreeLaws.{fair-treeOf}
 use Rattle.tree.specs.NodeLaws.{length-nodesOf}
 use Rattle.tree.specs.NodeEntryLaws.{entry-below}
-use Rattle.tree.specs.NumberedNodes.{node-entries, node-filter-length, node-children, filter-at}
+use Rattle.tree.specs.NumberedNodes.{node-entries, node-filter-length, nodesOf-children, filter-at}
 use Rattle.tree.specs.LayoutLaws.{blockAt, NodesFit, sixOf, length-numbersOf, field-read, start-at, count-at, children-read, entries-read, start-end, length-blocks, row-read}
 use Rattle.node_table.specs.Table.{placesOf, cell}
 use Rattle.node_filters.specs.Filters.{entryBlock, childBlock, filterMade, filtersMade}
@@ -90,12 +90,8 @@ module _ (shape : Shape) (s : Splitting) (vectors : List (List Float)) (e : Entr
 
   child-range : (i k : ℕ) → i < length nodes → k < length (getD nodes i noNode .children)
       → (i < getD (getD nodes i noNode .children) k 0) × (getD (getD nodes i noNode .children) k 0 < length nodes)
-  unfolding nodesOf
   child-range i k h g =
-      let n = length-nodesOf s vectors e in
-      let c = getD (getD nodes i noNode .children) k 0 in
-      let r = node-children s vectors e (treeOf s vectors) i noNode c (omega arith) (getD-Memᴰ (getD nodes i noNode .children) k 0 g) in
-      (r .0, omega (arith, r .1))
+      nodesOf-children s vectors e i noNode (getD (getD nodes i noNode .children) k 0) h (getD-Memᴰ (getD nodes i noNode .children) k 0 g)
 
   pub rows-fit : (i : ℕ) → i < length nodes → RowFits (placesOf shape) laid (length nodes) i
   rows-fit i h =

@@ -6,3 +6,5 @@ pub mod Lent
 pub mod LentLaws
 pub mod Agree
 pub mod Fronts
+-- computed
+pub mod Trials

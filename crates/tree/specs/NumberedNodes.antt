@@ -14,9 +14,9 @@ use Rattle.bloom.specs.Filter.{emptyFilter, insertAll, unionAll}
 use Rattle.cluster.specs.Clusters.{meanOf}
 use Rattle.tree.specs.Tree.{Tree, Forest, leaf, inner, none, more, Splitting, treeOf, size}
 use Rattle.tree.specs.Nodes.{Entries, Node, nodesFrom, forestNodes, nodesOf, roots, entriesOf, filterOf}
-use Rattle.tree.specs.TreeLaws.{keptIds, Fair}
+use Rattle.tree.specs.TreeLaws.{keptIds, Fair, fair-treeOf}
 use Rattle.cluster.specs.ClustersLaws.{length-meanOf}
-use Rattle.tree.specs.NodeLaws.{treesOf}
+use Rattle.tree.specs.NodeLaws.{treesOf, length-nodesOf}
 use Rattle.tree.specs.NodeEntryLaws.{entriesOf-nil}
 use Rattle.tree.specs.NodeFilterLaws.{length-filterOf, filterOf-nil, filterOf-children}
 use Rattle.tree.specs.Subtrees.{subs, forestSubs, length-subs, childrenOf, ownIds, subs-children, child-range, fair-sub}
@@ -213,7 +213,7 @@ module _ (s : Splitting) (vectors : List (List Float)) (e : Entries) where
   root-entries i (inner ids children) h = entriesOf-nil e
 
   -- so its filter is the pool of its children's
-  pub inner-filter : (t : Tree) → Fair t → (i : ℕ) (d : Node) → i < size t → 1 ≤ length (getD (nodesFrom s vectors e 0 t) i d .children)
+  inner-filter : (t : Tree) → Fair t → (i : ℕ) (d : Node) → i < size t → 1 ≤ length (getD (nodesFrom s vectors e 0 t) i d .children)
       → getD (nodesFrom s vectors e 0 t) i d .filter
       ≡ unionAll emptyFilter (map (λ c. getD (nodesFrom s vectors e 0 t) c d .filter) (getD (nodesFrom s vectors e 0 t) i d .children))
   unfolding insertAll
@@ -224,3 +224,21 @@ module _ (s : Splitting) (vectors : List (List Float)) (e : Entries) where
       filter-at t fair i d h
       ∙ ap (λ (entries : List ℕ). unionAll (insertAll emptyFilter (map (λ number. getD (e .hashes) number 0) entries)) (map (λ c. getD (nodesFrom s vectors e 0 t) c d .filter) (node .children)))
       none
+
+-- ---- both for the nodes of an index
+
+module _ (s : Splitting) (vectors : List (List Float)) (e : Entries) where
+  pub nodesOf-children : (i : ℕ) (d : Node) (c : ℕ) → i < length (nodesOf s vectors e) → List·Memᴰ c (getD (nodesOf s vectors e) i d .children)
+      → (i < c) × (c < length (nodesOf s vectors e))
+  unfolding nodesOf
+  nodesOf-children i d c h m =
+      let n = length-nodesOf s vectors e in
+      let r = node-children s vectors e (treeOf s vectors) i d c (omega arith) m in
+      (r .0, omega (arith, r .1))
+
+  pub nodesOf-pool : 1 ≤ s .branching → (i : ℕ) (d : Node) → i < length (nodesOf s vectors e) → 1 ≤ length (getD (nodesOf s vectors e) i d .children)
+      → getD (nodesOf s vectors e) i d .filter
+      ≡ unionAll emptyFilter (map (λ c. getD (nodesOf s vectors e) c d .filter) (getD (nodesOf s vectors e) i d .children))
+  unfolding nodesOf
+  nodesOf-pool b i d h some =
+      let n = length-nodesOf s vectors e in inner-filter s vectors e (treeOf s vectors) (fair-treeOf s vectors b) i d (omega arith) some
