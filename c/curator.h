@@ -113,7 +113,7 @@ uint32_t curator_search(const size_t *state, size_t state_len,
                         size_t *answer, size_t answer_len);
 
 /* Pools a filter into another: the first four words of filter get the bits of the first four of other too. The pool of filters of several indexes is the
-   filter of all their labels, in whatever order they are pooled; pooling one again changes nothing. */
+   filter of all their labels, in whatever order they are pooled; pooling one again changes nothing. Refused (3), it writes nothing. */
 uint32_t curator_pool(uint64_t *filter, size_t filter_len, const uint64_t *other, size_t other_len);
 
 #ifdef __cplusplus

@@ -101,8 +101,8 @@ impl Found {
     }
 }
 
-/// A filter: 256 bits in four words, two of which each label sets (or one, where both are the same). A label whose bits are
-/// not all set is nowhere below the filter's node; one whose bits are may be.
+/// A filter: 256 bits in four words. Each label sets two of the bits (or one, where both are the same). A label whose bits
+/// are not all set is nowhere below the filter's node; one whose bits are may be.
 pub type Filter = [u64; sys::FILTER];
 
 /// The pool of two filters: the bits of both. A region pools the filters of its gateways in any order, and pooling one again

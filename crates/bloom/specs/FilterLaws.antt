@@ -143,11 +143,19 @@ wordAt : ℕ → ℕ → List ℕ
 wordAt zero x = x ∷ []
 wordAt (suc i) x = 0 ∷ wordAt i x
 
-set-union : (f : List ℕ) (i x : ℕ) → i < length f → set f i (bitOr (getD f i 0) x) ≡ union f (wordAt i x)
-unfolding union wordAt
-set-union [] i x h = absurd (omega arith)
-set-union (w ∷ f) zero x h = ap (λ (l : List ℕ). bitOr w x ∷ l) (sym (union-nil f))
-set-union (w ∷ f) (suc i) x h = ap₂ _∷_ (sym (or-zero-r w)) (set-union f i x (omega arith))
+-- the or of one word with a number
+unfoldable pub orInto : List ℕ → ℕ → ℕ → List ℕ
+orInto f i x = set f i (bitOr (getD f i 0) x)
+
+into-is : (f : List ℕ) (i x : ℕ) → i < length f → orInto f i x ≡ union f (wordAt i x)
+unfolding union wordAt orInto
+into-is [] i x h = absurd (omega arith)
+into-is (w ∷ f) zero x h = ap (λ (l : List ℕ). bitOr w x ∷ l) (sym (union-nil f))
+into-is (w ∷ f) (suc i) x h = ap₂ _∷_ (sym (or-zero-r w)) (into-is f i x (omega arith))
+
+pub setBit-into : (f : List ℕ) (k : ℕ) → setBit f k ≡ orInto f (k / 64) (2 ^ (k % 64))
+unfolding setBit orInto
+setBit-into f k = ap (set f (k / 64)) (setWordBit-is (getD f (k / 64) 0) (k % 64))
 
 bitOf : ℕ → List ℕ
 bitOf k = wordAt (k / 64) (2 ^ (k % 64))
@@ -187,9 +195,8 @@ unfolding hasBit bitOf
 hasBit-bitOf k m = wordAt-bit (m / 64) (m % 64) (k / 64) (k % 64) ∙ same-place k m
 
 setBit-is : (f : List ℕ) (k : ℕ) → k / 64 < length f → setBit f k ≡ union f (bitOf k)
-unfolding setBit bitOf
-setBit-is f k h =
-    ap (set f (k / 64)) (setWordBit-is (getD f (k / 64) 0) (k % 64)) ∙ set-union f (k / 64) (2 ^ (k % 64)) h
+unfolding bitOf
+setBit-is f k h = setBit-into f k ∙ into-is f (k / 64) (2 ^ (k % 64)) h
 
 -- the bits of one hash, and that inserting it is uniting with them
 pub hashBits : ℕ → List ℕ

@@ -4,18 +4,8 @@ use mathlib.Core.List.{List, [], _∷_, List·Permᴰ, List·Permᴰ·nil, List�
 use mathlib.Core.Path.{_≡_, refl, sym, ap, ap₂, _∙_}
 use Prim.Native.Nat.{ℕ, zero, suc, _/_, _%_, _^_}
 use lib.Bits.{bitOr, or-comm, or-self}
-use lib.ListN.{getD, set}
 use Rattle.bloom.specs.Filter.{firstBit, secondBit, setBit, insertHash, union, insertAll}
-use Rattle.bloom.specs.FilterLaws.{or-assoc, setWordBit-is}
-
--- ---- the or of one word with a number
-
-orInto : List ℕ → ℕ → ℕ → List ℕ
-orInto f i x = set f i (bitOr (getD f i 0) x)
-
-setBit-into : (f : List ℕ) (k : ℕ) → setBit f k ≡ orInto f (k / 64) (2 ^ (k % 64))
-unfolding setBit orInto
-setBit-into f k = ap (set f (k / 64)) (setWordBit-is (getD f (k / 64) 0) (k % 64))
+use Rattle.bloom.specs.FilterLaws.{or-assoc, orInto, setBit-into}
 
 -- ---- over the pool
 

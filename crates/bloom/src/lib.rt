@@ -1,4 +1,4 @@
-// The filter of a node: 256 bits in four words, lent by the caller.
+// The filter of a node: 256 bits in four words.
 ghost use mathlib.Core.Path.{_≡_};
 ghost use Prim.Native.Nat.{_+_, _<_, _≤_};
 ghost use lib.Seq.{sets};

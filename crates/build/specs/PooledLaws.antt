@@ -82,6 +82,7 @@ module _ (shape : Shape) (s : Splitting) (vectors : List (List Float)) (e : Entr
       let ends = start-end (λ node. node .children) nodes i anyNode h in
       record {
         links-end = omega arith;
+        links-count = ap length links ∙ sym count;
         children = λ child m. below child (subst (λ (l : List ℕ). List·Memᴰ child l) links m);
         filter = pool;
         words = λ w b. words-of shape (store .hashes) (childLinks shape (store .numbers) i) i w b pool;

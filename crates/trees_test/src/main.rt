@@ -244,7 +244,7 @@ fn filter_in(list: &[u64], at: usize) -> [u64; 4] {
     bloom::words(list, at)
 }
 
-// The pool of the filters of the children whose links stand from a place on.
+// The pool of the filters of the children whose links stand from a place on, where E is 128.
 fn pool_of(numbers: &[u32], hashes: &[u64], from: usize, count: usize) -> [u64; 4] {
     let end = forward(numbers.len(), from, count);
     let mut pool = [0u64; 4];
@@ -258,7 +258,7 @@ fn pool_of(numbers: &[u32], hashes: &[u64], from: usize, count: usize) -> [u64; 
     pool
 }
 
-// The number of each node that has children, and the pool of their filters.
+// The number of each node that has children, and the pool of their filters, where V is 64 and E 128.
 fn print_pools(numbers: &[u32], hashes: &[u64], nodes: usize, room: usize)
     requires { ⌜ nodes ≤ 65537 ⌝ }
     requires { ⌜ room ≤ 65537 ⌝ }

@@ -59,8 +59,10 @@ fn check_build(ours: &mut Ours, tree: &Tree, lists: Lists) -> Result<(), String>
     need(ours.state[10] == tree.nodes.len(), || format!("{} nodes", ours.state[10]))?;
     let built = layout::expected(tree, &shape, lists, true);
     need(layout::same_store(&shape, &ours.lists, &built), || "build: the store differs from the model".into())?;
-    let unpooled = unpooled(ours);
-    need(unpooled.is_none(), || format!("build: the filter of node {unpooled:?} is not the pool of its children's"))
+    match unpooled(ours) {
+        None => Ok(()),
+        Some(node) => Err(format!("build: the filter of node {node} is not the pool of its children's")),
+    }
 }
 
 fn check_search(query: &Query, plain: bool, tree: &Tree, ours: &mut Ours, theirs: &CuratorIndex, tally: &mut Tally) -> Result<(), String> {

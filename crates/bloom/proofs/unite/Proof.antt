@@ -33,9 +33,9 @@ array-read-t31 c = search needs
 
 returns : tie.Need-returns
 returns c =
-    let entry : length (c .args .t1) ≡ 4 = search needs in
+    let own : length (c .args .t1) ≡ 4 = search needs in
     let other : length (c .args .t2) ≡ 4 = search needs in
-    unite-all (c .args .t1) (c .args .t2) entry other
+    unite-all (c .args .t1) (c .args .t2) own other
 
 pub unite-spec : {M : Type 1} → statement M
 unite-spec =
