@@ -1,11 +1,12 @@
 -- Inserting distributes over pooling and may be done in any order, whatever the lengths of the filters. Setting a bit is `bitOr` of one word with a power
 -- of 2: it distributes over `union` word by word, and two such writes commute.
-use mathlib.Core.List.{List, [], _∷_, List·Permᴰ, List·Permᴰ·nil, List·Permᴰ·cons, List·Permᴰ·swap, List·Permᴰ·trans}
+use mathlib.Core.List.{List, [], _∷_, map, foldl, List·Permᴰ, List·Permᴰ·nil, List·Permᴰ·cons, List·Permᴰ·swap, List·Permᴰ·trans}
 use mathlib.Core.Path.{_≡_, refl, sym, ap, ap₂, _∙_}
 use Prim.Native.Nat.{ℕ, zero, suc, _/_, _%_, _^_}
 use lib.Bits.{bitOr, or-comm, or-self}
-use Rattle.bloom.specs.Filter.{firstBit, secondBit, setBit, insertHash, union, insertAll}
-use Rattle.bloom.specs.FilterLaws.{or-assoc, orInto, setBit-into}
+use lib.ListN.{getD}
+use Rattle.bloom.specs.Filter.{firstBit, secondBit, setBit, insertHash, emptyFilter, union, insertAll, unionAll}
+use Rattle.bloom.specs.FilterLaws.{or-assoc, getD-union, orInto, setBit-into}
 
 -- ---- over the pool
 
@@ -68,3 +69,19 @@ insertAll-perm (List·Permᴰ·cons {a} {b} {l₁} {l₂} p d) f =
 insertAll-perm (List·Permᴰ·swap {a} {b} {a′} {b′} {l} p q) f =
     ap (λ (g : List ℕ). insertAll g l) (insertHash-comm f a b ∙ ap₂ (λ (x y : ℕ). insertHash (insertHash f x) y) q p)
 insertAll-perm (List·Permᴰ·trans d₁ d₂) f = insertAll-perm d₁ f ∙ insertAll-perm d₂ f
+
+-- ---- the pool of a list, word by word
+
+pub getD-unionAll : (f : List ℕ) (others : List (List ℕ)) (w : ℕ) → getD (unionAll f others) w 0 ≡ foldl bitOr (getD f w 0) (map (λ other. getD other w 0) others)
+unfolding unionAll
+getD-unionAll f [] w = refl
+getD-unionAll f (other ∷ others) w =
+    getD-unionAll (union f other) others w ∙ ap (λ (x : ℕ). foldl bitOr x (map (λ other. getD other w 0) others)) (getD-union f other w)
+
+-- the empty filter has no word but 0
+pub no-word : (w : ℕ) → getD emptyFilter w 0 ≡ 0
+no-word zero = refl
+no-word (suc zero) = refl
+no-word (suc (suc zero)) = refl
+no-word (suc (suc (suc zero))) = refl
+no-word (suc (suc (suc (suc w)))) = refl

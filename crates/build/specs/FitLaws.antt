@@ -18,17 +18,24 @@ use Rattle.curator.specs.declared.CuratorIndex.{CuratorIndex}
 use Rattle.curator.specs.Limits.{indexShape}
 use Rattle.curator.specs.Calls.{heldVectors, heldEntries, splittingOf}
 use Rattle.curator.specs.Changes.{tooManyNodes, buildCheck, heldNodes}
-use Rattle.curator.specs.RowLaws.{none-fine, fine-none}
+use Rattle.curator.specs.Rows.{Row}
+use Rattle.curator.specs.RowLaws.{NoneHolds, none-fine, fine-none}
 use Rattle.build.specs.Asked.{BuildReady}
 use Rattle.build.specs.CheckLaws.{earlyBuildRows, fullRow, check-rows, checked-rows, ready}
 use Rattle.build.specs.WrittenLaws.{held-vectors-are}
 
 module _ (index : CuratorIndex) (store : Store) (work : List ℕ) (f : buildCheck index store work ≡ Fine) (u : index .built ≡ false) where
+  abbrev early : List Row
+  early = earlyBuildRows index (lengthsOf store) (length work) (store .numbers)
+
+  -- no row's case held
+  none-held : NoneHolds (early ++ (fullRow index (tooManyNodes index store) ∷ []))
+  none-held = fine-none (early ++ (fullRow index (tooManyNodes index store) ∷ [])) (sym (check-rows index store work) ∙ f)
+
   -- it was ready
   pub fine-ready : BuildReady index store work
   fine-ready =
-      let early = earlyBuildRows index (lengthsOf store) (length work) (store .numbers) in
-      let (a, (b, (c, (d, _)))) = fine-none (early ++ (fullRow index (tooManyNodes index store) ∷ [])) (sym (check-rows index store work) ∙ f) in
+      let (a, (b, (c, (d, _)))) = none-held in
       ready index store work
       (checked-rows index (lengthsOf store) (length work) (store .numbers)
       ∙ none-fine (early ++ (fullRow index false ∷ [])) (a, (b, (c, (d, (and-false (not (index .built)), tt))))))
@@ -37,8 +44,7 @@ module _ (index : CuratorIndex) (store : Store) (work : List ℕ) (f : buildChec
   -- not too many nodes
   pub fine-few : tooManyNodes index store ≡ false
   fine-few =
-      let early = earlyBuildRows index (lengthsOf store) (length work) (store .numbers) in
-      let (_, (_, (_, (_, (full, _))))) = fine-none (early ++ (fullRow index (tooManyNodes index store) ∷ [])) (sym (check-rows index store work) ∙ f) in
+      let (_, (_, (_, (_, (full, _))))) = none-held in
       ap (λ (t : Bool). not t && tooManyNodes index store) (sym u) ∙ full
 
 -- ---- what is held

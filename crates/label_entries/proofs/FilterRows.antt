@@ -11,10 +11,10 @@ use Rattle.lists.specs.Lists.{part, joined}
 use Rattle.lists.specs.Counting.{getD-Memᴰ, every-Memᴰ, joined-cons, joined-nil}
 use Rattle.lists.specs.Parts.{getD-part, part-part, getD-sets-before, part-sets-same, sets-append, sets-comm}
 use Rattle.store.specs.declared.Shape.{Shape}
-use Rattle.store.specs.Store.{nodesAt, linksAt, entryOrderAt, filtersAt, numbersSize, hashesSize}
+use Rattle.store.specs.Store.{nodesAt, linksAt, entryOrderAt, filtersAt, numbersSize, hashesSize, nodeField}
 use Rattle.bloom.specs.Filter.{emptyFilter, insertAll, unionAll}
 use Rattle.tree.specs.Tree.{Splitting, treeOf, size}
-use Rattle.tree.specs.Nodes.{Entries, Node, nodesOf}
+use Rattle.tree.specs.Nodes.{Entries, Node, noNode, nodesOf}
 use Rattle.tree.specs.Layout.{startOf, numbersOf, hashesOf}
 use Rattle.tree.specs.TreeLaws.{fair-treeOf}
 use Rattle.tree.specs.NodeLaws.{length-nodesOf}
@@ -26,7 +26,6 @@ use Rattle.node_filters.specs.Filters.{entryBlock, childBlock, filterMade, filt
 use Rattle.node_filters.specs.Contracts.{RowFits}
 use Rattle.lists.specs.Maps.{map-same}
 use Rattle.node_filters.specs.FiltersLaws.{made-next, made-none}
-use Rattle.label_entries.proofs.Rows.{noNode}
 
 -- a part of a run that was written
 part-in-run : (l : List ℕ) (at : ℕ) (vs : List ℕ) (i n : ℕ) → at + length vs ≤ length l → i + n ≤ length vs → part (at + i) n (sets l at vs) ≡ part i n vs
@@ -44,36 +43,30 @@ module _ (shape : Shape) (s : Splitting) (vectors : List (List Float)) (e : Entr
 
   -- ---- the rows
 
-  row-field : (i field : ℕ) → i < length nodes → field < 6
-      → getD laid (nodesAt shape + field + 6 * i) 0
-      ≡ getD (sixOf (blockAt (λ node. node .children) nodes i) (blockAt (λ node. node .ids) nodes i) (blockAt (λ node. node .entries) nodes i) (getD nodes i noNode)) field 0
-  row-field i field h g =
-      let k : nodesAt shape + field + 6 * i ≡ nodesAt shape + i * 6 + field = omega arith in
-      ap (λ (j : ℕ). getD laid j 0) k ∙ field-read shape nodes numbers fit long i noNode field h g
+  -- a cell of the table is one of the node's six numbers
+  cell-field : (i field : ℕ) → cell (nodesAt shape + field) laid i ≡ nodeField shape laid i field
+  cell-field i field = let k : nodesAt shape + field + 6 * i ≡ nodesAt shape + i * 6 + field = omega arith in ap (λ (j : ℕ). getD laid j 0) k
+
+  first-field : (i : ℕ) → cell (nodesAt shape) laid i ≡ nodeField shape laid i 0
+  first-field i = let k : nodesAt shape + 6 * i ≡ nodesAt shape + i * 6 + 0 = omega arith in ap (λ (j : ℕ). getD laid j 0) k
 
   child-start : (i : ℕ) → i < length nodes → cell (nodesAt shape) laid i ≡ startOf (blockAt (λ node. node .children) nodes i) (getD nodes i noNode .children)
-  unfolding sixOf
-  child-start i h =
-      let k : nodesAt shape + 6 * i ≡ nodesAt shape + 0 + 6 * i = omega arith in
-      ap (λ (j : ℕ). getD laid j 0) k ∙ row-field i 0 h (omega arith)
+  child-start i h = first-field i ∙ start-at shape nodes numbers fit long i noNode h
 
   child-count : (i : ℕ) → i < length nodes → cell (nodesAt shape + 1) laid i ≡ length (getD nodes i noNode .children)
-  unfolding sixOf
-  child-count i h = row-field i 1 h (omega arith)
+  child-count i h = cell-field i 1 ∙ count-at shape nodes numbers fit long i noNode h
 
   entry-start : (i : ℕ) → i < length nodes → cell (nodesAt shape + 4) laid i ≡ startOf (blockAt (λ node. node .entries) nodes i) (getD nodes i noNode .entries)
   unfolding sixOf
-  entry-start i h = row-field i 4 h (omega arith)
+  entry-start i h = cell-field i 4 ∙ field-read shape nodes numbers fit long i noNode 4 h (omega arith)
 
   entry-count : (i : ℕ) → i < length nodes → cell (nodesAt shape + 5) laid i ≡ length (getD nodes i noNode .entries)
   unfolding sixOf
-  entry-count i h = row-field i 5 h (omega arith)
+  entry-count i h = cell-field i 5 ∙ field-read shape nodes numbers fit long i noNode 5 h (omega arith)
 
   children-are : (i : ℕ) → i < length nodes → childBlock (placesOf shape) laid i ≡ getD nodes i noNode .children
   children-are i h =
-      ap₂ (λ (a n : ℕ). part (linksAt shape + a) n laid) (child-start i h ∙ sym (start-at shape nodes numbers fit long i noNode h))
-      (child-count i h ∙ sym (count-at shape nodes numbers fit long i noNode h))
-      ∙ children-read shape nodes numbers fit long i noNode h
+      ap₂ (λ (a n : ℕ). part (linksAt shape + a) n laid) (first-field i) (cell-field i 1) ∙ children-read shape nodes numbers fit long i noNode h
 
   entries-are : (i : ℕ) → i < length nodes → entryBlock (placesOf shape) laid i ≡ getD nodes i noNode .entries
   entries-are i h =

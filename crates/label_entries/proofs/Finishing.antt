@@ -11,7 +11,7 @@ use Rattle.lists.specs.Partition.{count, List·Permᴰ, once-perm, once-countFr
 use Rattle.lists.specs.Parts.{length-part, getD-part, getD-sets-before, set-sets-before, sets-self}
 use Rattle.store.specs.declared.Shape.{Shape}
 use Rattle.store.specs.Store.{ownersAt, orderAt, nodesAt, linksAt, entryOrderAt, workSize}
-use Rattle.tree.specs.Nodes.{Entries, Node}
+use Rattle.tree.specs.Nodes.{Entries, Node, noNode}
 use Rattle.tree.specs.Layout.{sixFrom, numbersOf}
 use Rattle.tree.specs.NodeLaws.{length-ids, length-nodesOf}
 use Rattle.tree.specs.NodeEntryLaws.{perm-entries}
@@ -26,7 +26,7 @@ use Rattle.label_entries.specs.Contracts.{held, Room, AllMade, nodesMade
 use Rattle.node_table.specs.TableLaws.{DistinctPlaces, length-written, getD-written-other, getD-written-same, sumTo-congr}
 use Rattle.entry_leaves.specs.LeavesLaws.{length-marked}
 use Rattle.label_entries.proofs.Classes.{classTo, length-class-all, sumTo-block, sorted-is}
-use Rattle.label_entries.proofs.Rows.{noNode, cells-are, id-count, table-is}
+use Rattle.label_entries.proofs.Rows.{cells-are, id-count, table-is}
 use Rattle.label_entries.proofs.Owners.{marked-at, order-distinct, order-below, In, leaf-of, classes-are}
 
 -- places written before a run

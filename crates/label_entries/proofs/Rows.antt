@@ -15,7 +15,7 @@ use Rattle.lists.specs.Counting.{sumOf}
 use Rattle.lists.specs.Tests.{which}
 use Rattle.lists.specs.Partition.{count}
 use Rattle.lists.specs.Parts.{getD-part, part-append-right, getD-sets-before, getD-sets-after, getD-sets-in}
-use Rattle.tree.specs.Nodes.{Node}
+use Rattle.tree.specs.Nodes.{Node, noNode}
 use Rattle.tree.specs.Layout.{startOf, sixFrom}
 use Rattle.tree.specs.LayoutLaws.{blockAt, sixOf, six-getD, length-sixFrom}
 use Rattle.tree.specs.Made.{madeFrom}
@@ -23,10 +23,6 @@ use Rattle.node_table.specs.Table.{cellAt, cell, cells, column, sumTo, startAt,
 use Rattle.entry_order.specs.EntryOrder.{classStart}
 use Rattle.node_table.specs.TableLaws.{distinct-cells, length-written, getD-written-other, getD-written-same, length-cells, getD-cells, sumTo-congr}
 use Rattle.label_entries.proofs.Classes.{sumTo-block, startAt-is}
-
--- a node with nothing in it
-pub noNode : Node
-noNode = record { centroid = []; children = []; ids = []; entries = []; filter = [] }
 
 abbrev pub madeRow : ℕ → Node → List ℕ
 madeRow v node = 0 ∷ length (node .children) ∷ startOf v (node .ids) ∷ length (node .ids) ∷ 0 ∷ 0 ∷ []
@@ -75,7 +71,6 @@ module _ (at : ℕ) (numbers : List ℕ) (nodes : List Node) (d : Node) (six : p
 
 pub cells-are : (at : ℕ) (numbers : List ℕ) (nodes : List Node) → part at (6 * length nodes) numbers ≡ madeFrom 0 nodes
     → cells (at + 1) (length nodes) numbers ≡ map (λ node. length (node .children)) nodes
-unfolding noNode
 cells-are at numbers nodes six =
     let n = length-cells (at + 1) (length nodes) numbers in
     ext-getD 0 (cells (at + 1) (length nodes) numbers) (map (λ node. length (node .children)) nodes)

@@ -16,7 +16,7 @@ use Rattle.lists.specs.Partition.{List·Permᴰ, List·Permᴰ·trans, Permᴰ�
 use Rattle.record_queue.specs.Sorted.{sort}
 use Rattle.record_queue.specs.SortedLaws.{perm-sort}
 use Rattle.tree.specs.Tree.{Tree, Forest, leaf, inner, none, more, Splitting, treeOf, size}
-use Rattle.tree.specs.Nodes.{Node, Entries, roots, entriesOf, filterOf}
+use Rattle.tree.specs.Nodes.{Node, noNode, Entries, roots, entriesOf, filterOf}
 use Rattle.tree.specs.TreeLaws.{keptIds, leafIds, forestIds, Fair, once-treeOf, fair-treeOf, perm-leafIds, kept-grow, size-some, size-treeOf}
 use Rattle.tree.specs.NodeLaws.{treesOf}
 use Rattle.tree.specs.NodeEntryLaws.{entriesOf-nil, entriesOf-perm, entriesOf-append}
@@ -28,7 +28,7 @@ use Rattle.walk.specs.Walk.{children, hits, shown}
 use Rattle.walk.specs.Wanted.{LeafList, vector-list, entry-list, denies, listRead, given, heldIn}
 use Rattle.walk.specs.SoundWalk.{SoundView, Local, Inner, Tiled}
 use Rattle.curator.specs.Calls.{splittingOf}
-use Rattle.runs.specs.Model.{Setting, Model, noNode, rowHashes, rowVectors, rowEntries, nodeCount, modelNodes, modelCounts, rowHit, rowRead, nodeList, leafHits, nodeGives, treeView}
+use Rattle.runs.specs.Model.{Setting, Model, rowHashes, rowVectors, rowEntries, nodeCount, modelNodes, modelCounts, rowHit, rowRead, nodeList, leafHits, nodeGives, treeView}
 use Rattle.runs.specs.State.{Allowed, Within, limits, some-nodes}
 use Rattle.runs.specs.Held.{length-vectors}
 use Rattle.runs.specs.WantedLaws.{listOver, given-joined, given-perm, given-fewer, denied-gives, entries-all}

@@ -14,7 +14,7 @@ use Rattle.store.specs.declared.Shape.{Shape}
 use Rattle.store.specs.declared.Counts.{Counts}
 use Rattle.store.specs.declared.Lengths.{Lengths}
 use Rattle.tree.specs.Tree.{treeOf, size}
-use Rattle.tree.specs.Nodes.{Node, Entries, nodesOf}
+use Rattle.tree.specs.Nodes.{Node, noNode, Entries, nodesOf}
 use Rattle.walk.specs.declared.Wanted.{Wanted}
 use Rattle.walk.specs.Walk.{View, Shown, State, damaged, going, children, hits, walk}
 use Rattle.walk.specs.Answer.{Answer, answer, hitOf}
@@ -118,9 +118,6 @@ changedBy (Refused r) c m = m
 changedBy Fine c m = carriedOut c m
 
 -- ---- the search over the rows and their tree: no list of a store occurs in it
-
-abbrev pub noNode : Node
-noNode = record { centroid = []; children = []; ids = []; entries = []; filter = [] }
 
 abbrev pub noRow : ModelRow
 noRow = record { document = 0; vector = []; hashes = [] }

@@ -20,7 +20,7 @@ use Rattle.total_order.specs.TotalOrder.{keyOf}
 use Rattle.store.specs.declared.Shape.{Shape}
 use Rattle.store.specs.Store.{Store, vectorAt, nodesAt, linksAt, filtersAt, nodeField}
 use Rattle.tree.specs.Tree.{treeOf}
-use Rattle.tree.specs.Nodes.{Node, nodesOf, entriesOf}
+use Rattle.tree.specs.Nodes.{Node, noNode, nodesOf, entriesOf}
 use Rattle.tree.specs.Layout.{startOf, sixFrom}
 use Rattle.tree.specs.NodeLaws.{length-ids, id-below, length-links}
 use Rattle.tree.specs.NodeEntryLaws.{length-entries, entry-below}
@@ -35,7 +35,7 @@ use Rattle.walk.specs.WantedLaws.{SameNumber, numbers-same, passes-same, given-
 use Rattle.walk.specs.StoreView.{blockHeld, hitAt, fieldOf, partOf, entryRead, childrenShown, listShown, leafShown, nodeShown, storeView}
 use Rattle.walk.specs.StoreViewLaws.{store-shown, store-children-below}
 use Rattle.curator.specs.Calls.{splittingOf}
-use Rattle.runs.specs.Model.{Setting, Model, noRow, noNode, rowHashes, rowVectors, rowEntries, nodeCount, modelNodes, modelCounts, settingShape, rowHit, rowRead, nodeList, leafHits, nodeGives, treeView}
+use Rattle.runs.specs.Model.{Setting, Model, noRow, rowHashes, rowVectors, rowEntries, nodeCount, modelNodes, modelCounts, settingShape, rowHit, rowRead, nodeList, leafHits, nodeGives, treeView}
 use Rattle.runs.specs.State.{Allowed, Within, limits, some-nodes}
 use Rattle.runs.specs.Held.{Held, owner-below, owners-length, length-vectors}
 use Rattle.runs.specs.Built.{StandsAt, Laid, NodeFacts}

@@ -22,6 +22,10 @@ pub record Node : Type 0 where
   pub entries : List ℕ
   pub filter : List ℕ
 
+-- a node with nothing in it, read where no node has a number
+abbrev pub noNode : Node
+noNode = record { centroid = []; children = []; ids = []; entries = []; filter = [] }
+
 -- 'By entry number': the numbers of the entries whose owner is among the ids, so they rise
 unfoldable pub entriesOf : Entries → List ℕ → List ℕ
 unfolding keep isIn countFrom
