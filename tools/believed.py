@@ -15,9 +15,9 @@ import sys
 ROOT = pathlib.Path(__file__).resolve().parent.parent
 
 # Where a reader starts: the contracts of functions (None: every public one of the crate's lib.rt), and the statements of theorems.
-ENTRY_POINTS = {"vector": ["scan"], "bloom": ["unite"], "curator": ["new", "add"], "build": ["build"], "search": ["search_filtered", "search"], "load": ["load_record"],
+ENTRY_POINTS = {"vector": ["scan"], "bloom": ["unite"], "curator": ["new", "add", "take_back"], "build": ["build"], "search": ["search_filtered", "search"], "load": ["load_record"],
                 "printer": None, "curator_c": None, "hit_records": None}
-THEOREMS = {"bloom": "pooling", "build": "build-pools", "runs": "demand3", "load": "prints", "trial_table": "table"}
+THEOREMS = {"bloom": ["pooling"], "build": ["build-pools"], "runs": ["demand3", "add-undone"], "load": ["prints"], "trial_table": ["table"]}
 
 SECTION = "## Files to be believed"
 # words of the two languages, names that need no `use` line, and levels of universes
@@ -288,7 +288,7 @@ class Tree:
                 if file.suffix == ".rt" and crate_of(file) == crate and (names or file.stem == "lib"):
                     functions.update(source.functions)
             yield from (functions.get(name) or sys.exit(f"crates/{crate} has no public function {name}") for name in names or functions)
-        for crate, name in THEOREMS.items():
+        for crate, name in [(crate, name) for crate, names in THEOREMS.items() for name in names]:
             found = [module.statements[name] for file, module in self.files.items()
                      if file.suffix == ".antt" and crate_of(file) == crate and name in module.statements]
             yield found[0] if found else sys.exit(f"crates/{crate} has no theorem {name}")

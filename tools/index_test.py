@@ -1,6 +1,6 @@
 #!/usr/bin/env python3
-"""Writes the expected output of the program index_test to standard output: a model of `new` and `add` written from
-document 01's table and 'The store', put to the calls that the program makes.
+"""Writes the expected output of the program index_test to standard output: a model of `new`, `add` and `take_back`
+written from document 01's table and 'The store' and from K3 of document 02, put to the calls that the program makes.
 
     python3 tools/index_test.py | diff - crates/index_test/stdout
 """
@@ -51,22 +51,28 @@ def allowed(dimension, params, capacities):
     return 0 if fine and 1 <= vectors <= 4096 and entries <= 16384 and 1 <= nodes <= 65537 else 2
 
 
-def refusal(state, sizes, vector, lengths, label_bytes):
-    """Add's rows in their order: 4, 3, 5, 7, 8, 9, 10, 11. The state is D 2, B 1, V 2, E 2, M 1 with these counts."""
+def early_rows(state, sizes):
+    """The rows 4, 3, 5 of add and take back. The state is D 2, B 1, V 2, E 2, M 1 with these counts."""
     vectors, entries, nodes, built = state
     unsound = vectors > 2 or entries > 2 or nodes > 1 or (built and (vectors == 0 or nodes == 0)) or (not built and nodes != 0)
     needed = (2 * (2 + 1 + 1), 2 * 2 + 2 * 2 + 7 * 1, 2 + 4 * 1)
-    rows = [
-        (4, unsound),
-        (3, any(size < need for size, need in zip(sizes, needed))),
-        (5, built),
+    return [(4, unsound), (3, any(size < need for size, need in zip(sizes, needed))), (5, built)]
+
+
+def first(rows):
+    return next((number for number, holds in rows if holds), 0)
+
+
+def refusal(state, sizes, vector, lengths, label_bytes):
+    """Add's rows in their order: 4, 3, 5, 7, 8, 9, 10, 11."""
+    vectors, entries, nodes, built = state
+    return first(early_rows(state, sizes) + [
         (7, len(vector) != 2),
         (8, not all(math.isfinite(x) for x in vector)),
         (9, sum(lengths) != len(label_bytes)),
         (10, vectors == 2),
         (11, entries + len(lengths) > 2),
-    ]
-    return next((number for number, holds in rows if holds), 0)
+    ])
 
 
 def print_new(dimension, params=USUAL, capacities=(1, 0, 1)):
@@ -92,6 +98,15 @@ def print_add(state, sizes, vector, lengths=b"", label_bytes=b""):
     print("".join(bits(x) + " " for x in floats))
     print("".join(f"{n} " for n in numbers))
     print("".join("%016x " % h for h in hashes))
+
+
+def print_take_back(state, sizes, owners):
+    """Take back's rows in their order: 4, 3, 5, 19. 'The entries taken back are those at the end whose owner is the last vector.'"""
+    vectors, entries, nodes, built = state
+    number = first(early_rows(state, sizes) + [(19, vectors == 0)])
+    while number == 0 and entries > 0 and owners[entries - 1] == vectors - 1:
+        entries -= 1
+    print(f"{number} " if number else f"0 {vectors - 1} {entries} ")
 
 
 def main():
@@ -123,6 +138,14 @@ def main():
                                         ((1, 2, 0, False), b"", b""), ((1, 1, 0, False), b"\2", b"ab"), ((1, 1, 0, False), b"\1\1", b"ab"),
                                         (fresh, b"\0\0\0", b"")]:
         print_add(state, full, vector, lengths, label_bytes)
+
+    sizes = (8, 15, 6)
+    for state, lent in [((3, 0, 0, False), (0, 0, 0)), ((0, 0, 1, False), full), ((1, 0, 1, True), (7, 15, 6)), ((1, 0, 0, False), (8, 14, 6)),
+                        (fresh, (8, 15, 5)), ((1, 0, 1, True), sizes), (fresh, sizes), ((0, 2, 0, False), sizes)]:
+        print_take_back(state, lent, (0, 0))
+    for vectors, entries, owners in [(1, 0, (0, 0)), (1, 2, (0, 0)), (2, 0, (1, 1)), (2, 1, (1, 1)), (2, 2, (1, 1)), (2, 2, (0, 1)), (2, 2, (1, 0)),
+                                     (2, 2, (0, 0)), (2, 2, (1, 2)), (2, 2, (2**32 - 1, 1))]:
+        print_take_back((vectors, entries, 0, False), sizes, owners)
 
 
 main()

@@ -1,5 +1,5 @@
 """Every refusal that an echo file can cause, at its boundary, and what is printed of each file. The expected text is reasoned from document 01 (its table
-of refusals, 'Order', and 'The echo file and its printer'); no program made it. 3, 4, 6, 7, 9 and 15 cannot come from a file."""
+of refusals, 'Order', and 'The echo file and its printer'); no program made it. 3, 4, 6, 7, 9, 15 and 19 cannot come from a file."""
 from echo_file import bits, filtered, settings, unfiltered, vector
 
 CASES = []

@@ -1,9 +1,13 @@
--- What a call is about: the facts of the state that its rows look at, what the store holds, and the labels of an add.
-use Prim.Native.Nat.{ℕ, _+_}
-use mathlib.Core.Bool.{true, false}
-use mathlib.Core.List.{List, map}
+-- What a call is about: the facts of the state that its rows look at, what the store holds, the labels of an add, and the entries of a taking back.
+use Prim.Native.Nat.{ℕ, suc, _+_, _-_}
+use mathlib.Core.Bool.{true, false, cond}
+use mathlib.Core.List.{List, [], _∷_, map}
+use mathlib.Core.Path.{_≡_}
+use lib.Dec.{eqb}
 use lib.Ieee.{Float}
+use lib.ListN.{length}
 use Rattle.lists.specs.Lists.{part, pieces}
+use Rattle.lists.specs.Tests.{allPass}
 use Rattle.label.specs.Fnv.{fnv}
 use Rattle.store.specs.Store.{Store, ownersAt}
 use Rattle.cluster.specs.Vectors.{vectorsIn}
@@ -39,6 +43,23 @@ heldEntries index store =
       hashes = part 0 (index .counts .entries) (store .hashes);
     }
 
+-- two stores that agree on what an index holds
+pub record SameOfIndex (index : CuratorIndex) (s t : Store) : Type 0 where
+  pub vectors : heldVectors index s ≡ heldVectors index t
+  pub documents : heldDocuments index s ≡ heldDocuments index t
+  pub entries : heldEntries index s ≡ heldEntries index t
+
+-- how many elements at the end of a list are a number: the longest suffix of which every element is
+unfoldable pub countAtEnd : ℕ → List ℕ → ℕ
+unfolding allPass
+countAtEnd x [] = 0
+countAtEnd x (y ∷ l) = cond (allPass (λ z. eqb z x) (y ∷ l)) (suc (length l)) (countAtEnd x l)
+
+-- 02, K3: 'The entries taken back are those at the end whose owner is the last vector.' How many they are, for any owners
+unfoldable pub lastEntries : CuratorIndex → Store → ℕ
+unfolding countAtEnd heldEntries
+lastEntries index store = countAtEnd (index .counts .vectors - 1) (heldEntries index store .owners)
+
 abbrev pub splittingOf : ℕ → CuratorParams → Splitting
 splittingOf dimension p = record { dimension = dimension; branching = p .«branching_factor»; leaf-size = p .«max_leaf_size» }
 
@@ -61,6 +82,17 @@ grown index labels =
       params = index .params;
       capacities = index .capacities;
       counts = record { vectors = index .counts .vectors + 1; entries = index .counts .entries + labels; nodes = index .counts .nodes };
+      built = index .built;
+    }
+
+-- the state after an accepted taking back of a vector with a number of entries
+abbrev pub shrunk : CuratorIndex → ℕ → CuratorIndex
+shrunk index entries =
+    record {
+      dimension = index .dimension;
+      params = index .params;
+      capacities = index .capacities;
+      counts = record { vectors = index .counts .vectors - 1; entries = index .counts .entries - entries; nodes = index .counts .nodes };
       built = index .built;
     }
 

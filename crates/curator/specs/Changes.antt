@@ -1,4 +1,4 @@
--- The result of `new`, `add` and `build` in full: the answer, the state, and every place of every lent list.
+-- The result of `new`, `add`, `take_back` and `build` in full: the answer, the state, and every place of every lent list.
 use Prim.Native.Nat.{ℕ, _+_, _*_}
 use mathlib.Core.Bool.{Bool, true, false, not}
 use mathlib.Core.List.{List, [], _∷_}
@@ -30,8 +30,8 @@ use Rattle.curator.specs.Outcome.{Succeeded, ChangeRefused}
 use Rattle.curator.specs.Limits.{stateSound, indexShape}
 use Rattle.store.specs.Lent.{lengthsOf}
 use Rattle.curator.specs.Arguments.{AddCall}
-use Rattle.curator.specs.Rows.{firstOf, stateRow, newRows, addRows, buildRows}
-use Rattle.curator.specs.Calls.{factsOf, hashesOfLabels, heldVectors, heldEntries, splittingOf, fresh, grown, builtWith}
+use Rattle.curator.specs.Rows.{firstOf, stateRow, newRows, addRows, takeBackRows, buildRows}
+use Rattle.curator.specs.Calls.{factsOf, hashesOfLabels, heldVectors, heldEntries, lastEntries, splittingOf, fresh, grown, shrunk, builtWith}
 
 -- ---- free parts
 
@@ -118,6 +118,24 @@ AddsBy (Check′.Refused r) index store call answer store′ = ChangeRefused r a
 unfoldable pub Adds : CuratorIndex → Store → AddCall → Changed → Store → Type 0
 unfolding AddsBy addCheck
 Adds index store call answer store′ = AddsBy (addCheck index store call) index store call answer store′
+
+-- ---- take back
+
+unfoldable pub takeBackCheck : CuratorIndex → Store → Check
+unfolding firstOf stateSound takeBackRows
+takeBackCheck index store = firstOf (stateRow (stateSound index) ∷ takeBackRows (factsOf index) (lengthsOf store))
+
+-- 02, K3: 'the last accepted add can be taken back': the state has one vector less, and its entries less
+unfoldable pub TakesBackBy : Check → CuratorIndex → Store → Changed → Type 0
+unfolding lastEntries
+TakesBackBy Check′.Fine index store answer = Succeeded (shrunk index (lastEntries index store)) answer
+TakesBackBy (Check′.Refused r) index store answer = ChangeRefused r answer
+
+-- The whole result of a taking back: state and store, and the answer. The store is lent to be read: 'places past the counts keep their numbers', and so
+-- do all others.
+unfoldable pub TakesBack : CuratorIndex → Store → Changed → Type 0
+unfolding TakesBackBy takeBackCheck
+TakesBack index store answer = TakesBackBy (takeBackCheck index store) index store answer
 
 -- ---- build
 

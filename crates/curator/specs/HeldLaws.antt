@@ -7,7 +7,7 @@ use native.Mathlib.Numerals.{add-one}
 use native.Mathlib.Omega.{arith}
 use lib.Ieee.{Float}
 use lib.ListN.{length, take, set, replicate, length-set, length-replicate}
-use lib.Seq.{sets, take-suc-set}
+use lib.Seq.{sets, length-sets, take-suc-set, take-set-le}
 use Rattle.vector.specs.Normalized.{normalized, normalized-is, normalized-holds}
 use Rattle.lists.specs.Counting.{countFrom-snoc}
 use Rattle.lists.specs.Lists.{part, countFrom}
@@ -20,7 +20,7 @@ use Rattle.settings.specs.declared.Check.{Check}
 use Rattle.settings.specs.declared.Check.the-variants.{Fine, Refused}
 use Rattle.curator.specs.declared.CuratorIndex.{CuratorIndex}
 use Rattle.curator.specs.AddLaws.{add-facts}
-use Rattle.curator.specs.Calls.{factsOf, hashesOfLabels, heldVectors, heldDocuments, heldEntries, grown}
+use Rattle.curator.specs.Calls.{factsOf, hashesOfLabels, heldVectors, heldDocuments, heldEntries, SameOfIndex, grown}
 use Rattle.store.specs.Lent.{lengthsOf}
 use Rattle.curator.specs.Changes.{addCheck, Wrote, AddsBy, Adds}
 use Rattle.curator.specs.Arguments.{AddCall}
@@ -43,6 +43,12 @@ map-below f g i (suc n) h = ap₂ _∷_ (h i (omega arith)) (map-below f g (suc 
 pub next-place : (k n d : ℕ) → k < n → k * d + d ≤ n * d
 next-place k n d h = let l : suc k * d ≤ n * d = mul-le-mul-right d h in omega (arith, suc-mul k d)
 
+-- the vectors before the one that is written
+vectors-kept : (d n : ℕ) (l v : List Float) → map (vectorAt d (sets l (n * d) v)) (countFrom 0 n) ≡ map (vectorAt d l) (countFrom 0 n)
+vectors-kept d n l v =
+    map-below (vectorAt d (sets l (n * d) v)) (vectorAt d l) 0 n
+    (λ k j. part-sets-before (k * d) d l (n * d) v (next-place k n d (let i : k < n = omega arith in i)))
+
 pub vectors-snoc : (d n : ℕ) (l v : List Float) → length v ≡ d → n * d + d ≤ length l
     → map (vectorAt d (sets l (n * d) v)) (countFrom 0 (n + 1)) ≡ map (vectorAt d l) (countFrom 0 n) ++ (v ∷ [])
 vectors-snoc d n l v e h =
@@ -53,10 +59,7 @@ vectors-snoc d n l v e h =
     ap (λ (k : ℕ). map after (countFrom 0 k)) (add-one n)
     ∙ ap (map after) (countFrom-snoc 0 n)
     ∙ map-append after (countFrom 0 n) ((0 + n) ∷ [])
-    ∙ ap₂ _++_
-    (map-below after (vectorAt d l) 0 n
-    (λ k j. part-sets-before (k * d) d l (n * d) v (next-place k n d (let i : k < n = omega arith in i))))
-    (ap (λ (x : List Float). x ∷ []) last)
+    ∙ ap₂ _++_ (vectors-kept d n l v) (ap (λ (x : List Float). x ∷ []) last)
 
 pub part-grows : {A : Type 0} (l : List A) (s m : ℕ) (xs : List A) → s + m + length xs ≤ length l
     → part s (m + length xs) (sets l (s + m) xs) ≡ part s m l ++ xs
@@ -134,6 +137,42 @@ module _ (index : CuratorIndex) (store : Store) (call : AddCall) (store′ : Sto
       }
   entries-grown = λ i. record { owners = owners-grown i; hashes = hashes-grown i }
 
+  -- what was held before stays
+  pub held-kept : SameOfIndex index store′ store
+  unfolding heldVectors heldDocuments heldEntries
+  held-kept =
+      let n = index .counts .vectors in
+      let e = index .counts .entries in
+      let start = ownersAt (indexShape index) in
+      let owners = replicate (length (call .lengths)) n in
+      let numbers = set (store .numbers) n (call .document) in
+      let owned : part start e (store′ .numbers) ≡ part start e (store .numbers) =
+      ap (part start e) (wrote .numbers) ∙ part-sets-before start e numbers (start + e) owners (let k : start + e ≤ start + e = omega arith in k)
+      ∙ part-set-before start e (store .numbers) n (call .document) (room .vectors) in
+      let hashed : part 0 e (store′ .hashes) ≡ part 0 e (store .hashes) =
+      ap (part 0 e) (wrote .hashes) ∙ part-sets-before 0 e (store .hashes) e (hashesOfLabels (call .lengths) (call .bytes)) (omega arith) in
+      record {
+        vectors =
+            ap (λ (l : List Float). map (vectorAt (index .dimension) l) (countFrom 0 n)) (wrote .floats)
+            ∙ vectors-kept (index .dimension) n (store .floats) (wrote .stored);
+        documents =
+            ap (part 0 n) (wrote .numbers) ∙ part-sets-before 0 n numbers (start + e) owners (omega (arith, room .vectors))
+            ∙ take-set-le n (store .numbers) n (call .document) (omega arith);
+        entries = λ i. record { owners = owned i; hashes = hashed i };
+      }
+
+-- the lists keep their lengths
+pub wrote-lengths : (index : CuratorIndex) (store : Store) (call : AddCall) (store′ : Store) → Wrote index store call store′ → lengthsOf store ≡ lengthsOf store′
+wrote-lengths index store call store′ wrote =
+    let n = index .counts .vectors in
+    let one = set (store .numbers) n (call .document) in
+    let at = ownersAt (indexShape index) + index .counts .entries in
+    let f = sym (ap length (wrote .floats) ∙ length-sets (store .floats) (n * index .dimension) (wrote .stored)) in
+    let o =
+    sym (ap length (wrote .numbers) ∙ length-sets one at (replicate (length (call .lengths)) n) ∙ length-set (store .numbers) n (call .document)) in
+    let h = sym (ap length (wrote .hashes) ∙ length-sets (store .hashes) (index .counts .entries) (hashesOfLabels (call .lengths) (call .bytes))) in
+    λ i. record { floats = f i; numbers = o i; hashes = h i }
+
 -- ---- the result of an add is a function of state, store and call
 
 -- the store that an accepted add leaves
@@ -202,12 +241,6 @@ adds-has index store call = by (addCheck index store call)
     by (Refused r) = (is-refused r (Changed′.Refused r) refl, refl)
 
 -- ---- 'Parts past the counts held are never read'
-
--- two stores that agree on what an index holds
-pub record SameOfIndex (index : CuratorIndex) (s t : Store) : Type 0 where
-  pub vectors : heldVectors index s ≡ heldVectors index t
-  pub documents : heldDocuments index s ≡ heldDocuments index t
-  pub entries : heldEntries index s ≡ heldEntries index t
 
 -- an add is refused, or not, by the lengths alone
 pub add-check-same : (index : CuratorIndex) (s t : Store) (call : AddCall) → lengthsOf s ≡ lengthsOf t → addCheck index s call ≡ addCheck index t call

@@ -17,7 +17,7 @@ use Rattle.curator.specs.declared.VectorCheck.{VectorCheck}
 use Rattle.curator.specs.declared.VectorCheck.the-variants as VectorCheck′
 use Rattle.curator.specs.declared.CuratorIndex.{CuratorIndex}
 use Rattle.curator.specs.Limits.{stateSound, indexShape}
-use Rattle.curator.specs.Rows.{firstOf, stateRow, addRows}
+use Rattle.curator.specs.Rows.{firstOf, stateRow, addRows, takeBackRows}
 use Rattle.curator.specs.Calls.{factsOf}
 use Rattle.curator.specs.Arguments.{AddCall}
 
@@ -35,6 +35,10 @@ withSquares (Check′.Refused r) squares = VectorCheck′.Refused r
 abbrev pub addChecked : CuratorIndex → Lengths → AddCall → VectorCheck
 addChecked index lent call =
     withSquares (firstOf (stateRow (stateSound index) ∷ addRows (factsOf index) lent call)) (dot (call .vector) (call .vector))
+
+-- what the rows of a taking back come to, by the lengths of the lists
+abbrev pub takeBackChecked : CuratorIndex → Lengths → Check
+takeBackChecked index lent = firstOf (stateRow (stateSound index) ∷ takeBackRows (factsOf index) lent)
 
 -- What the writing of an add relies on, as plain facts. They hold where no row's case does (`add-facts` of AddLaws).
 pub record AddRoom (index : CuratorIndex) (store : Store) (call : AddCall) : Type 0 where

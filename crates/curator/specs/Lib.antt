@@ -8,6 +8,7 @@ pub mod Calls
 pub mod Changes
 pub mod Searches
 pub mod Lent
+pub mod Trials
 pub mod LabelLaws
 pub mod RowLaws
 pub mod BuildRowLaws
@@ -15,6 +16,6 @@ pub mod SearchRowLaws
 pub mod StateLaws
 pub mod AddLaws
 pub mod HeldLaws
+pub mod TakeBackLaws
 pub mod SearchHeldLaws
 pub mod BeamLaws
-pub mod Trials

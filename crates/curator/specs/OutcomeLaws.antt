@@ -13,7 +13,7 @@ use Rattle.curator.specs.declared.Found.the-variants as Found′
 use Rattle.settings.specs.declared.refusal.Refusal.{Refusal}
 use Rattle.settings.specs.declared.refusal.Refusal.the-variants.{Settings, State, Input, Store}
 use Rattle.settings.specs.declared.refusal.SettingsRefusal.the-variants.{InvalidDimension, InvalidConfig}
-use Rattle.settings.specs.declared.refusal.StateRefusal.the-variants.{InvalidState, AlreadyBuilt, NotBuilt, EmptyIndex}
+use Rattle.settings.specs.declared.refusal.StateRefusal.the-variants.{InvalidState, AlreadyBuilt, NotBuilt, EmptyIndex, NoVectorHeld}
 use Rattle.settings.specs.declared.refusal.InputRefusal.the-variants.{DimensionMismatch, NonFiniteInput, LabelLengths, AnswerTooShort, BadRecord, SettingsOrder, FileTooLong}
 use Rattle.settings.specs.declared.refusal.StoreRefusal.the-variants.{ListTooShort, VectorsFull, EntriesFull, NodesFull, Damaged}
 use Rattle.curator.specs.Outcome.{changedNumber, changedValues, foundNumber, foundValues, Succeeded, ChangeRefused, SearchFound, SearchRefused}
@@ -26,7 +26,8 @@ refusals : List Refusal
 refusals =
     Settings InvalidDimension ∷ Settings InvalidDimension ∷ Settings InvalidConfig ∷ Store ListTooShort ∷ State InvalidState ∷ State AlreadyBuilt
     ∷ State NotBuilt ∷ Input DimensionMismatch ∷ Input NonFiniteInput ∷ Input LabelLengths ∷ Store VectorsFull ∷ Store EntriesFull
-    ∷ State EmptyIndex ∷ Store NodesFull ∷ Input AnswerTooShort ∷ Store Damaged ∷ Input BadRecord ∷ Input SettingsOrder ∷ Input FileTooLong ∷ []
+    ∷ State EmptyIndex ∷ Store NodesFull ∷ Input AnswerTooShort ∷ Store Damaged ∷ Input BadRecord ∷ Input SettingsOrder ∷ Input FileTooLong
+    ∷ State NoVectorHeld ∷ []
 
 refusalOf : ℕ → Refusal
 refusalOf n = getD refusals n (Settings InvalidDimension)
@@ -39,6 +40,7 @@ refusal-of (State InvalidState) = refl
 refusal-of (State AlreadyBuilt) = refl
 refusal-of (State NotBuilt) = refl
 refusal-of (State EmptyIndex) = refl
+refusal-of (State NoVectorHeld) = refl
 refusal-of (Input DimensionMismatch) = refl
 refusal-of (Input NonFiniteInput) = refl
 refusal-of (Input LabelLengths) = refl

@@ -24,7 +24,7 @@ use Rattle.settings.specs.declared.CuratorParams.{CuratorParams}
 use Rattle.settings.specs.declared.refusal.Refusal.{Refusal}
 use Rattle.settings.specs.declared.refusal.Refusal.the-variants.{Settings, State, Input, Store as StoreR}
 use Rattle.settings.specs.declared.refusal.SettingsRefusal.the-variants.{InvalidDimension, InvalidConfig}
-use Rattle.settings.specs.declared.refusal.StateRefusal.the-variants.{InvalidState, AlreadyBuilt, NotBuilt, EmptyIndex}
+use Rattle.settings.specs.declared.refusal.StateRefusal.the-variants.{InvalidState, AlreadyBuilt, NotBuilt, EmptyIndex, NoVectorHeld}
 use Rattle.settings.specs.declared.refusal.InputRefusal.the-variants.{DimensionMismatch, NonFiniteInput, LabelLengths, AnswerTooShort, BadRecord, SettingsOrder, FileTooLong}
 use Rattle.settings.specs.declared.refusal.StoreRefusal.the-variants.{ListTooShort, VectorsFull, EntriesFull, NodesFull, Damaged}
 use Rattle.curator.specs.Outcome.{changedNumber}
@@ -170,6 +170,7 @@ number-positive (State InvalidState) = omega arith
 number-positive (State AlreadyBuilt) = omega arith
 number-positive (State NotBuilt) = omega arith
 number-positive (State EmptyIndex) = omega arith
+number-positive (State NoVectorHeld) = omega arith
 number-positive (Input DimensionMismatch) = omega arith
 number-positive (Input NonFiniteInput) = omega arith
 number-positive (Input LabelLengths) = omega arith

@@ -18,7 +18,7 @@ use Rattle.settings.specs.declared.Capacities.{Capacities}
 use Rattle.settings.specs.declared.refusal.Refusal.{Refusal}
 use Rattle.settings.specs.declared.refusal.Refusal.the-variants.{Settings, State, Input, Store}
 use Rattle.settings.specs.declared.refusal.SettingsRefusal.the-variants.{InvalidDimension, InvalidConfig}
-use Rattle.settings.specs.declared.refusal.StateRefusal.the-variants.{InvalidState, AlreadyBuilt, NotBuilt, EmptyIndex}
+use Rattle.settings.specs.declared.refusal.StateRefusal.the-variants.{InvalidState, AlreadyBuilt, NotBuilt, EmptyIndex, NoVectorHeld}
 use Rattle.settings.specs.declared.refusal.InputRefusal.the-variants.{DimensionMismatch, NonFiniteInput, LabelLengths, AnswerTooShort}
 use Rattle.settings.specs.declared.refusal.StoreRefusal.the-variants.{ListTooShort, VectorsFull, EntriesFull, NodesFull, Damaged}
 use Rattle.settings.specs.Limits.{dimensionAllowed, paramsAllowed, capacitiesAllowed}
@@ -67,6 +67,12 @@ addRows f lent call =
     ∷ row (eqb (f .vectors) (f .shape .vectors)) (Store VectorsFull)
     ∷ row (ltb (f .shape .entries) (f .entries + length (call .lengths))) (Store EntriesFull)
     ∷ []
+
+-- 02, K3: 'Taking back is lent what add is, checks 4, 3, 5, and then returns 19 when no vector is held', after row 4
+unfoldable pub takeBackRows : Facts → Lengths → List Row
+unfolding storeShort
+takeBackRows f lent =
+    row (storeShort (f .shape) lent) (Store ListTooShort) ∷ row (f .built) (State AlreadyBuilt) ∷ row (eqb (f .vectors) 0) (State NoVectorHeld) ∷ []
 
 -- 'Build 4, 3; a built index then succeeds unchanged; then 12, 15, 13', after row 4. Whether an owner is not below n (15) and whether the defined
 -- tree has more than M nodes (13) are handed in.

@@ -1,9 +1,10 @@
--- The definitions on small values: `new` at the limits, the labels of an add, and an add whose squares overflow.
+-- The definitions on small values: `new` at the limits, the labels of an add, an add whose squares overflow, and a taking back.
 use Prim.Native.Nat.{ℕ}
-use mathlib.Core.List.{[], _∷_, map}
+use mathlib.Core.List.{List, [], _∷_, _++_, map}
 use mathlib.Core.Path.{_≡_, refl, ap, _∙_}
 use Rattle.lists.specs.Lists.{pieces}
 use lib.Ieee.{binary32, ofBits, toBits}
+use lib.Dec.{eqb}
 use lib.ListN.{replicate}
 use lib.Seq.{sets}
 use Rattle.vector.specs.Vector.{zero32}
@@ -13,9 +14,10 @@ use Rattle.settings.specs.declared.Check.the-variants.{Fine}
 use Rattle.curator.specs.declared.CuratorIndex.{CuratorIndex}
 use Rattle.curator.specs.declared.Changed.{Changed}
 use Rattle.curator.specs.Arguments.{AddCall}
-use Rattle.curator.specs.Calls.{fresh}
-use Rattle.curator.specs.Changes.{created, addCheck, AddsBy, Adds}
+use Rattle.curator.specs.Calls.{countAtEnd, lastEntries, fresh}
+use Rattle.curator.specs.Changes.{created, addCheck, AddsBy, Adds, takeBackCheck}
 use Rattle.settings.specs.Limits.{usual}
+use Rattle.settings.specs.Refusals.{checkNumber}
 use Rattle.curator.specs.Outcome.{changedNumber}
 use Rattle.curator.specs.OutcomeLaws.{refused-is}
 
@@ -67,3 +69,43 @@ trial-infinite : (answer : Changed) (store′ : Store) → Adds trialIndex trial
     → (changedNumber answer ≡ 8) × (store′ ≡ trialStore)
 unfolding Adds AddsBy addCheck trialIndex trialStore trialAdd
 trial-infinite answer store′ (refused, same) = (ap changedNumber (refused-is _ _ refused), same)
+
+-- ---- taking back
+
+-- of the owners 1, 0, 1, 1 the last two are at the end, though three are 1; at the end of these none is 0; of one owner alone all are
+trial-at-end :
+    (countAtEnd 1 (1 ∷ 0 ∷ 1 ∷ 1 ∷ []) ≡ 2) × (countAtEnd 0 (1 ∷ 0 ∷ 1 ∷ 1 ∷ []) ≡ 0) × (countAtEnd 1 (1 ∷ 1 ∷ []) ≡ 2) × (countAtEnd 1 [] ≡ 0)
+unfolding countAtEnd
+trial-at-end = (refl, refl, refl, refl)
+
+-- an index of one component with room for three vectors and four entries, so many of them held; it is built where it has a node
+heldIndex : ℕ → ℕ → ℕ → CuratorIndex
+heldIndex vectors entries nodes =
+    record {
+      dimension = 1;
+      params = record { «branching_factor» = 1; «max_leaf_size» = 1; «ef_search» = 1; «beam_width» = 1 };
+      capacities = record { vectors = 3; entries = 4; nodes = 1 };
+      counts = record { vectors = vectors; entries = entries; nodes = nodes };
+      built = eqb nodes 1;
+    }
+
+-- its store, with these owners after three document ids
+heldStore : List ℕ → Store
+unfolding zero32
+heldStore owners = record { floats = replicate 5 zero32; numbers = 7 ∷ 8 ∷ 9 ∷ (owners ++ replicate 14 0); hashes = replicate 8 0 }
+
+-- two vectors held: the owner is 1, not 2, and of the fourth entry, which is not held, nothing is asked
+trial-last-entries :
+    (lastEntries (heldIndex 2 4 0) (heldStore (1 ∷ 0 ∷ 1 ∷ 1 ∷ [])) ≡ 2) × (lastEntries (heldIndex 2 3 0) (heldStore (1 ∷ 0 ∷ 1 ∷ 0 ∷ [])) ≡ 1)
+    × (lastEntries (heldIndex 2 4 0) (heldStore (0 ∷ 1 ∷ 1 ∷ 2 ∷ [])) ≡ 0)
+unfolding lastEntries heldIndex heldStore
+trial-last-entries = (refl, refl, refl)
+
+-- 4, 3, 5, 19: more vectors held than there is room for; a short list, though nothing is held; a built index; nothing held; a vector held
+trial-take-back-check :
+    (checkNumber (takeBackCheck (heldIndex 4 0 0) (heldStore [])) ≡ 4) × (checkNumber (takeBackCheck (heldIndex 0 0 0) (heldStore [])) ≡ 3)
+    × (checkNumber (takeBackCheck (heldIndex 1 0 1) (heldStore (0 ∷ 0 ∷ 0 ∷ 0 ∷ []))) ≡ 5)
+    × (checkNumber (takeBackCheck (heldIndex 0 0 0) (heldStore (0 ∷ 0 ∷ 0 ∷ 0 ∷ []))) ≡ 19)
+    × (checkNumber (takeBackCheck (heldIndex 1 0 0) (heldStore (0 ∷ 0 ∷ 0 ∷ 0 ∷ []))) ≡ 0)
+unfolding takeBackCheck heldIndex heldStore
+trial-take-back-check = (refl, refl, refl, refl, refl)

@@ -1,12 +1,14 @@
 // The index: settings, state, refusals and the entry points.
-ghost use Rattle.curator.specs.Changes.{Creates, Adds};
+ghost use Rattle.curator.specs.Changes.{Creates, Adds, TakesBack};
 ghost use Rattle.curator.specs.Lent.{adding};
 ghost use Rattle.store.specs.Lent.{lent};
 
 mod add;
 pub mod limits;
+mod take_back;
 
 use settings::Capacities;
+use settings::Check;
 use settings::CuratorParams;
 use settings::refusal::Refusal;
 use settings::refusal::SettingsRefusal;
@@ -22,7 +24,7 @@ pub struct CuratorIndex {
     pub built: bool,
 }
 
-// What `new`, `add` and `build` answer: the index from now on, or why not.
+// What `new`, `add`, `take_back` and `build` answer: the index from now on, or why not.
 pub enum Changed {
     Index(CuratorIndex),
     Refused(Refusal),
@@ -107,6 +109,27 @@ impl CuratorIndex {
                     bytes,
                 );
                 Changed::Index(add::grown(self, lengths.len()))
+            }
+        }
+    }
+
+    // Takes back the last vector that is held, with its entries. The lists are read only: the counts go down.
+    pub fn take_back(self, floats: &[f32], numbers: &[u32], hashes: &[u64]) -> Changed
+        ensures { λ r. ⌜ TakesBack self (lent (floats .entry) (numbers .entry) (hashes .entry)) r ⌝ }
+    {
+        let lent = Lengths {
+            floats: floats.len(),
+            numbers: numbers.len(),
+            hashes: hashes.len(),
+        };
+        let check = take_back::take_back_check(self, lent);
+        match check {
+            Check::Refused(refusal) => Changed::Refused(refusal),
+            Check::Fine => {
+                let held = self.counts;
+                let owners = limits::shape_of(self).owners_at();
+                let entries = take_back::last_entries(numbers, owners, held.entries, held.vectors);
+                Changed::Index(take_back::shrunk(self, entries))
             }
         }
     }

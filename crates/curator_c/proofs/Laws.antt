@@ -15,13 +15,13 @@ use Rattle.curator.specs.declared.Found.the-variants as Found′
 use Rattle.settings.specs.declared.refusal.Refusal.{Refusal}
 use Rattle.curator.specs.Outcome.{foundNumber, foundValues}
 use Rattle.settings.specs.Refusals.{number}
-use Rattle.curator.specs.Changes.{Adds, Builds}
+use Rattle.curator.specs.Changes.{Adds, TakesBack, Builds}
 use Rattle.curator.specs.Arguments.{AddCall, SearchCall}
 use Rattle.curator.specs.Searches.{SearchEnd, Searches}
 use Rattle.curator_c.specs.declared.state.StateRead.{StateRead}
 use Rattle.curator_c.specs.declared.state.StateRead.the-variants.{State, Nothing}
 use Rattle.curator_c.specs.State.{places, stateList, stateIn}
-use Rattle.curator_c.specs.Results.{invalid, storable, Returns, AddsIn, AddResult, BuildsIn, BuildResult, hitsAsked, withHits, asking, ended, SearchesIn, SearchResult}
+use Rattle.curator_c.specs.Results.{invalid, storable, Returns, ChangeResult, AddsIn, AddResult, TakesBackIn, TakeBackResult, BuildsIn, BuildResult, hitsAsked, withHits, asking, ended, SearchesIn, SearchResult}
 use Rattle.curator_c.specs.ResultLaws.{storable-held}
 use Rattle.curator.specs.OutcomeLaws.{is-refused, is-search-refused}
 
@@ -46,49 +46,58 @@ returns-kept list answer index list′ e h s =
     let kept : storable list answer ≡ Changed′.Index index = rw (e, le-ltb (length list) places h) refl in
     subst (λ (a : Changed). Returns a list 0 list′) (sym kept) (record { number = refl; list = s })
 
--- ---- add
+-- ---- a call that changes the index
+
+-- no state in the list: row 4
+nothing-changed : (By : StateRead → Changed → Type 0) (list : List ℕ) → stateIn list ≡ Nothing → By Nothing (Changed′.Refused invalid) → ChangeResult By list 4 list
+nothing-changed By list e by =
+    record {
+      answer = Changed′.Refused invalid;
+      result = subst (λ (held : StateRead). By held (Changed′.Refused invalid)) (sym e) by;
+      returns = record { number = refl; list = refl };
+    }
+
+held-changed : (By : StateRead → Changed → Type 0) (list : List ℕ) (index : CuratorIndex) (answer : Changed) (n : ℕ) (list′ : List ℕ)
+    → stateIn list ≡ State index → By (State index) answer → Returns (storable list answer) list n list′ → ChangeResult By list n list′
+held-changed By list index answer n list′ e by returns =
+    record {
+      answer = answer;
+      result = subst (λ (held : StateRead). By held answer) (sym e) by;
+      returns = subst (λ (a : Changed). Returns a list n list′) (storable-held list index answer e) returns;
+    }
 
 pub add-nothing : (list : List ℕ) (store : Store) (call : AddCall) → stateIn list ≡ Nothing → AddResult list store call 4 list store
 unfolding AddsIn
-add-nothing list store call e =
-    record {
-      answer = Changed′.Refused invalid;
-      adds = subst (λ (held : StateRead). AddsIn held store call (Changed′.Refused invalid) store) (sym e) (is-refused invalid _ refl, refl);
-      returns = record { number = refl; list = refl };
-    }
+add-nothing list store call e = nothing-changed (λ held answer. AddsIn held store call answer store) list e (is-refused invalid _ refl, refl)
 
 pub add-held : (list : List ℕ) (index : CuratorIndex) (store : Store) (call : AddCall) (answer : Changed) (n : ℕ) (list′ : List ℕ) (store′ : Store)
     → stateIn list ≡ State index → Adds index store call answer store′ → Returns (storable list answer) list n list′
     → AddResult list store call n list′ store′
 unfolding AddsIn
 add-held list index store call answer n list′ store′ e adds returns =
-    record {
-      answer = answer;
-      adds = subst (λ (held : StateRead). AddsIn held store call answer store′) (sym e) adds;
-      returns = subst (λ (a : Changed). Returns a list n list′) (storable-held list index answer e) returns;
-    }
+    held-changed (λ held a. AddsIn held store call a store′) list index answer n list′ e adds returns
 
--- ---- build
+pub take-back-nothing : (list : List ℕ) (store : Store) → stateIn list ≡ Nothing → TakeBackResult list store 4 list
+unfolding TakesBackIn
+take-back-nothing list store e = nothing-changed (λ held answer. TakesBackIn held store answer) list e (is-refused invalid _ refl)
+
+pub take-back-held : (list : List ℕ) (index : CuratorIndex) (store : Store) (answer : Changed) (n : ℕ) (list′ : List ℕ) → stateIn list ≡ State index
+    → TakesBack index store answer → Returns (storable list answer) list n list′ → TakeBackResult list store n list′
+unfolding TakesBackIn
+take-back-held list index store answer n list′ e takes returns =
+    held-changed (λ held a. TakesBackIn held store a) list index answer n list′ e takes returns
 
 pub build-nothing : (list : List ℕ) (store : Store) (work : List ℕ) → stateIn list ≡ Nothing → BuildResult list store work 4 list store work
 unfolding BuildsIn
 build-nothing list store work e =
-    record {
-      answer = Changed′.Refused invalid;
-      builds = subst (λ (held : StateRead). BuildsIn held store work (Changed′.Refused invalid) store work) (sym e) (is-refused invalid _ refl, refl, refl);
-      returns = record { number = refl; list = refl };
-    }
+    nothing-changed (λ held answer. BuildsIn held store work answer store work) list e (is-refused invalid _ refl, refl, refl)
 
 pub build-held : (list : List ℕ) (index : CuratorIndex) (store : Store) (work : List ℕ) (answer : Changed) (n : ℕ) (list′ : List ℕ) (store′ : Store) (work′ : List ℕ)
     → stateIn list ≡ State index → Builds index store work answer store′ work′ → Returns (storable list answer) list n list′
     → BuildResult list store work n list′ store′ work′
 unfolding BuildsIn
 build-held list index store work answer n list′ store′ work′ e builds returns =
-    record {
-      answer = answer;
-      builds = subst (λ (held : StateRead). BuildsIn held store work answer store′ work′) (sym e) builds;
-      returns = subst (λ (a : Changed). Returns a list n list′) (storable-held list index answer e) returns;
-    }
+    held-changed (λ held a. BuildsIn held store work a store′ work′) list index answer n list′ e builds returns
 
 -- ---- the searches
 

@@ -15,18 +15,18 @@ use Rattle.curator.specs.declared.CuratorIndex.{CuratorIndex}
 use Rattle.curator.specs.declared.Found.{Found}
 use Rattle.curator.specs.Limits.{stateSound}
 use Rattle.curator.specs.Outcome.{foundNumber, foundValues, ChangeRefused}
-use Rattle.curator.specs.Rows.{stateRow, addRows, buildRows, searchRows}
+use Rattle.curator.specs.Rows.{stateRow, addRows, takeBackRows, buildRows, searchRows}
 use Rattle.curator.specs.RowLaws.{row-stops}
 use Rattle.curator.specs.Calls.{factsOf}
 use Rattle.store.specs.Lent.{lengthsOf}
-use Rattle.curator.specs.Changes.{AddsBy, addCheck, Adds, ownersDamaged, tooManyNodes, BuildsBy, buildCheck, Builds, freeOf}
+use Rattle.curator.specs.Changes.{AddsBy, addCheck, Adds, takeBackCheck, TakesBackBy, TakesBack, ownersDamaged, tooManyNodes, BuildsBy, buildCheck, Builds, freeOf}
 use Rattle.lists.specs.Frame.{Freed}
 use Rattle.curator.specs.Arguments.{AddCall, SearchCall, askingOf}
 use Rattle.curator.specs.Searches.{Untouched, SearchesBy, searchCheck, Searches}
 use Rattle.curator_c.specs.declared.state.StateRead.{StateRead}
 use Rattle.curator_c.specs.declared.state.StateRead.the-variants.{State, Nothing}
 use Rattle.curator_c.specs.State.{stateIn}
-use Rattle.curator_c.specs.Results.{invalid, Returns, AddsIn, AddResult, BuildsIn, BuildResult, asking, ended, SearchesIn, SearchResult}
+use Rattle.curator_c.specs.Results.{invalid, Returns, AddsIn, AddResult, TakesBackIn, TakeBackResult, BuildsIn, BuildResult, asking, ended, SearchesIn, SearchResult}
 use Rattle.curator.specs.OutcomeLaws.{search-refused-is, refused-is}
 
 -- whether a list holds a sound state
@@ -40,6 +40,10 @@ add-first : (index : CuratorIndex) (store : Store) (call : AddCall) → stateSou
 unfolding addCheck
 add-first index store call u =
     row-stops (stateRow (stateSound index)) (addRows (factsOf index) (lengthsOf store) call) (ap not u)
+
+take-back-first : (index : CuratorIndex) (store : Store) → stateSound index ≡ false → takeBackCheck index store ≡ Check′.Refused invalid
+unfolding takeBackCheck
+take-back-first index store u = row-stops (stateRow (stateSound index)) (takeBackRows (factsOf index) (lengthsOf store)) (ap not u)
 
 build-first : (index : CuratorIndex) (store : Store) (work : List ℕ) → stateSound index ≡ false → buildCheck index store work ≡ Check′.Refused invalid
 unfolding buildCheck
@@ -66,7 +70,7 @@ pub add-invalid : (state : List ℕ) (store : Store) (call : AddCall) (n : ℕ) 
     → soundIn (stateIn state) ≡ false → AddResult state store call n state′ store′ → (n ≡ 4) × (state′ ≡ state) × (store′ ≡ store)
 unfolding soundIn AddsIn Adds AddsBy
 add-invalid state store call n state′ store′ u result =
-    let (refused, kept) = by (stateIn state) u (result .adds) in
+    let (refused, kept) = by (stateIn state) u (result .result) in
     let (number, list) = refused-invalid (result .answer) state n state′ (refused-is invalid (result .answer) refused) (result .returns) in
     (number, list, kept)
   where
@@ -75,6 +79,16 @@ add-invalid state store call n state′ store′ u result =
     by Nothing e adds = adds
     by (State index) e adds =
         subst (λ (check : Check). AddsBy check index store call (result .answer) store′) (add-first index store call e) adds
+
+pub take-back-invalid : (state : List ℕ) (store : Store) (n : ℕ) (state′ : List ℕ) → soundIn (stateIn state) ≡ false → TakeBackResult state store n state′
+    → (n ≡ 4) × (state′ ≡ state)
+unfolding soundIn TakesBackIn TakesBack TakesBackBy
+take-back-invalid state store n state′ u result =
+    refused-invalid (result .answer) state n state′ (refused-is invalid (result .answer) (by (stateIn state) u (result .result))) (result .returns)
+  where
+    by : (held : StateRead) → soundIn held ≡ false → TakesBackIn held store (result .answer) → ChangeRefused invalid (result .answer)
+    by Nothing e takes = takes
+    by (State index) e takes = subst (λ (check : Check). TakesBackBy check index store (result .answer)) (take-back-first index store e) takes
 
 same-store : (s t : Store) → s .floats ≡ t .floats → s .numbers ≡ t .numbers → s .hashes ≡ t .hashes → s ≡ t
 same-store s t f n h =
@@ -87,7 +101,7 @@ pub build-invalid : (state : List ℕ) (store : Store) (work : List ℕ) (n : �
     → (n ≡ 4) × (state′ ≡ state) × (store′ ≡ store) × (work′ ≡ work)
 unfolding soundIn BuildsIn Builds BuildsBy Freed freeOf
 build-invalid state store work n state′ store′ work′ u result =
-    let (refused, kept, free) = by (stateIn state) u (result .builds) in
+    let (refused, kept, free) = by (stateIn state) u (result .result) in
     let (number, list) = refused-invalid (result .answer) state n state′ (refused-is invalid (result .answer) refused) (result .returns) in
     (number, list, kept, free)
   where

@@ -21,7 +21,7 @@ use Rattle.settings.specs.declared.refusal.StateRefusal.the-variants.{InvalidSt
 use Rattle.settings.specs.declared.refusal.StoreRefusal.the-variants.{ListTooShort}
 use Rattle.settings.specs.Refusals.{number}
 use Rattle.curator.specs.Outcome.{changedNumber, foundNumber, foundValues, ChangeRefused}
-use Rattle.curator.specs.Changes.{Creates, Adds, Builds}
+use Rattle.curator.specs.Changes.{Creates, Adds, TakesBack, Builds}
 use Rattle.curator.specs.Arguments.{AddCall, SearchCall}
 use Rattle.curator.specs.Searches.{SearchEnd, Untouched, Searches}
 use Rattle.curator_c.specs.declared.state.StateRead.{StateRead}
@@ -32,7 +32,7 @@ use Rattle.curator_c.specs.State.{places, stateList, stateIn}
 abbrev pub invalid : Refusal
 invalid = Refusal′.State InvalidState
 
--- ---- new, add and build
+-- ---- new, add, take back and build
 
 -- the state list after an answer: the new state in its first places; a refused call leaves it
 abbrev pub stored : List ℕ → Changed → List ℕ
@@ -55,6 +55,12 @@ pub record NewResult (dimension : ℕ) (params : CuratorParams) (capacities : Ca
   pub creates : Creates dimension params capacities answer
   pub returns : Returns (storable state answer) state returned state′
 
+-- The whole result of a call that changes the index: `By` says, by the state that the list holds, what is answered and what the lists of the store hold then.
+pub record ChangeResult (By : StateRead → Changed → Type 0) (state : List ℕ) (returned : ℕ) (state′ : List ℕ) : Type 0 where
+  pub answer : Changed
+  pub result : By (stateIn state) answer
+  pub returns : Returns answer state returned state′
+
 -- an add to the state that a list holds
 unfoldable pub AddsIn : StateRead → Store → AddCall → Changed → Store → Type 0
 unfolding Adds
@@ -62,10 +68,18 @@ AddsIn Nothing store call answer store′ = ChangeRefused invalid answer × (sto
 AddsIn (State index) store call answer store′ = Adds index store call answer store′
 
 -- the whole result of `curator_add`: state list, store and call at entry; what is returned, state list and store at exit
-pub record AddResult (state : List ℕ) (store : Store) (call : AddCall) (returned : ℕ) (state′ : List ℕ) (store′ : Store) : Type 0 where
-  pub answer : Changed
-  pub adds : AddsIn (stateIn state) store call answer store′
-  pub returns : Returns answer state returned state′
+abbrev pub AddResult : List ℕ → Store → AddCall → ℕ → List ℕ → Store → Type 0
+AddResult state store call returned state′ store′ = ChangeResult (λ held answer. AddsIn held store call answer store′) state returned state′
+
+-- a taking back from the state that a list holds
+unfoldable pub TakesBackIn : StateRead → Store → Changed → Type 0
+unfolding TakesBack
+TakesBackIn Nothing store answer = ChangeRefused invalid answer
+TakesBackIn (State index) store answer = TakesBack index store answer
+
+-- the whole result of `curator_take_back`, which is lent the store to be read
+abbrev pub TakeBackResult : List ℕ → Store → ℕ → List ℕ → Type 0
+TakeBackResult state store returned state′ = ChangeResult (λ held answer. TakesBackIn held store answer) state returned state′
 
 -- a build of the state that a list holds
 unfoldable pub BuildsIn : StateRead → Store → List ℕ → Changed → Store → List ℕ → Type 0
@@ -74,10 +88,8 @@ BuildsIn Nothing store work answer store′ work′ = ChangeRefused invalid answ
 BuildsIn (State index) store work answer store′ work′ = Builds index store work answer store′ work′
 
 -- the whole result of `curator_build`
-pub record BuildResult (state : List ℕ) (store : Store) (lent : List ℕ) (returned : ℕ) (state′ : List ℕ) (store′ : Store) (lent′ : List ℕ) : Type 0 where
-  pub answer : Changed
-  pub builds : BuildsIn (stateIn state) store lent answer store′ lent′
-  pub returns : Returns answer state returned state′
+abbrev pub BuildResult : List ℕ → Store → List ℕ → ℕ → List ℕ → Store → List ℕ → Type 0
+BuildResult state store lent returned state′ store′ lent′ = ChangeResult (λ held answer. BuildsIn held store lent answer store′ lent′) state returned state′
 
 -- ---- the searches
 

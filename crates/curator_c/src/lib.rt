@@ -10,7 +10,7 @@ ghost use Rattle.curator.specs.Outcome.{foundNumber, foundValues};
 ghost use Rattle.search.specs.Lent.{filtered, unfiltered};
 ghost use Rattle.settings.specs.Given.{paramsOf, capacitiesOf};
 ghost use Rattle.curator_c.specs.Results.{storable, Returns, hitsAsked};
-ghost use Rattle.curator_c.specs.Results.{NewResult, AddResult, BuildResult, SearchResult, PoolResult};
+ghost use Rattle.curator_c.specs.Results.{NewResult, AddResult, TakeBackResult, BuildResult, SearchResult, PoolResult};
 
 pub mod state;
 
@@ -99,6 +99,24 @@ pub extern "C" fn curator_add(
             index.add(floats, numbers, hashes, doc_id, vector, lengths, bytes),
             state,
         ),
+    }
+}
+
+// Takes back the last vector that is held, with its entries. The store is read only.
+#[no_mangle]
+pub extern "C" fn curator_take_back(
+    state: &mut [usize],
+    floats: &[f32],
+    numbers: &[u32],
+    hashes: &[u64],
+) -> u32
+    ensures { λ r. ⌜ TakeBackResult (now (state .entry)) (lent (floats .entry) (numbers .entry) (hashes .entry))
+        r
+        (now (state .exit)) ⌝ }
+{
+    match state::state_in(state) {
+        StateRead::Nothing => INVALID_STATE,
+        StateRead::State(index) => keep(index.take_back(floats, numbers, hashes), state),
     }
 }
 

@@ -1,6 +1,6 @@
-// Every refusal of `new` and `add` at its boundary, and what the lists hold after each add. The lists are longer than their sizes and marked
-// beforehand, so that a surplus place that is written shows. A line has the number that is returned, 0 where the call is accepted; after an
-// add follow the counts of vectors and entries and the three lists.
+// Every refusal of `new`, `add` and `take_back` at its boundary, and what the lists hold after each add. The lists are longer than their sizes and
+// marked beforehand, so that a surplus place that is written shows. A line has the number that is returned, 0 where the call is accepted, and then the
+// counts of vectors and entries; after an add follow the three lists.
 ghost use Prim.Native.Nat.{_≤_};
 use curator::Changed;
 use curator::CuratorIndex;
@@ -248,6 +248,42 @@ fn room(vector: &[f32]) {
     );
 }
 
+// A taking back from lists of the lengths given, whose two entries have these owners.
+fn try_take_back(index: CuratorIndex, f: usize, n: usize, h: usize, owner: u32, next: u32)
+    requires { ⌜ (f ≤ 10) × (n ≤ 17) × (h ≤ 8) ⌝ }
+{
+    let floats = [9.0f32; 10];
+    let mut numbers = [9u32; 17];
+    let hashes = [9u64; 8];
+    numbers[2] = owner;
+    numbers[3] = next;
+    print_answer(index.take_back(&floats[..f], &numbers[..n], &hashes[..h]));
+}
+
+fn back_refused() {
+    try_take_back(state(3, 0, 0, false), 0, 0, 0, 0, 0);
+    try_take_back(state(0, 0, 1, false), 10, 17, 8, 0, 0);
+    try_take_back(state(1, 0, 1, true), 7, 15, 6, 0, 0);
+    try_take_back(state(1, 0, 0, false), 8, 14, 6, 0, 0);
+    try_take_back(state(0, 0, 0, false), 8, 15, 5, 0, 0);
+    try_take_back(state(1, 0, 1, true), 8, 15, 6, 0, 0);
+    try_take_back(state(0, 0, 0, false), 8, 15, 6, 0, 0);
+    try_take_back(state(0, 2, 0, false), 8, 15, 6, 0, 0);
+}
+
+fn back_accepted() {
+    try_take_back(state(1, 0, 0, false), 8, 15, 6, 0, 0);
+    try_take_back(state(1, 2, 0, false), 8, 15, 6, 0, 0);
+    try_take_back(state(2, 0, 0, false), 8, 15, 6, 1, 1);
+    try_take_back(state(2, 1, 0, false), 8, 15, 6, 1, 1);
+    try_take_back(state(2, 2, 0, false), 8, 15, 6, 1, 1);
+    try_take_back(state(2, 2, 0, false), 8, 15, 6, 0, 1);
+    try_take_back(state(2, 2, 0, false), 8, 15, 6, 1, 0);
+    try_take_back(state(2, 2, 0, false), 8, 15, 6, 0, 0);
+    try_take_back(state(2, 2, 0, false), 8, 15, 6, 1, 2);
+    try_take_back(state(2, 2, 0, false), 10, 17, 8, 4294967295, 1);
+}
+
 fn main() {
     dimensions();
     settings();
@@ -258,4 +294,6 @@ fn main() {
     vectors();
     labels(&vector);
     room(&vector);
+    back_refused();
+    back_accepted();
 }

@@ -3,7 +3,7 @@
 use Prim.Native.Nat.{ℕ, _+_, _<_, _^_}
 use native.Mathlib.Numerals.{add-one}
 use native.Mathlib.Omega.{arith}
-use mathlib.Core.Bool.{Bool, true, false, false≢true}
+use mathlib.Core.Bool.{true, false, false≢true}
 use mathlib.Core.Logic.{inr}
 use mathlib.Core.List.{List, List·Memᴰ·not-nil, List·Memᴰ·cases-cons, List·Memᴰ·append-cases}
 use mathlib.Core.Path.{_≡_, refl, sym, ap, _∙_, subst}
@@ -25,12 +25,13 @@ use Rattle.curator.specs.Calls.{grown}
 use Rattle.curator.specs.Changes.{Adds, AddsBy, addCheck}
 use Rattle.curator.specs.Lent.{AddRoom}
 use Rattle.curator.specs.AddLaws.{Accepted, add-facts}
+use Rattle.curator.specs.HeldLaws.{wrote-lengths, added, added-wrote}
 use Rattle.runs.specs.Calls.{add}
 use Rattle.runs.specs.Model.{Setting, Model, ModelRow, rowHashes, modelFacts, nodeCount, settingShape, changeRows, changeCheck, carriedOut, changedBy, newRow}
 use Rattle.runs.specs.Run.{nextIndex}
 use Rattle.runs.specs.Theorem.{withBudget}
-use Rattle.runs.specs.State.{Allowed, Within, Small, stateFor, nodesHeld}
-use Rattle.runs.specs.Held.{Held, held-added, withRow, length-rows, count-more, wrote-lengths, writes}
+use Rattle.runs.specs.State.{Allowed, Within, Small, stateFor, nodesHeld, no-nodes}
+use Rattle.runs.specs.Held.{Held, held-added, withRow, length-rows, count-more}
 use Rattle.runs.specs.Refusals.{add-refused}
 use Rattle.runs.specs.Built.{Laid}
 use Rattle.runs.specs.Invariant.{Invariant, held-front, held-back}
@@ -48,11 +49,6 @@ within-added s m call store b room =
       rows = λ t. absurd (false≢true (sym b ∙ t));
       nodes = λ t. absurd (false≢true (sym b ∙ t));
     }
-
-no-nodes : (b : Bool) (s : Setting) (m m′ : Model) → b ≡ false → nodesHeld b s m ≡ nodesHeld b s m′
-unfolding nodesHeld
-no-nodes true s m m′ e = absurd (false≢true (sym e))
-no-nodes false s m m′ e = refl
 
 state-added : (s : Setting) (m : Model) (call : AddCall) → m .built ≡ false → grown (stateFor s m) (length (call .lengths)) ≡ stateFor s (withRow m (newRow call))
 state-added s m call b =
@@ -140,7 +136,7 @@ add-by : (index : CuratorIndex) (store : Store) (call : AddCall) (c : Check) →
 unfolding AddsBy
 add-by index store call (Check′.Refused r) = (Changed′.Refused r, store, (is-refused r (Changed′.Refused r) refl, refl))
 add-by index store call Check′.Fine =
-    let w = writes index store call in (Changed′.Index (grown index (length (call .lengths))), w .0, (is-carried _ _ refl, w .1))
+    (Changed′.Index (grown index (length (call .lengths))), added index store call, (is-carried _ _ refl, added-wrote index store call))
 
 add-outcome : (index : CuratorIndex) (store : Store) (work : List ℕ) (call : AddCall) → ChangeOutcome index store work (add call)
 unfolding Adds

@@ -1,4 +1,4 @@
--- Document 01, 'Runs': the calls of a run, of two kinds: those that change the index, and searches.
+-- Document 01, 'Runs', and 02: the calls of a run, of two kinds: those that change the index, and searches.
 use Prim.Native.Nat.{ℕ, _<_, _^_}
 use mathlib.Core.List.{List, [], _∷_}
 use mathlib.Core.Path.{_≡_}
@@ -9,11 +9,12 @@ use Rattle.curator.specs.Arguments.{AddCall, SearchCall}
 -- a call that changes the index, with its arguments
 pub data Change : Type 0 where
   add : AddCall → Change
+  take-back : Change
   build : Change
 
--- 'Its calls are add, build, filtered search and search', each with the fronts and the work list that it is lent. 'A call may be lent only the front of
--- a list': how much of each list of the store is lent. 'Work and answer lists may be others at each call, of any length and content.' An add is lent no
--- work list: nothing looks at the one that stands here.
+-- 'Its calls are add, build, filtered search and search'; 02, K3: 'Taking back may stand among demand 3's calls'; each with the fronts and the work list that it is lent. 'A call may be lent only the front of
+-- a list': how much of each list of the store is lent. 'Work and answer lists may be others at each call, of any length and content.' An add or a taking back
+-- is lent no work list: nothing looks at the one that stands here.
 pub data Call : Type 0 where
   change : Lengths → List ℕ → Change → Call
   search : Lengths → List ℕ → SearchCall → Call
@@ -23,6 +24,7 @@ pub data Call : Type 0 where
 -- a document id is a u32
 abbrev pub Typed : Change → Type 0
 Typed (add call) = call .document < 2 ^ 32
+Typed take-back = Unit {0}
 Typed build = Unit {0}
 
 abbrev pub TypedCall : Call → Type 0
@@ -41,7 +43,7 @@ pub record AlikeSearch (call call′ : SearchCall) : Type 0 where
   pub ids : length (call .ids) ≡ length (call′ .ids)
   pub distances : length (call .distances) ≡ length (call′ .distances)
 
--- the same lengths are lent, and the same is asked; one clause serves every change, so it names the work list of an add too
+-- the same lengths are lent, and the same is asked; one clause serves every change, so it names a work list where none is lent
 abbrev pub Alike : Call → Call → Type 0
 Alike (change fronts work c) (change fronts′ work′ c′) = (fronts ≡ fronts′) × (length work ≡ length work′) × (c ≡ c′)
 Alike (change fronts work c) (search fronts′ work′ call′) = ⊥

@@ -1,4 +1,4 @@
--- What is owed for a change, in one record: whoever adds a change to `Change` proves it of that one (Adds.antt, Builds.antt), and the rest goes by kinds
+-- What is owed for a change, in one record: whoever adds a change to `Change` proves it of that one (Adds.antt, TakesBack.antt, Builds.antt), and the rest goes by kinds
 -- of calls. Reached.antt has it of every change.
 use Prim.Native.Nat.{ℕ}
 use mathlib.Core.Bool.{Bool, true, false, cond, false≢true}

@@ -14,7 +14,7 @@ use Rattle.store.specs.Lent.{sizesOf}
 use Rattle.curator.specs.Calls.{fresh}
 use Rattle.curator.specs.Changes.{created}
 use Rattle.curator.specs.Arguments.{Asked, everything, labelled}
-use Rattle.runs.specs.Calls.{add, build, Call, change, search, AllTyped, Alike, AllAlike}
+use Rattle.runs.specs.Calls.{add, take-back, build, Call, change, search, AllTyped, Alike, AllAlike}
 use Rattle.runs.specs.Model.{Setting, settingShape, Model, emptyModel, Expected, returns, answers, expected, after, modelFrom}
 use Rattle.runs.specs.Run.{Ended, Run}
 use Rattle.runs.specs.Theorem.{Matches, InPairs, Premise, Better}
@@ -105,6 +105,35 @@ pub too-many : expectations (sample 5 4) emptyModel (first ∷ second ∷ third 
     ≡ returns 0 ∷ returns 0 ∷ returns 0 ∷ returns 13 ∷ returns 0 ∷ returns 6 ∷ []
 unfolding expectations ofBits fnvFrom fnvStep distance
 too-many = refl
+
+-- ---- taking back
+
+-- 9 is taught wrong, taken back and taught again, and so is 10 and left out; nothing can be taken back of an empty or a built index
+abbrev pub backs : Call
+backs = change fronts [] take-back
+
+abbrev pub callsBack : List Call
+callsBack =
+    backs ∷ first ∷ adds 9 (0 ∷ 0x40000000 ∷ []) 98 ∷ backs ∷ second ∷ third ∷ adds 10 (0x3F800000 ∷ 0 ∷ []) 97 ∷ backs
+    ∷ change fronts (replicate 30 0) build
+    ∷ backs
+    ∷ searches 0 nan 4 label-a
+    ∷ []
+
+-- the answer is that of the example, and the premise holds
+pub expects-back : expectations (sample 5 5) emptyModel callsBack
+    ≡ returns 19 ∷ returns 0 ∷ returns 0 ∷ returns 0 ∷ returns 0 ∷ returns 0 ∷ returns 0 ∷ returns 0 ∷ returns 0 ∷ returns 5
+    ∷ hits (7 ∷ 9 ∷ []) (0 ∷ 0x3ecccccc ∷ []) 5 true
+    ∷ []
+unfolding expectations ofBits fnvFrom fnvStep distance
+expects-back = refl
+
+tested-back : premiseTest (sample 5 5) emptyModel callsBack ≡ true
+unfolding premiseTest ofBits fnvFrom fnvStep distance
+tested-back = refl
+
+pub premise-back : Premise (sample 5 5) callsBack
+premise-back = test-premise (sample 5 5) callsBack tested-back
 
 -- ---- the premise, the types and a run
 

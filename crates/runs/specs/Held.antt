@@ -7,19 +7,17 @@ use mathlib.Core.List.{List, [], _∷_, _++_, map, map-append, append-nil, appen
 use mathlib.Core.Path.{_≡_, refl, sym, ap, ap₂, _∙_, subst}
 use lib.Ieee.{Float}
 use lib.ListN.{length, getD, set, replicate, length-append, length-map, length-replicate, length-set}
-use lib.Seq.{sets, length-sets}
+use lib.Seq.{sets}
 use Rattle.lists.specs.Lists.{part, countFrom, joined}
 use Rattle.lists.specs.Maps.{map-on, Memᴰ-replicate}
 use Rattle.lists.specs.Counting.{countFrom-snoc, Memᴰ-countFrom, joined-snoc, getD-Memᴰ}
 use Rattle.lists.specs.Parts.{part-sets-same, part-sets-before, part-sets-grown, part-set-before}
 use Rattle.lists.specs.Tests.{either}
-use Rattle.vector.specs.Normalized.{normalized, normalized-is, normalized-holds, length-normalized}
+use Rattle.vector.specs.Normalized.{normalized, normalized-is, length-normalized}
 use Rattle.store.specs.declared.Lengths.{Lengths}
-use Rattle.store.specs.Store.{Store, vectorAt, ownersAt, centroidsAt, orderAt, filtersAt}
-use Rattle.store.specs.Lent.{storeOf, lengthsOf, sizesOf, NoShorter}
+use Rattle.store.specs.Store.{Store, vectorAt, centroidsAt, orderAt, filtersAt}
+use Rattle.store.specs.Lent.{sizesOf, NoShorter}
 use Rattle.store.specs.Agree.{Agree, part-same}
-use Rattle.curator.specs.declared.CuratorIndex.{CuratorIndex}
-use Rattle.curator.specs.Limits.{indexShape}
 use Rattle.curator.specs.Calls.{hashesOfLabels, heldVectors, heldEntries}
 use Rattle.curator.specs.Changes.{Wrote}
 use Rattle.curator.specs.Arguments.{AddCall}
@@ -216,34 +214,9 @@ module _ (s : Setting) (m : Model) (call : AddCall) (store store′ : Store) (ro
         hashes = ap (λ (k : ℕ). part 0 k (store′ .hashes)) count ∙ added-hashes (h .hashes) ∙ sym (hashes-more m r);
       }
 
--- ---- what an accepted add writes, whatever index and lists it is given
-
-module _ (index : CuratorIndex) (store : Store) (call : AddCall) where
-  -- the lists keep their lengths
-  pub wrote-lengths : (store′ : Store) → Wrote index store call store′ → lengthsOf store ≡ lengthsOf store′
-  wrote-lengths store′ wrote =
-      let n = index .counts .vectors in
-      let one = set (store .numbers) n (call .document) in
-      let at = ownersAt (indexShape index) + index .counts .entries in
-      let f = sym (ap length (wrote .floats) ∙ length-sets (store .floats) (n * index .dimension) (wrote .stored)) in
-      let o =
-      sym (ap length (wrote .numbers) ∙ length-sets one at (replicate (length (call .lengths)) n) ∙ length-set (store .numbers) n (call .document)) in
-      let h = sym (ap length (wrote .hashes) ∙ length-sets (store .hashes) (index .counts .entries) (hashesOfLabels (call .lengths) (call .bytes))) in
-      λ i. record { floats = f i; numbers = o i; hashes = h i }
-
-  -- there are lists that it leaves
-  pub writes : (store′ : Store) × Wrote index store call store′
-  writes = (
-    storeOf (sets (store .floats) (index .counts .vectors * index .dimension) (normalized (call .vector)))
-        (sets (set (store .numbers) (index .counts .vectors) (call .document)) (ownersAt (indexShape index) + index .counts .entries)
-        (replicate (length (call .lengths)) (index .counts .vectors)))
-        (sets (store .hashes) (index .counts .entries) (hashesOfLabels (call .lengths) (call .bytes))),
-    record { stored = normalized (call .vector); normalized = normalized-holds (call .vector); floats = refl; numbers = refl; hashes = refl },
-  )
-
 -- ---- owners are rows: build's 15 never
 
-owners-below : (i : ℕ) (rows : List ModelRow) (x : ℕ) → List·Memᴰ x (ownersFrom i rows) → x < i + length rows
+pub owners-below : (i : ℕ) (rows : List ModelRow) (x : ℕ) → List·Memᴰ x (ownersFrom i rows) → x < i + length rows
 unfolding ownersFrom
 owners-below i [] x m = absurd (List·Memᴰ·not-nil m)
 owners-below i (r ∷ rows) x m =

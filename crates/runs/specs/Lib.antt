@@ -4,6 +4,8 @@ pub mod Calls
 pub mod Model
 pub mod Run
 pub mod Theorem
+-- the model on small values
+pub mod Trials
 -- between a run and its model: the state, what the lists hold of the rows, what of the nodes; refusals alike
 pub mod State
 pub mod Held
@@ -13,6 +15,7 @@ pub mod Invariant
 -- what is owed for a change, and of each change
 pub mod ChangeLaws
 pub mod Adds
+pub mod TakesBack
 pub mod Builds
 -- the walk over the store is the walk over the rows' tree, which is sound; the cases of what is wanted
 pub mod WantedLaws
@@ -21,6 +24,8 @@ pub mod Due
 pub mod Search
 -- every step, and every run
 pub mod Reached
+-- an accepted add and a taking back undo each other
+pub mod Undone
 -- (a) and (b)
 pub mod Contents
 pub mod Eligible

@@ -1,11 +1,11 @@
 -- Document 01, 'The book', here the model: 'It is written from the settings, the capacities and the calls' arguments, list lengths among them; never
 -- from state, store or answers.' A line of the book is a row of the model. It says what is expected of every call, and is changed by it.
-use Prim.Native.Nat.{ℕ, suc}
+use Prim.Native.Nat.{ℕ, suc, _-_}
 use mathlib.Core.Bool.{Bool, true, false}
 use mathlib.Core.List.{List, [], _∷_, _++_, map}
 use lib.Dec.{ltb}
 use lib.Ieee.{Float}
-use lib.ListN.{length, getD, replicate}
+use lib.ListN.{length, getD, take, replicate}
 use Rattle.lists.specs.Lists.{joined}
 use Rattle.distance.specs.Distance.{distance}
 use Rattle.total_order.specs.TotalOrder.{keyOf}
@@ -25,11 +25,11 @@ use Rattle.settings.specs.declared.Check.{Check}
 use Rattle.settings.specs.declared.Check.the-variants.{Fine, Refused}
 use Rattle.curator.specs.Limits.{shapeOf}
 use Rattle.settings.specs.Refusals.{number, checkNumber}
-use Rattle.curator.specs.Rows.{Facts, Row, firstOf, addRows, buildRows, searchRows}
+use Rattle.curator.specs.Rows.{Facts, Row, firstOf, addRows, takeBackRows, buildRows, searchRows}
 use Rattle.curator.specs.Calls.{hashesOfLabels, splittingOf}
 use Rattle.curator.specs.Arguments.{AddCall, Question, SearchCall, askingOf}
 use Rattle.curator.specs.Searches.{wantedOf}
-use Rattle.runs.specs.Calls.{Change, add, build, Call, change, search}
+use Rattle.runs.specs.Calls.{Change, add, take-back, build, Call, change, search}
 
 -- the settings and capacities of an accepted `new`
 pub record Setting : Type 0 where
@@ -93,8 +93,9 @@ modelCounts s m = record { vectors = length (m .rows); entries = length (rowHash
 
 -- 'Each call is put to the refusals in their order, without 4 and 15'; of the lists that it is lent the rows look at the lengths
 unfoldable pub changeRows : Setting → Model → Lengths → ℕ → Change → List Row
-unfolding addRows buildRows modelFacts nodeCount
+unfolding addRows takeBackRows buildRows modelFacts nodeCount
 changeRows s m lent work (add call) = addRows (modelFacts s m) lent call
+changeRows s m lent work take-back = takeBackRows (modelFacts s m) lent
 changeRows s m lent work build = buildRows (modelFacts s m) lent work false (ltb (s .capacities .nodes) (nodeCount s m))
 
 unfoldable pub changeCheck : Setting → Model → Lengths → ℕ → Change → Check
@@ -105,10 +106,15 @@ changeCheck s m lent work c = firstOf (changeRows s m lent work c)
 abbrev pub newRow : AddCall → ModelRow
 newRow call = record { document = call .document; vector = normalized (call .vector); hashes = hashesOfLabels (call .lengths) (call .bytes) }
 
--- 'Any other add writes a line at the end'; 'Any other build makes it built'
+-- the lines without the last
+abbrev pub struck : List ModelRow → List ModelRow
+struck rows = take (length rows - 1) rows
+
+-- 'Any other add writes a line at the end'; taking back 'strikes the book's last line' (02, K3); 'Any other build makes it built'
 unfoldable pub carriedOut : Change → Model → Model
 unfolding normalized hashesOfLabels
 carriedOut (add call) m = record { rows = m .rows ++ (newRow call ∷ []); built = m .built }
+carriedOut take-back m = record { rows = struck (m .rows); built = m .built }
 carriedOut build m = record { rows = m .rows; built = true }
 
 -- 'A refused call leaves the book as it is.'

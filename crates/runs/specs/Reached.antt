@@ -21,9 +21,9 @@ use Rattle.curator.specs.Rows.{searchRows}
 use Rattle.curator.specs.RowLaws.{number-positive}
 use Rattle.curator.specs.Arguments.{SearchCall, askingOf}
 use Rattle.curator.specs.Searches.{Searches}
-use Rattle.runs.specs.Calls.{Change, add, build, Call, change, search, Typed, TypedCall}
+use Rattle.runs.specs.Calls.{Change, add, take-back, build, Call, change, search, Typed, TypedCall}
 use Rattle.runs.specs.Model.{Setting, Model, emptyModel, modelFacts, changeRows, changeCheck, changedBy, modelSearchCheck, modelCheck, modelWalk, returns, searchedBy, answered, expected, after, modelFrom}
-use Rattle.runs.specs.Run.{Ended, changed, found, nextIndex, Changes, ChangeStep, SearchStep, Step, RunFrom, done, next, Run}
+use Rattle.runs.specs.Run.{Ended, changed, found, nextIndex, Changes, ChangeStep, SearchStep, Step, RunFrom, done, next, indexAfter, storeAfter, Run}
 use Rattle.runs.specs.Theorem.{endNumber, Reply, AnsweredWith, replyOf, Matches, AtEach, NeverDamaged}
 use Rattle.runs.specs.State.{Allowed, Within, Small, stateFor, created-is, empty-small}
 use Rattle.runs.specs.Held.{Held}
@@ -31,6 +31,7 @@ use Rattle.runs.specs.Built.{Laid}
 use Rattle.runs.specs.Invariant.{Invariant, begins}
 use Rattle.runs.specs.ChangeLaws.{Other, first-other, ChangeEnds, ChangeLaws}
 use Rattle.runs.specs.Adds.{add-laws}
+use Rattle.runs.specs.TakesBack.{take-back-laws}
 use Rattle.runs.specs.Builds.{build-laws}
 use Rattle.runs.specs.Search.{search-keeps}
 use Rattle.curator.specs.OutcomeLaws.{found-is}
@@ -39,6 +40,7 @@ use Rattle.curator.specs.OutcomeLaws.{found-is}
 
 pub change-laws : (c : Change) → ChangeLaws c
 change-laws (add call) = add-laws call
+change-laws take-back = take-back-laws
 change-laws build = build-laws
 
 -- on any index that stands for a model
@@ -137,6 +139,20 @@ pub ends-each : (s : Setting) (calls : List Call) (ends : List Ended) → Run s 
 ends-each s calls ends run =
     let c = created-is s (run .index) (run .accepted) in
     ends-from s (c .1) emptyModel (run .run) (begins s (run .index) (run .store) (c .0)) empty-small
+
+-- where a run stands: its state and lists are those of the model after the calls
+reached-from : (s : Setting) → Allowed s → (m : Model) {index : CuratorIndex} {store : Store} {calls : List Call} {ends : List Ended}
+    → (run : RunFrom index store calls ends) → Invariant s m index store → Invariant s (modelFrom s m calls) (indexAfter run) (storeAfter run)
+unfolding modelFrom
+reached-from s a m done inv = inv
+reached-from s a m (next {index} {index′} {store} {store′} {call} {calls} {end} {ends} st rest) inv =
+    reached-from s a (after s m call) rest (step-keeps s a m index store inv call end index′ store′ st .1)
+
+pub reached : (s : Setting) (calls : List Call) (ends : List Ended) (run : Run s calls ends)
+    → Invariant s (modelFrom s emptyModel calls) (indexAfter (run .run)) (storeAfter (run .run))
+reached s calls ends run =
+    let c = created-is s (run .index) (run .accepted) in
+    reached-from s (c .1) emptyModel (run .run) (begins s (run .index) (run .store) (c .0))
 
 -- ---- facts about the models that are reached
 

@@ -18,24 +18,29 @@ use Rattle.tree.specs.Nodes.{Entries}
 use Rattle.tree.specs.Tree.{treeOf, size}
 use Rattle.settings.specs.declared.Check.the-variants as Check′
 use Rattle.curator.specs.Arguments.{AddCall, SearchCall, askingOf}
-use Rattle.curator.specs.Rows.{Facts, firstOf, addRows, buildRows, searchRows}
+use Rattle.curator.specs.Rows.{Facts, firstOf, addRows, takeBackRows, buildRows, searchRows}
 use Rattle.curator.specs.RowLaws.{NoneHolds, fine-none}
 use Rattle.curator.specs.Calls.{factsOf, heldEntries, splittingOf}
-use Rattle.curator.specs.Changes.{addCheck, buildCheck, ownersDamaged, tooManyNodes}
+use Rattle.curator.specs.Changes.{addCheck, takeBackCheck, buildCheck, ownersDamaged, tooManyNodes}
 use Rattle.curator.specs.Searches.{searchCheck}
 use Rattle.curator.specs.StateLaws.{sound-passes}
-use Rattle.runs.specs.Calls.{add, build}
+use Rattle.runs.specs.Calls.{add, take-back, build}
 use Rattle.runs.specs.Model.{Setting, Model, rowEntries, modelFacts, settingShape, nodeCount, changeCheck, modelSearchCheck}
 use Rattle.runs.specs.State.{Allowed, Within, stateFor, state-sound}
 use Rattle.runs.specs.Held.{Held, held-vectors, held-entries, owner-below}
 
--- ---- add and search
+-- ---- add, take back and search
 
 module _ (s : Setting) (m : Model) (a : Allowed s) (w : Within s m) (front : Store) where
   -- an add is lent no work list
   pub add-refused : (work : ℕ) (call : AddCall) → addCheck (stateFor s m) front call ≡ changeCheck s m (lengthsOf front) work (add call)
   unfolding addCheck changeCheck modelFacts
   add-refused work call = sound-passes (stateFor s m) (addRows (factsOf (stateFor s m)) (lengthsOf front) call) (state-sound s m a w)
+
+  -- nor is a taking back
+  pub take-back-refused : (work : ℕ) → takeBackCheck (stateFor s m) front ≡ changeCheck s m (lengthsOf front) work take-back
+  unfolding takeBackCheck changeCheck modelFacts
+  take-back-refused work = sound-passes (stateFor s m) (takeBackRows (factsOf (stateFor s m)) (lengthsOf front)) (state-sound s m a w)
 
   pub search-refused : (work : List ℕ) (call : SearchCall)
       → searchCheck (stateFor s m) front work call ≡ modelSearchCheck s m (lengthsOf front) (length work) call

@@ -8,10 +8,10 @@ use Rattle.store.specs.Lent.{lengthsOf, joinStores}
 use Rattle.curator.specs.declared.CuratorIndex.{CuratorIndex}
 use Rattle.curator.specs.declared.Changed.{Changed}
 use Rattle.curator.specs.declared.Changed.the-variants.{Index, Refused}
-use Rattle.curator.specs.Changes.{Creates, Adds, Builds}
+use Rattle.curator.specs.Changes.{Creates, Adds, TakesBack, Builds}
 use Rattle.curator.specs.Searches.{SearchEnd, Searches}
 use Rattle.curator.specs.Arguments.{SearchCall}
-use Rattle.runs.specs.Calls.{Change, add, build, Call, change, search, Typed}
+use Rattle.runs.specs.Calls.{Change, add, take-back, build, Call, change, search, Typed}
 use Rattle.runs.specs.Model.{Setting}
 
 -- what a call ended with: the answer; a search also with its answer lists
@@ -28,9 +28,11 @@ unfoldable pub nextIndex : CuratorIndex → Changed → CuratorIndex
 nextIndex index (Index index′) = index′
 nextIndex index (Refused r) = index
 
--- A change on an index and the lists that it is lent: exactly the entry point's own relation, state and lists at entry, then at exit.
+-- A change on an index and the lists that it is lent: exactly the entry point's own relation, state and lists at entry, then at exit. A taking back is lent
+-- the store to be read.
 abbrev pub Changes : Change → CuratorIndex → Store → List ℕ → Changed → Store → List ℕ → Type 0
 Changes (add call) index store work answer store′ work′ = Adds index store call answer store′
+Changes take-back index store work answer store′ work′ = TakesBack index store answer × (store′ ≡ store)
 Changes build index store work answer store′ work′ = Builds index store work answer store′ work′
 
 -- One call on an index and its lists: each list is a front, which is lent, and a rest, which 'stays as it was'; the step is the entry point's own
@@ -71,6 +73,15 @@ pub data RunFrom : CuratorIndex → Store → List Call → List Ended → Type 
   next :
       {index index′ : CuratorIndex} {store store′ : Store} {call : Call} {calls : List Call} {end : Ended} {ends : List Ended} →
       Step index store call end index′ store′ → RunFrom index′ store′ calls ends → RunFrom index store (call ∷ calls) (end ∷ ends)
+
+-- the state and the lists after its calls
+abbrev pub indexAfter : {index : CuratorIndex} {store : Store} {calls : List Call} {ends : List Ended} → RunFrom index store calls ends → CuratorIndex
+indexAfter (done {index = index}) = index
+indexAfter (next step rest) = indexAfter rest
+
+abbrev pub storeAfter : {index : CuratorIndex} {store : Store} {calls : List Call} {ends : List Ended} → RunFrom index store calls ends → Store
+storeAfter (done {store = store}) = store
+storeAfter (next step rest) = storeAfter rest
 
 -- 'A run begins with the state from an accepted `new` and with lists of any length and content.'
 pub record Run (setting : Setting) (calls : List Call) (ends : List Ended) : Type 0 where

@@ -4,7 +4,7 @@ use Prim.Native.Nat.{ℕ, _≤_, _<_, _^_}
 use native.Mathlib.Omega.{arith}
 use mathlib.Core.Bool.{Bool, true, false, _&&_, false≢true}
 use mathlib.Core.List.{List·Memᴰ, List·Memᴰ·not-nil}
-use mathlib.Core.Path.{_≡_, refl, ap₂, subst}
+use mathlib.Core.Path.{_≡_, refl, sym, ap₂, subst}
 use borrow.Author.Tests.{lt-ltb}
 use lib.ListN.{length}
 use Rattle.store.specs.Store.{Limits}
@@ -40,6 +40,12 @@ limits s a = a .limits
 unfoldable pub nodesHeld : Bool → Setting → Model → ℕ
 nodesHeld true s m = nodeCount s m
 nodesHeld false s m = 0
+
+-- unbuilt, whatever the rows are
+pub no-nodes : (b : Bool) (s : Setting) (m m′ : Model) → b ≡ false → nodesHeld b s m ≡ nodesHeld b s m′
+unfolding nodesHeld
+no-nodes true s m m′ e = absurd (false≢true (sym e))
+no-nodes false s m m′ e = refl
 
 abbrev pub stateFor : Setting → Model → CuratorIndex
 stateFor s m =

@@ -1,4 +1,4 @@
--- Document 01's number for every refusal: the table's column 'Returned'.
+-- The number of every refusal: the column 'Returned' of document 01's table, and those that document 02 adds.
 use Prim.Native.Nat.{ℕ}
 use Rattle.settings.specs.declared.Check.{Check}
 use Rattle.settings.specs.declared.Check.the-variants as Check′
@@ -7,7 +7,7 @@ use Rattle.settings.specs.declared.refusal.Refusal.the-variants.{Setting
 use Rattle.settings.specs.declared.refusal.SettingsRefusal.{SettingsRefusal}
 use Rattle.settings.specs.declared.refusal.SettingsRefusal.the-variants.{InvalidDimension, InvalidConfig}
 use Rattle.settings.specs.declared.refusal.StateRefusal.{StateRefusal}
-use Rattle.settings.specs.declared.refusal.StateRefusal.the-variants.{InvalidState, AlreadyBuilt, NotBuilt, EmptyIndex}
+use Rattle.settings.specs.declared.refusal.StateRefusal.the-variants.{InvalidState, AlreadyBuilt, NotBuilt, EmptyIndex, NoVectorHeld}
 use Rattle.settings.specs.declared.refusal.InputRefusal.{InputRefusal}
 use Rattle.settings.specs.declared.refusal.InputRefusal.the-variants.{DimensionMismatch, NonFiniteInput, LabelLengths, AnswerTooShort, BadRecord, SettingsOrder, FileTooLong}
 use Rattle.settings.specs.declared.refusal.StoreRefusal.{StoreRefusal}
@@ -22,6 +22,7 @@ stateNumber InvalidState = 4
 stateNumber AlreadyBuilt = 5
 stateNumber NotBuilt = 6
 stateNumber EmptyIndex = 12
+stateNumber NoVectorHeld = 19
 
 abbrev pub inputNumber : InputRefusal → ℕ
 inputNumber DimensionMismatch = 7
@@ -39,7 +40,7 @@ storeNumber EntriesFull = 11
 storeNumber NodesFull = 13
 storeNumber Damaged = 15
 
--- the table's column 'Returned'
+-- what is returned
 abbrev pub number : Refusal → ℕ
 number (Settings r) = settingsNumber r
 number (State r) = stateNumber r

@@ -1,4 +1,4 @@
-// Why a call is refused. Each refusal has the number that document 01 gives it.
+// Why a call is refused. Each refusal has the number that document 01 or 02 gives it.
 ghost use mathlib.Core.Path.{_≡_};
 ghost use Rattle.settings.specs.Refusals.{settingsNumber, stateNumber, inputNumber, storeNumber, number};
 
@@ -23,6 +23,7 @@ pub enum StateRefusal {
     AlreadyBuilt,
     NotBuilt,
     EmptyIndex,
+    NoVectorHeld,
 }
 
 impl StateRefusal {
@@ -34,6 +35,7 @@ impl StateRefusal {
             StateRefusal::AlreadyBuilt => 5,
             StateRefusal::NotBuilt => 6,
             StateRefusal::EmptyIndex => 12,
+            StateRefusal::NoVectorHeld => 19,
         }
     }
 }

@@ -1,0 +1,243 @@
+-- Laws of a taking back: the longest suffix of one number; each refusal in its row's case; what is read; and, over one store, that an accepted add followed by a
+-- taking back is the identity on all that is held.
+use Prim.Native.Nat.{ℕ, zero, suc, _+_, _-_, _≤_, _<_}
+use native.Mathlib.Omega.{arith}
+use mathlib.Core.Bool.{Bool, true, false, not, cond, false≢true}
+use mathlib.Core.List.{List, [], _∷_, _++_, List·Memᴰ, List·Memᴰ·head, List·Memᴰ·tail}
+use mathlib.Core.Logic.{_↔_}
+use mathlib.Core.Path.{_≡_, refl, sym, ap, ap₂, _∙_, subst}
+use borrow.Author.Tests.{not-false, ltb-true, eqb-false, eq-eqb, ne-eqb}
+use lib.Dec.{eqb, ltb}
+use lib.ListN.{length, getD, drop, replicate, length-replicate}
+use Rattle.lists.specs.Counting.{getD-Memᴰ}
+use Rattle.lists.specs.Maps.{Memᴰ-replicate}
+use Rattle.lists.specs.Tests.{allPass, all-pass, allPass-Memᴰ, either, which}
+use Rattle.store.specs.declared.Counts.{Counts}
+use Rattle.store.specs.declared.Lengths.{Lengths}
+use Rattle.store.specs.Store.{Store}
+use Rattle.store.specs.Lent.{lengthsOf, Long, storeShort}
+use Rattle.store.specs.LentLaws.{store-long}
+use Rattle.settings.specs.declared.Check.{Check}
+use Rattle.settings.specs.declared.Check.the-variants.{Fine, Refused}
+use Rattle.settings.specs.Refusals.{checkNumber}
+use Rattle.settings.specs.Limits.{builtAllowed}
+use Rattle.tree.specs.Nodes.{Entries}
+use Rattle.curator.specs.declared.CuratorIndex.{CuratorIndex}
+use Rattle.curator.specs.declared.Changed.{Changed}
+use Rattle.curator.specs.declared.Changed.the-variants as Changed′
+use Rattle.curator.specs.Outcome.{changedNumber, Succeeded}
+use Rattle.curator.specs.Limits.{stateSound, indexShape}
+use Rattle.curator.specs.Arguments.{AddCall}
+use Rattle.curator.specs.Rows.{Row, firstOf, stateRow, addRows, takeBackRows}
+use Rattle.curator.specs.Calls.{factsOf, heldEntries, SameOfIndex, countAtEnd, lastEntries, grown, shrunk}
+use Rattle.curator.specs.Changes.{addCheck, Adds, Wrote, ownersDamaged, takeBackCheck, TakesBackBy, TakesBack}
+use Rattle.curator.specs.Lent.{AddRoom}
+use Rattle.curator.specs.RowLaws.{FirstAt, numbersOfRows, different, fine-none, none-fine, returned-exactly, rowsOfAdd, add-check-rows}
+use Rattle.curator.specs.AddLaws.{Accepted, add-facts, adds-accepted}
+use Rattle.curator.specs.HeldLaws.{owners-grown, held-kept, wrote-lengths}
+use Rattle.curator.specs.StateLaws.{Sound, sound-facts, facts-sound}
+use Rattle.curator.specs.OutcomeLaws.{carried-is, refused-is}
+
+-- ---- the longest suffix of which every element is a number
+
+abbrev pub allAre : ℕ → List ℕ → Bool
+allAre x l = allPass (λ z. eqb z x) l
+
+one-other : (x : ℕ) (l : List ℕ) (i : ℕ) → i < length l → eqb (getD l i 0) x ≡ false → allAre x l ≡ false
+one-other x l i h e =
+    either (which (allAre x l)) (λ t. absurd (false≢true (sym e ∙ allPass-Memᴰ (λ z. eqb z x) l t (getD l i 0) (getD-Memᴰ l i 0 h)))) (λ f. f)
+
+-- it is not longer than the list
+pub at-end-few : (x : ℕ) (l : List ℕ) → countAtEnd x l ≤ length l
+unfolding countAtEnd
+at-end-few x [] = omega arith
+at-end-few x (y ∷ l) = by (allAre x (y ∷ l)) (at-end-few x l)
+  where
+    by : (b : Bool) → countAtEnd x l ≤ length l → cond b (suc (length l)) (countAtEnd x l) ≤ suc (length l)
+    by true h = omega arith
+    by false h = omega arith
+
+-- the whole list
+pub at-end-all : (x : ℕ) (l : List ℕ) → allAre x l ≡ true → countAtEnd x l ≡ length l
+unfolding countAtEnd
+at-end-all x [] h = refl
+at-end-all x (y ∷ l) h = ap (λ (b : Bool). cond b (suc (length l)) (countAtEnd x l)) h
+
+at-end-later : (x y : ℕ) (l : List ℕ) → allAre x (y ∷ l) ≡ false → countAtEnd x (y ∷ l) ≡ countAtEnd x l
+unfolding countAtEnd
+at-end-later x y l h = ap (λ (b : Bool). cond b (suc (length l)) (countAtEnd x l)) h
+
+-- all that stands behind another number
+pub at-end-behind : (x : ℕ) (l : List ℕ) (i : ℕ) → i < length l → eqb (getD l i 0) x ≡ false → allAre x (drop (suc i) l) ≡ true
+    → countAtEnd x l ≡ length l - suc i
+at-end-behind x [] i h e a = absurd (omega arith)
+at-end-behind x (y ∷ l) zero h e a = at-end-later x y l (one-other x (y ∷ l) 0 h e) ∙ at-end-all x l a ∙ (omega arith)
+at-end-behind x (y ∷ l) (suc i) h e a =
+    at-end-later x y l (one-other x (y ∷ l) (suc i) h e) ∙ at-end-behind x l i (omega arith) e a ∙ (omega arith)
+
+-- what stands behind smaller numbers
+pub at-end-written : (x k : ℕ) (l : List ℕ) → ((y : ℕ) → List·Memᴰ y l → y < x) → countAtEnd x (l ++ replicate k x) ≡ k
+at-end-written x k [] h =
+    at-end-all x (replicate k x) (all-pass (λ z. eqb z x) (replicate k x) (λ z m. eq-eqb z x (Memᴰ-replicate k m))) ∙ length-replicate k x
+at-end-written x k (y ∷ l) h =
+    at-end-later x y (l ++ replicate k x)
+    (one-other x (y ∷ (l ++ replicate k x)) 0 (omega arith) (ne-eqb y x (λ e. let b : y < x = h y (List·Memᴰ·head refl) in omega arith)))
+    ∙ at-end-written x k l (λ z m. h z (List·Memᴰ·tail m))
+
+-- ---- 02, K3: 'checks 4, 3, 5, and then returns 19'
+
+abbrev pub rowsOfTakeBack : CuratorIndex → Store → List Row
+rowsOfTakeBack index store = stateRow (stateSound index) ∷ takeBackRows (factsOf index) (lengthsOf store)
+
+abbrev pub takeBackNumbers : List ℕ
+takeBackNumbers = 4 ∷ 3 ∷ 5 ∷ 19 ∷ []
+
+take-back-order : (index : CuratorIndex) (store : Store) → numbersOfRows (rowsOfTakeBack index store) ≡ takeBackNumbers
+unfolding takeBackRows
+take-back-order index store = refl
+
+take-back-rows : (index : CuratorIndex) (store : Store) → takeBackCheck index store ≡ firstOf (rowsOfTakeBack index store)
+unfolding takeBackCheck
+take-back-rows index store = refl
+
+takes-back-number : (index : CuratorIndex) (store : Store) (answer : Changed) → TakesBack index store answer
+    → changedNumber answer ≡ checkNumber (takeBackCheck index store)
+unfolding TakesBack TakesBackBy
+takes-back-number index store answer h = by (takeBackCheck index store) h
+  where
+    by : (check : Check) → TakesBackBy check index store answer → changedNumber answer ≡ checkNumber check
+    by Fine e = e .number-is
+    by (Refused r) e = e .number-is
+
+-- each of the numbers exactly if its row's case holds and no earlier row's does
+pub take-back-returned : (index : CuratorIndex) (store : Store) (answer : Changed) → TakesBack index store answer → (i : ℕ) → i < 4
+    → (changedNumber answer ≡ getD takeBackNumbers i 0) ↔ FirstAt (rowsOfTakeBack index store) i
+unfolding different
+take-back-returned index store answer takes i h =
+    returned-exactly (rowsOfTakeBack index store) takeBackNumbers (take-back-order index store) refl _
+    (takes-back-number index store answer takes ∙ ap checkNumber (take-back-rows index store))
+    i
+    h
+
+-- What an accepted taking back was asked of, as plain facts.
+pub record CanTakeBack (index : CuratorIndex) (lent : Lengths) : Type 0 where
+  pub sound : Sound index
+  pub long : Long (indexShape index) lent
+  pub unbuilt : index .built ≡ false
+  pub some : 0 < index .counts .vectors
+
+pub can-take-back : (index : CuratorIndex) (store : Store) → takeBackCheck index store ≡ Fine → CanTakeBack index (lengthsOf store)
+unfolding takeBackRows
+can-take-back index store fine =
+    let (sound, (short, (built, (none, _)))) = fine-none (rowsOfTakeBack index store) (sym (take-back-rows index store) ∙ fine) in
+    let held = eqb-false (index .counts .vectors) 0 none in
+    record {
+      sound = sound-facts index (not-false _ sound);
+      long = store-long (indexShape index) (lengthsOf store) short;
+      unbuilt = built;
+      some = omega arith;
+    }
+
+-- ---- the relation by what the check comes to
+
+pub takes-back-by : (index : CuratorIndex) (store : Store) (answer : Changed) (check : Check) → takeBackCheck index store ≡ check
+    → TakesBackBy check index store answer → TakesBack index store answer
+unfolding TakesBack
+takes-back-by index store answer check e h = subst (λ (k : Check). TakesBackBy k index store answer) (sym e) h
+
+-- ---- what is read: two stores that agree on what is held give the same answer
+
+pub takes-back-same : (index : CuratorIndex) (s t : Store) (a b : Changed) → lengthsOf s ≡ lengthsOf t → SameOfIndex index s t → TakesBack index s a
+    → TakesBack index t b → a ≡ b
+unfolding TakesBack TakesBackBy takeBackCheck lastEntries
+takes-back-same index s t a b l h x y =
+    by (takeBackCheck index s) x (subst (λ (k : Check). TakesBackBy k index t b) (sym check) y)
+  where
+    check : takeBackCheck index s ≡ takeBackCheck index t
+    check = ap (λ (k : Lengths). firstOf (stateRow (stateSound index) ∷ takeBackRows (factsOf index) k)) l
+
+    by : (k : Check) → TakesBackBy k index s a → TakesBackBy k index t b → a ≡ b
+    by Fine x y =
+        carried-is _ a x ∙ ap (λ (e : Entries). Changed′.Index (shrunk index (countAtEnd (index .counts .vectors - 1) (e .owners)))) (h .entries)
+        ∙ sym (carried-is _ b y)
+    by (Refused r) x y = refused-is r a x ∙ sym (refused-is r b y)
+
+-- ---- an accepted add, then a taking back
+
+-- what an add has written at the end is its owners, where every owner held is below n
+pub last-added : (index : CuratorIndex) (store : Store) (call : AddCall) (store′ : Store) → AddRoom index store call → Wrote index store call store′
+    → ownersDamaged index store ≡ false → lastEntries (grown index (length (call .lengths))) store′ ≡ length (call .lengths)
+unfolding lastEntries ownersDamaged
+last-added index store call store′ room wrote sound =
+    let n = index .counts .vectors in
+    let owners = heldEntries index store .owners in
+    let one : n + 1 - 1 ≡ n = omega arith in
+    ap₂ countAtEnd one (owners-grown index store call store′ room wrote)
+    ∙ at-end-written n (length (call .lengths)) owners
+    (λ y m. ltb-true y n (allPass-Memᴰ (λ owner. ltb owner n) owners (not-false _ sound) y m))
+
+shrunk-grown : (index : CuratorIndex) (k : ℕ) → shrunk (grown index k) k ≡ index
+shrunk-grown index k =
+    let v : index .counts .vectors + 1 - 1 ≡ index .counts .vectors = omega arith in
+    let e : index .counts .entries + k - k ≡ index .counts .entries = omega arith in
+    λ i. record {
+      dimension = index .dimension;
+      params = index .params;
+      capacities = index .capacities;
+      counts = record { vectors = v i; entries = e i; nodes = index .counts .nodes };
+      built = index .built;
+    }
+
+-- an unbuilt state stays sound
+unbuilt-nodes : (built : Bool) (held next : Counts) → built ≡ false → held .nodes ≡ next .nodes → builtAllowed built held ≡ true → builtAllowed built next ≡ true
+unfolding builtAllowed
+unbuilt-nodes true held next b e h = absurd (false≢true (sym b))
+unbuilt-nodes false held next b e h = rw (sym e) h
+
+grown-sound : (index : CuratorIndex) (store : Store) (call : AddCall) → Accepted index store call → stateSound (grown index (length (call .lengths))) ≡ true
+grown-sound index store call a =
+    let s = a .sound in
+    facts-sound (grown index (length (call .lengths)))
+    (record {
+      limits = s .limits;
+      leaf-size = s .leaf-size;
+      ef-search = s .ef-search;
+      beam-width = s .beam-width;
+      vectors = omega (arith, a .room .vectors);
+      entries = a .room .entries;
+      nodes = s .nodes;
+      built = unbuilt-nodes (index .built) (index .counts) (grown index (length (call .lengths)) .counts) (a .unbuilt) refl (s .built);
+    })
+
+-- so it is accepted
+grown-fine : (index : CuratorIndex) (store : Store) (call : AddCall) (store′ : Store) → addCheck index store call ≡ Fine → Wrote index store call store′
+    → takeBackCheck (grown index (length (call .lengths))) store′ ≡ Fine
+unfolding addRows takeBackRows
+grown-fine index store call store′ fine wrote =
+    let (_, (short, (built, _))) = fine-none (rowsOfAdd index store call) (sym (add-check-rows index store call) ∙ fine) in
+    let sound = grown-sound index store call (add-facts index store call fine) in
+    let index′ = grown index (length (call .lengths)) in
+    let short′ : storeShort (indexShape index) (lengthsOf store′) ≡ false =
+    ap (storeShort (indexShape index)) (sym (wrote-lengths index store call store′ wrote)) ∙ short in
+    take-back-rows index′ store′
+    ∙ none-fine (rowsOfTakeBack index′ store′)
+    (ap not sound, (short′, (built, (ne-eqb (index .counts .vectors + 1) 0 (λ e. omega arith), tt))))
+
+-- 'An accepted add followed by taking back is then the identity on all that is held', on any state and store of which every owner held is below n
+pub add-taken-back : (index : CuratorIndex) (store : Store) (call : AddCall) (index′ : CuratorIndex) (store′ : Store) (answer : Changed)
+    → ownersDamaged index store ≡ false → Adds index store call (Changed′.Index index′) store′ → TakesBack index′ store′ answer
+    → Succeeded index answer × SameOfIndex index store′ store
+unfolding TakesBack TakesBackBy
+add-taken-back index store call index′ store′ answer sound adds takes =
+    let (fine, is, wrote) = adds-accepted index store call index′ store′ adds in
+    let room = add-facts index store call fine .room in
+    let k = length (call .lengths) in
+    let check : takeBackCheck index′ store′ ≡ Fine =
+    ap (λ (i : CuratorIndex). takeBackCheck i store′) is ∙ grown-fine index store call store′ fine wrote in
+    let state : shrunk index′ (lastEntries index′ store′) ≡ index =
+    ap (λ (i : CuratorIndex). shrunk i (lastEntries i store′)) is
+    ∙ ap (shrunk (grown index k)) (last-added index store call store′ room wrote sound)
+    ∙ shrunk-grown index k in (
+      subst (λ (i : CuratorIndex). Succeeded i answer) state (subst (λ (c : Check). TakesBackBy c index′ store′ answer) check takes),
+      held-kept index store call store′ room wrote,
+    )
