@@ -30,27 +30,6 @@ static void test_new(void) {
     CHECK(is_marked(state, 12, 13, sizeof(size_t)));
 }
 
-/* what an index holds in its lists, to compare after a refused call */
-typedef struct { size_t state[CURATOR_STATE + SURPLUS]; float *floats; uint32_t *numbers; uint64_t *hashes; } copy_t;
-
-static void *copied(const void *list, size_t bytes) { void *to = malloc(bytes); if (!to) abort(); return memcpy(to, list, bytes); }
-
-static copy_t copy(const index_t *x) {
-    copy_t c;
-    memcpy(c.state, x->state, sizeof c.state);
-    c.floats = copied(x->floats, (x->floats_len + SURPLUS) * 4);
-    c.numbers = copied(x->numbers, (x->numbers_len + SURPLUS) * 4);
-    c.hashes = copied(x->hashes, (x->hashes_len + SURPLUS) * 8);
-    return c;
-}
-
-static int unchanged(const index_t *x, const copy_t *c) {
-    return !memcmp(c->state, x->state, sizeof c->state) && !memcmp(c->floats, x->floats, (x->floats_len + SURPLUS) * 4)
-        && !memcmp(c->numbers, x->numbers, (x->numbers_len + SURPLUS) * 4) && !memcmp(c->hashes, x->hashes, (x->hashes_len + SURPLUS) * 8);
-}
-
-static void forget(copy_t *c) { free(c->floats); free(c->numbers); free(c->hashes); }
-
 /* each call on a state list of a length returns 4 and leaves everything */
 static void no_state(index_t *x, size_t state_len) {
     static const uint8_t label[] = {'a'}, length[] = {1};

@@ -21,6 +21,11 @@ static inline int report(void) {
 static inline uint32_t bits_of(float x) { uint32_t b; memcpy(&b, &x, 4); return b; }
 static inline float float_of(uint32_t b) { float x; memcpy(&x, &b, 4); return x; }
 
+/* random numbers, always the same ones */
+static uint64_t seed = 88172645463325252u;
+static inline uint64_t any(void) { seed ^= seed << 13; seed ^= seed >> 7; seed ^= seed << 17; return seed; }
+static inline size_t below(size_t n) { return (size_t)((any() >> 20) % n); }
+
 /* how many places each list has behind those that a call asks for, and what they hold */
 enum { SURPLUS = 3, MARK = 0x5a };
 
@@ -91,6 +96,27 @@ static inline int surplus_untouched(const index_t *x) {
 #define STATE(x) (x)->state, CURATOR_STATE + SURPLUS
 #define STORE(x) (x)->floats, (x)->floats_len + SURPLUS, (x)->numbers, (x)->numbers_len + SURPLUS, (x)->hashes, (x)->hashes_len + SURPLUS
 #define WORK(x) (x)->work, (x)->work_len + SURPLUS
+
+/* every place of the state and of the lists of the store, to compare after a call that changes nothing */
+typedef struct { size_t state[CURATOR_STATE + SURPLUS]; float *floats; uint32_t *numbers; uint64_t *hashes; } copy_t;
+
+static inline void *copied(const void *list, size_t bytes) { void *to = malloc(bytes); if (!to) abort(); return memcpy(to, list, bytes); }
+
+static inline copy_t copy(const index_t *x) {
+    copy_t c;
+    memcpy(c.state, x->state, sizeof c.state);
+    c.floats = copied(x->floats, (x->floats_len + SURPLUS) * 4);
+    c.numbers = copied(x->numbers, (x->numbers_len + SURPLUS) * 4);
+    c.hashes = copied(x->hashes, (x->hashes_len + SURPLUS) * 8);
+    return c;
+}
+
+static inline int unchanged(const index_t *x, const copy_t *c) {
+    return !memcmp(c->state, x->state, sizeof c->state) && !memcmp(c->floats, x->floats, (x->floats_len + SURPLUS) * 4)
+        && !memcmp(c->numbers, x->numbers, (x->numbers_len + SURPLUS) * 4) && !memcmp(c->hashes, x->hashes, (x->hashes_len + SURPLUS) * 8);
+}
+
+static inline void forget(copy_t *c) { free(c->floats); free(c->numbers); free(c->hashes); }
 
 /* the float list before a call, and whether each place outside two parts has the same bits after it */
 static inline void *floats_before(const index_t *x) {

@@ -55,7 +55,8 @@ enum {
 #define CURATOR_FILTER_AT(e, node) ((e) + 4 * (node))
 
 /* What is returned. Where several cases hold, the earliest in the call's order is returned:
-   new 1, 2, 4; add 4, 3, 5, 7, 8, 9, 10, 11; build 4, 3, then 0 for a built index, then 12, 15, 13; search 4, 3, 6, 7, 8, 14, 15; pool 3. */
+   new 1, 2, 4; add 4, 3, 5, 7, 8, 9, 10, 11; take back 4, 3, 5, 19; build 4, 3, then 0 for a built index, then 12, 15, 13;
+   search 4, 3, 6, 7, 8, 14, 15; pool 3. The numbers 16 to 18 are of the echo file, which no call here reads. */
 enum {
     CURATOR_OK = 0,
     CURATOR_INVALID_DIMENSION = 1,
@@ -73,10 +74,11 @@ enum {
     CURATOR_NODES_FULL = 13,         /* the tree has more than M nodes; leaves anything in centroids, centres, the six
                                         numbers of each node, child links, leaf orders, filters and work */
     CURATOR_ANSWER_TOO_SHORT = 14,   /* ids or distances shorter than k, or the answer list shorter than 3 */
-    CURATOR_DAMAGED = 15             /* A number that the call reads in the store points outside. build: an owner not below the vectors held. search,
+    CURATOR_DAMAGED = 15,            /* A number that the call reads in the store points outside. build: an owner not below the vectors held. search,
                                         in a node that is opened and not denied: a block past what is held; a child not above its parent, not below
                                         the nodes held or pushed before; a vector, entry or owner not below what is held; one hit too many. Other
                                         damage is not noticed. Leaves anything in work. */
+    CURATOR_NO_VECTOR_HELD = 19      /* take back: nothing was added, or all of it is taken back */
 };
 
 /* An index that holds nothing: its state in the first twelve places of the state list. The lists of the store may hold anything. */
@@ -89,6 +91,12 @@ uint32_t curator_add(size_t *state, size_t state_len,
                      float *floats, size_t floats_len, uint32_t *numbers, size_t numbers_len, uint64_t *hashes, size_t hashes_len,
                      uint32_t doc_id, const float *vector, size_t vector_len,
                      const uint8_t *lengths, size_t lengths_len, const uint8_t *bytes, size_t bytes_len);
+
+/* Takes the last accepted add back; called again, the one before it. The vectors held fall by one, and the entries held by the longest run at their end
+   whose owner is that vector, whatever owners a damaged store has. No list of the store is written: the places past the counts keep what the add wrote. */
+uint32_t curator_take_back(size_t *state, size_t state_len,
+                           const float *floats, size_t floats_len, const uint32_t *numbers, size_t numbers_len,
+                           const uint64_t *hashes, size_t hashes_len);
 
 /* Makes the tree of what is held. A built index succeeds unchanged. */
 uint32_t curator_build(size_t *state, size_t state_len,

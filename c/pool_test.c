@@ -2,10 +2,6 @@
    children's words, and pooling them by the call gives the same. */
 #include "check.h"
 
-static uint64_t seed = 88172645463325252u;
-static uint64_t any(void) { seed ^= seed << 13; seed ^= seed >> 7; seed ^= seed << 17; return seed; }
-static size_t below(size_t n) { return (size_t)((any() >> 20) % n); }
-
 enum { WORDS = CURATOR_FILTER + SURPLUS };
 
 /* words with many bits, few, all and none */

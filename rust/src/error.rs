@@ -14,7 +14,7 @@ pub enum RetrieveError {
     ListTooShort,
     /// 4: the state is not one that the calls return.
     InvalidState,
-    /// 5: the index is built, so nothing can be added.
+    /// 5: the index is built, so nothing can be added or taken back.
     AlreadyBuilt,
     /// 6: the index is not built, so nothing can be searched.
     NotBuilt,
@@ -28,7 +28,7 @@ pub enum RetrieveError {
     VectorsFull,
     /// 11: the index has no room for that many label entries more.
     EntriesFull,
-    /// 12: nothing was added.
+    /// 12: nothing was added, or all of it is taken back.
     EmptyIndex,
     /// 13: the tree has more nodes than there is room for.
     NodesFull,
@@ -36,29 +36,32 @@ pub enum RetrieveError {
     AnswerTooShort,
     /// 15: a number that the call reads in the store points outside what is held; other damage is not noticed.
     Damaged,
+    /// 19: no vector is held, so none can be taken back.
+    NoVectorHeld,
     /// A label has more than 255 bytes. Refused here, before any call: it has no number.
     LabelTooLong,
 }
 
 use RetrieveError::*;
 
-/// The refusals that have a number, in its order, from 1.
-const NUMBERED: [RetrieveError; 15] = [
-    InvalidDimension,
-    InvalidConfig,
-    ListTooShort,
-    InvalidState,
-    AlreadyBuilt,
-    NotBuilt,
-    DimensionMismatch,
-    NonFiniteInput,
-    LabelLengths,
-    VectorsFull,
-    EntriesFull,
-    EmptyIndex,
-    NodesFull,
-    AnswerTooShort,
-    Damaged,
+/// The refusals that have a number, with it.
+const NUMBERED: &[(u32, RetrieveError)] = &[
+    (1, InvalidDimension),
+    (2, InvalidConfig),
+    (3, ListTooShort),
+    (4, InvalidState),
+    (5, AlreadyBuilt),
+    (6, NotBuilt),
+    (7, DimensionMismatch),
+    (8, NonFiniteInput),
+    (9, LabelLengths),
+    (10, VectorsFull),
+    (11, EntriesFull),
+    (12, EmptyIndex),
+    (13, NodesFull),
+    (14, AnswerTooShort),
+    (15, Damaged),
+    (19, NoVectorHeld),
 ];
 
 impl RetrieveError {
@@ -66,16 +69,17 @@ impl RetrieveError {
     pub fn number(self) -> Option<u32> {
         NUMBERED
             .iter()
-            .position(|&e| e == self)
-            .map(|i| i as u32 + 1)
+            .find(|pair| pair.1 == self)
+            .map(|pair| pair.0)
     }
 
-    /// What a returned number says: 0 is an answered call. The library returns 0 to 15.
+    /// What a returned number says: 0 is an answered call. The library returns 0 and the numbers of the list, no other.
     pub(crate) fn check(number: u32) -> Result<(), RetrieveError> {
-        match number {
-            0 => Ok(()),
-            n => Err(*NUMBERED.get(n as usize - 1).unwrap_or(&InvalidState)),
+        if number == 0 {
+            return Ok(());
         }
+        let refusal = NUMBERED.iter().find(|pair| pair.0 == number);
+        Err(refusal.map_or(InvalidState, |pair| pair.1))
     }
 }
 
@@ -97,6 +101,7 @@ impl fmt::Display for RetrieveError {
             NodesFull => "no room for the nodes of the tree",
             AnswerTooShort => "an answer list is too short",
             Damaged => "the store is damaged",
+            NoVectorHeld => "no vector is held",
             LabelTooLong => "a label has more than 255 bytes",
         })
     }
@@ -111,12 +116,16 @@ mod tests {
     #[test]
     fn numbers_and_back() {
         assert_eq!(RetrieveError::check(0), Ok(()));
-        for n in 1..=15 {
+        for n in (1..=15).chain([19]) {
             let error = RetrieveError::check(n).unwrap_err();
             assert_eq!(error.number(), Some(n));
             assert!(!error.to_string().is_empty());
         }
         assert_eq!(LabelTooLong.number(), None);
         assert_eq!(EmptyIndex.number(), Some(12));
+        assert_eq!(NoVectorHeld.number(), Some(19));
+        for n in [16, 17, 18, 20, u32::MAX] {
+            assert_eq!(RetrieveError::check(n), Err(InvalidState));
+        }
     }
 }

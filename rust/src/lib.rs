@@ -238,7 +238,42 @@ impl CuratorIndex {
         RetrieveError::check(number)
     }
 
-    /// Makes the tree of what was added. A built index stays as it is.
+    /// Takes the last add back; called again, the one before it. The index then holds what it held before that add. A built index
+    /// takes nothing back.
+    ///
+    /// ```
+    /// # use curator::{CuratorIndex, CuratorParams, RetrieveError};
+    /// # fn main() -> Result<(), RetrieveError> {
+    /// let mut index = CuratorIndex::new(2, CuratorParams::default())?;
+    /// index.add(1, &[1.0, 0.0], &["silt"])?;
+    /// index.add(2, &[0.5, 0.5], &["silt"])?; // the lid was half open
+    /// index.take_back()?;
+    /// index.add(2, &[0.0, 1.0], &["silt"])?;
+    /// index.build()?;
+    /// assert_eq!(index.search(&[0.0, 1.0], 5)?, [(2, 0.0), (1, 1.0)]);
+    /// assert_eq!(index.take_back(), Err(RetrieveError::AlreadyBuilt));
+    /// # Ok(())
+    /// # }
+    /// ```
+    pub fn take_back(&mut self) -> Result<(), RetrieveError> {
+        // SAFETY: each pointer and count are those of one list. The state, which is written, is a field of `self`, which is borrowed
+        // mutably; the others are only read.
+        let number = unsafe {
+            sys::curator_take_back(
+                self.state.as_mut_ptr(),
+                self.state.len(),
+                self.floats.as_ptr(),
+                self.floats.len(),
+                self.numbers.as_ptr(),
+                self.numbers.len(),
+                self.hashes.as_ptr(),
+                self.hashes.len(),
+            )
+        };
+        RetrieveError::check(number)
+    }
+
+    /// Makes the tree of what is held. A built index stays as it is.
     pub fn build(&mut self) -> Result<(), RetrieveError> {
         let number = with_work(self.work_size(), |work| {
             // SAFETY: each pointer and count are those of one list: fields of `self`, which is borrowed mutably, and the work

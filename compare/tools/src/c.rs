@@ -31,6 +31,17 @@ extern "C" {
         bytes_len: usize,
     ) -> u32;
 
+    pub fn curator_take_back(
+        state: *mut usize,
+        state_len: usize,
+        floats: *const f32,
+        floats_len: usize,
+        numbers: *const u32,
+        numbers_len: usize,
+        hashes: *const u64,
+        hashes_len: usize,
+    ) -> u32;
+
     pub fn curator_build(
         state: *mut usize,
         state_len: usize,

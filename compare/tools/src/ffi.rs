@@ -1,4 +1,4 @@
-//! The functions of the static library over slices. Each returns 0, or document 01's number of the refusal.
+//! The functions of the static library over slices. Each returns 0, or the number of the refusal (documents 01 and 02).
 use crate::c;
 use crate::ours::Shape;
 
@@ -66,6 +66,21 @@ pub fn add(state: &mut [usize], store: StoreMut, added: &Added) -> u32 {
             added.lengths.len(),
             added.bytes.as_ptr(),
             added.bytes.len(),
+        )
+    }
+}
+
+pub fn take_back(state: &mut [usize], store: Store) -> u32 {
+    unsafe {
+        c::curator_take_back(
+            state.as_mut_ptr(),
+            state.len(),
+            store.floats.as_ptr(),
+            store.floats.len(),
+            store.numbers.as_ptr(),
+            store.numbers.len(),
+            store.hashes.as_ptr(),
+            store.hashes.len(),
         )
     }
 }

@@ -108,6 +108,11 @@ impl Ours {
         done(ffi::add(&mut self.state, self.lists.lend_mut().0, &added(id, vector, labels)))
     }
 
+    /// Takes the last add back.
+    pub fn take_back(&mut self) -> Result<(), u32> {
+        done(ffi::take_back(&mut self.state, self.lists.lend()))
+    }
+
     pub fn build(&mut self) -> Result<(), u32> {
         let (store, work) = self.lists.lend_mut();
         done(ffi::build(&mut self.state, store, work))

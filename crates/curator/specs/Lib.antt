@@ -8,7 +8,6 @@ pub mod Calls
 pub mod Changes
 pub mod Searches
 pub mod Lent
-pub mod Trials
 pub mod LabelLaws
 pub mod RowLaws
 pub mod BuildRowLaws
@@ -19,3 +18,4 @@ pub mod HeldLaws
 pub mod TakeBackLaws
 pub mod SearchHeldLaws
 pub mod BeamLaws
+pub mod Trials

@@ -22,6 +22,7 @@ fn summary(tally: &Tally) {
     println!("  distances, and ids at unshared distances: {}", tally.distances);
     println!("  outside the domain of equality: {}", tally.outside);
     println!("  equal to the brute-force first k: {}", tally.brute);
+    println!("adds taken back: {}", tally.taken_back);
     println!("builds refused for want of nodes: {}", tally.too_many);
 }
 

@@ -1,9 +1,11 @@
 //! damage SEED COUNT: calls on damaged indexes, their lists between guard pages, against the model.
 use std::collections::BTreeMap;
 use tools::damage::check::{self, Ended};
+use tools::damage::make::to_take_back;
 use tools::damage::pool::pool;
 use tools::damage::random_calls::{added, damaged, vector};
 use tools::damage::short::{short_answer, short_state};
+use tools::damage::take_back::take_back;
 use tools::ffi::Asked;
 use tools::ours::Ours;
 use tools::random::Random;
@@ -31,6 +33,8 @@ fn calls(random: &mut Random, ours: &Ours, labels: &[String], codes: &mut Codes)
         let label = Some(random.of(labels).as_bytes());
         note("search_filtered", check::search(ours, Asked { label, ..all }, places)?);
     }
+    take_back(ours, 1, &mut note)?;
+    take_back(&to_take_back(random, ours), random.from(1, 4), &mut note)?;
     let query = vector(random, dimension);
     let asked = Asked { query: &query, label: None, k: random.below(5) };
     short_state(ours, &added(random, dimension), asked, random.below(12))?;

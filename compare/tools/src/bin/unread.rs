@@ -1,7 +1,8 @@
 //! unread SEED COUNT, to be run under a memory checker: calls on damaged indexes in lists that hold nothing past the counts. The checker reports a read
 //! of what is not held, and of what lies outside a list.
 use tools::damage::bare::{Bare, BareLists};
-use tools::damage::check::search_result;
+use tools::damage::check::{search_result, take_back_result};
+use tools::damage::make::to_take_back;
 use tools::damage::random_calls::{added, damaged, vector};
 use tools::ffi::{self, Asked, Filled, Store, StoreMut};
 use tools::model::refusal::State;
@@ -26,6 +27,15 @@ fn search(ours: &Ours, asked: Asked) -> bool {
     code == expected && answer.get()[0] == hits.hits.len() && (0..hits.hits.len()).all(same)
 }
 
+/// A taking back in lists that hold the owners alone; whether it ends as the model says.
+fn take_back(ours: &Ours) -> bool {
+    let lists = BareLists::owners(&State::of(&ours.state), &ours.lists);
+    let store = Store { floats: lists.floats.get(), numbers: lists.numbers.get(), hashes: lists.hashes.get() };
+    let mut state = ours.state;
+    let code = ffi::take_back(&mut state, store);
+    (code, state) == take_back_result(ours)
+}
+
 /// All calls; the built store is read by nobody here.
 fn calls(random: &mut Random, ours: &Ours, labels: &[String]) -> bool {
     let held = || BareLists::new(&State::of(&ours.state), &ours.lists);
@@ -37,7 +47,8 @@ fn calls(random: &mut Random, ours: &Ours, labels: &[String]) -> bool {
     let query = vector(random, ours.state[0]);
     let all = Asked { query: &query, label: None, k: random.below(70) };
     let label = Some(random.of(labels).as_bytes());
-    search(ours, all) && search(ours, Asked { label, ..all })
+    let other = to_take_back(random, ours);
+    take_back(ours) && take_back(&other) && search(ours, all) && search(ours, Asked { label, ..all })
 }
 
 fn main() {

@@ -3,6 +3,7 @@ use super::domain::{self, Domain};
 use super::layout;
 use super::pool::unpooled;
 use super::search::{same, same_hits, search};
+use super::teach::teach;
 use crate::case::{Case, Query};
 use crate::model::search::{answer, brute_force, walk};
 use crate::model::tree::Tree;
@@ -21,25 +22,14 @@ pub struct Tally {
     pub whole: usize,
     pub cut: usize,
     pub too_many: usize,
+    pub taken_back: usize,
 }
 
-const JUNK: u32 = 0x3F12_3456;
-
-fn need(holds: bool, what: impl FnOnce() -> String) -> Result<(), String> {
+pub fn need(holds: bool, what: impl FnOnce() -> String) -> Result<(), String> {
     if holds {
         return Ok(());
     }
     Err(what())
-}
-
-/// Our index with everything added, and the lists that it began with.
-fn filled(case: &Case) -> Result<(Ours, Lists), String> {
-    let lists = Lists::new(case.shape, JUNK, 3);
-    let mut ours = Ours::new(case.shape, lists.clone()).map_err(|n| format!("new refused {n}"))?;
-    for doc in &case.docs {
-        ours.add(doc.id, &doc.vector, &doc.labels).map_err(|n| format!("add refused {n}"))?;
-    }
-    Ok((ours, lists))
 }
 
 /// A tree with more nodes than there is room for: refusal 13, and nothing changed that is not free.
@@ -51,6 +41,7 @@ fn check_too_many(mut ours: Ours) -> Result<(), String> {
     need(layout::same_added(&shape, &ours.lists, &before.lists), || "refusal 13 changed what was added".into())
 }
 
+/// The store before and after a build. The lists say what stands past the counts.
 fn check_build(ours: &mut Ours, tree: &Tree, lists: Lists) -> Result<(), String> {
     let shape = ours.shape();
     let added = layout::expected(tree, &shape, lists.clone(), false);
@@ -93,7 +84,9 @@ fn check_search(query: &Query, plain: bool, tree: &Tree, ours: &mut Ours, theirs
 }
 
 pub fn check(case: &Case, tree: &Tree, tally: &mut Tally) -> Result<(), String> {
-    let (mut ours, lists) = filled(case)?;
+    let taught = teach(case)?;
+    tally.taken_back += taught.taken_back;
+    let (mut ours, lists) = (taught.ours, taught.lists);
     if case.shape.nodes < tree.nodes.len() {
         tally.too_many += 1;
         return check_too_many(ours);

@@ -1,4 +1,8 @@
-//! The store after a build, place by place ('The store' of document 01), from the model.
+//! The store after adds and after a build, place by place ('The store' of document 01), from the model.
+use crate::ffi::Added;
+use crate::model::label::hash_bytes;
+use crate::model::number::normalized;
+use crate::model::refusal::State;
 use crate::model::tree::Tree;
 use crate::ours::{Lists, Shape};
 
@@ -24,7 +28,21 @@ fn narrow(list: &[usize]) -> impl Iterator<Item = u32> + '_ {
     list.iter().map(|&x| x as u32)
 }
 
-/// What add writes.
+/// What one add writes, which is accepted in a state.
+pub fn put_one(state: &State, lists: &mut Lists, added: &Added) {
+    let s = &state.shape;
+    put(&mut lists.floats, state.vectors * s.dimension, normalized(&added.vector));
+    lists.numbers[state.vectors] = added.id;
+    let mut from = 0;
+    for (i, &length) in added.lengths.iter().enumerate() {
+        let end = from + usize::from(length);
+        lists.numbers[s.vectors + state.entries + i] = state.vectors as u32;
+        lists.hashes[state.entries + i] = hash_bytes(&added.bytes[from..end]);
+        from = end;
+    }
+}
+
+/// What all adds write.
 fn put_added(tree: &Tree, shape: &Shape, lists: &mut Lists) {
     put(&mut lists.floats, 0, tree.vectors.concat());
     put(&mut lists.numbers, 0, tree.ids.iter().copied());
@@ -52,7 +70,7 @@ fn put_built(tree: &Tree, shape: &Shape, lists: &mut Lists) {
     put(&mut lists.hashes, shape.entries, nodes.iter().flat_map(|node| node.filter.0));
 }
 
-/// The lists after adds and, if `built`, an accepted build, given the lists before.
+/// The lists after adds and, if `built`, an accepted build, given the lists before. Places past the counts keep what stands in those.
 pub fn expected(tree: &Tree, shape: &Shape, mut lists: Lists, built: bool) -> Lists {
     put_added(tree, shape, &mut lists);
     if built {
@@ -63,6 +81,11 @@ pub fn expected(tree: &Tree, shape: &Shape, mut lists: Lists, built: bool) -> Li
 
 pub fn same_bits(a: &[f32], b: &[f32]) -> bool {
     a.len() == b.len() && a.iter().zip(b).all(|(x, y)| x.to_bits() == y.to_bits())
+}
+
+/// Whether every place of the stores is the same.
+pub fn same_lists(a: &Lists, b: &Lists) -> bool {
+    same_bits(&a.floats, &b.floats) && a.numbers == b.numbers && a.hashes == b.hashes
 }
 
 /// Whether the stores are the same outside the parts that are free after a build: cluster centres, and the work list.

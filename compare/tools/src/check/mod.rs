@@ -1,7 +1,8 @@
-//! The checks of one case: the store after a build, each search against the model, the original and brute force.
+//! The checks of one case: the store after adds and takings back and after a build, each search against the model, the original and brute force.
 pub mod case;
 pub mod domain;
 pub mod layout;
 pub mod pool;
 pub mod search;
 pub mod shrink;
+pub mod teach;

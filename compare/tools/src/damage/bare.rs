@@ -46,6 +46,15 @@ pub struct BareLists {
 impl BareLists {
     /// As long as the given lists. Nothing is held where the state is unsound or a list too short.
     pub fn new(state: &State, from: &Lists) -> BareLists {
+        BareLists::with(state, from, BareLists::put_held)
+    }
+
+    /// Of what is held the owners alone, which is all that a taking back may read.
+    pub fn owners(state: &State, from: &Lists) -> BareLists {
+        BareLists::with(state, from, BareLists::put_owners)
+    }
+
+    fn with(state: &State, from: &Lists, put: fn(&mut BareLists, &State, &Lists)) -> BareLists {
         let mut lists = BareLists {
             floats: Bare::new(from.floats.len()),
             numbers: Bare::new(from.numbers.len()),
@@ -55,9 +64,13 @@ impl BareLists {
         let s = &state.shape;
         let sound = state.sound();
         if sound && from.floats.len() >= s.floats() && from.numbers.len() >= s.numbers() && from.hashes.len() >= s.hashes() {
-            lists.put_held(state, from);
+            put(&mut lists, state, from);
         }
         lists
+    }
+
+    fn put_owners(&mut self, state: &State, from: &Lists) {
+        self.numbers.put(&from.numbers, state.shape.vectors, state.entries);
     }
 
     fn put_held(&mut self, state: &State, from: &Lists) {
@@ -67,7 +80,7 @@ impl BareLists {
         let table = order + s.vectors;
         self.floats.put(&from.floats, 0, n * s.dimension);
         self.numbers.put(&from.numbers, 0, n);
-        self.numbers.put(&from.numbers, s.vectors, e);
+        self.put_owners(state, from);
         self.hashes.put(&from.hashes, 0, e);
         if state.built == 1 {
             self.floats.put(&from.floats, s.vectors * s.dimension, nodes * s.dimension);

@@ -84,6 +84,13 @@ pub fn add(ours: &Ours, added: &Added) -> Result<Left, String> {
     lent.left(code)
 }
 
+pub fn take_back(ours: &Ours) -> Result<Left, String> {
+    let mut lent = Lent::new(ours, 0);
+    let store = Store { floats: lent.floats.get(), numbers: lent.numbers.get(), hashes: lent.hashes.get() };
+    let code = ffi::take_back(lent.state.get_mut(), store);
+    lent.left(code)
+}
+
 pub fn build(ours: &Ours) -> Result<Left, String> {
     let mut lent = Lent::new(ours, 0);
     let mut state = ours.state;

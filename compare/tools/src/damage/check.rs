@@ -1,9 +1,8 @@
 //! Each call on a damaged index against the model: always an answer or a refusal, and nothing else changed.
 use super::calls::{self, Left, OLD};
-use crate::check::layout::{expected, same_added, same_bits, same_store};
+use crate::check::layout::{expected, put_one, same_added, same_lists, same_store};
 use crate::ffi::{Added, Asked};
 use crate::model::label::hash_bytes;
-use crate::model::number::normalized;
 use crate::model::refusal::{self, Lent, State};
 use crate::model::search::answer;
 use crate::model::store::View;
@@ -21,10 +20,6 @@ pub type Checked = Result<Ended, String>;
 
 pub fn ended(code: u32) -> Checked {
     Ok(Ended { code, nan: false })
-}
-
-fn same_lists(a: &Lists, b: &Lists) -> bool {
-    same_bits(&a.floats, &b.floats) && a.numbers == b.numbers && a.hashes == b.hashes
 }
 
 /// Whether the answer lists hold an answer, and behind it what they held; none: only what they held.
@@ -125,22 +120,6 @@ pub fn build(ours: &Ours) -> Checked {
     Ok(end)
 }
 
-/// The lists after an accepted add.
-fn with_added(state: &State, mut lists: Lists, added: &Added) -> Lists {
-    let s = &state.shape;
-    let at = state.vectors * s.dimension;
-    lists.floats[at..at + s.dimension].copy_from_slice(&normalized(&added.vector));
-    lists.numbers[state.vectors] = added.id;
-    let mut from = 0;
-    for (i, &length) in added.lengths.iter().enumerate() {
-        let end = from + usize::from(length);
-        lists.numbers[s.vectors + state.entries + i] = state.vectors as u32;
-        lists.hashes[state.entries + i] = hash_bytes(&added.bytes[from..end]);
-        from = end;
-    }
-    lists
-}
-
 pub fn add(ours: &Ours, added: &Added) -> Checked {
     let left = calls::add(ours, added)?;
     let state = State::of(&ours.state);
@@ -149,11 +128,36 @@ pub fn add(ours: &Ours, added: &Added) -> Checked {
     if refused.is_none() {
         numbers[8] += 1;
         numbers[9] += added.lengths.len();
-        lists = with_added(&state, lists, added);
+        put_one(&state, &mut lists, added);
     }
     let code = refused.unwrap_or(0);
     if left.code != code || left.ours.state != numbers || !same_lists(&lists, &left.ours.lists) {
         return Err(format!("add: {}, not {code}, or the state, or a list", left.code));
     }
     ended(code)
+}
+
+/// The number that document 02 defines for a taking back, and the state after it.
+pub fn take_back_result(ours: &Ours) -> (u32, [usize; 12]) {
+    let mut numbers = ours.state;
+    let state = State::of(&numbers);
+    let refused = refusal::take_back(&state, Lent::of(&ours.lists));
+    if refused.is_none() {
+        numbers[8] -= 1;
+        numbers[9] -= View { state, store: ours.lists.lend() }.taken_back();
+    }
+    (refused.unwrap_or(0), numbers)
+}
+
+/// A taking back, and what it left.
+pub fn take_back(ours: &Ours) -> Result<(Ended, Ours), String> {
+    let left = calls::take_back(ours)?;
+    let (code, numbers) = take_back_result(ours);
+    if left.code != code || left.ours.state != numbers {
+        return Err(format!("take back: {} {:?}, not {code} {numbers:?}", left.code, left.ours.state));
+    }
+    if !same_lists(&ours.lists, &left.ours.lists) || ours.lists.work != left.ours.lists.work {
+        return Err(format!("take back {code}: a list changed"));
+    }
+    Ok((ended(code)?, left.ours))
 }

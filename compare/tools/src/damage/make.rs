@@ -1,5 +1,6 @@
 //! What is damaged, and how.
 use crate::case::Case;
+use crate::model::refusal::State;
 use crate::ours::{Lists, Ours};
 use crate::random::Random;
 
@@ -103,6 +104,47 @@ pub fn damaged(random: &mut Random, case: &Case) -> Ours {
     }
     if random.one_in(4) {
         damage_state(random, &mut ours.state);
+    }
+    ours
+}
+
+/// An owner: the last vector in half of the cases, the numbers beside it, or any.
+fn owner(random: &mut Random, vectors: usize) -> u32 {
+    match random.below(8) {
+        0..=3 => vectors.wrapping_sub(1) as u32,
+        4 => vectors as u32,
+        5 => vectors.wrapping_sub(2) as u32,
+        _ => number(random, vectors),
+    }
+}
+
+/// How many owners at the end of those held are damaged: none, all, or a few.
+fn owners_damaged(random: &mut Random, entries: usize) -> usize {
+    match random.below(4) {
+        0 => 0,
+        1 => entries,
+        _ => random.from(1, 6).min(entries),
+    }
+}
+
+/// A copy to take back from: not built in most cases, without vectors in some, with other owners at the end of those held, each by itself or all the last
+/// vector.
+pub fn to_take_back(random: &mut Random, ours: &Ours) -> Ours {
+    let mut ours = ours.clone();
+    if !random.one_in(8) {
+        (ours.state[10], ours.state[11]) = (0, 0);
+    }
+    if random.one_in(16) {
+        ours.state[8] = 0;
+    }
+    let state = State::of(&ours.state);
+    if !state.sound() || ours.lists.numbers.len() < state.shape.numbers() {
+        return ours;
+    }
+    let one = random.one_in(6);
+    let end = state.shape.vectors + state.entries;
+    for at in end - owners_damaged(random, state.entries)..end {
+        ours.lists.numbers[at] = if one { state.vectors.wrapping_sub(1) as u32 } else { owner(random, state.vectors) };
     }
     ours
 }

@@ -7,3 +7,4 @@ pub mod make;
 pub mod pool;
 pub mod random_calls;
 pub mod short;
+pub mod take_back;

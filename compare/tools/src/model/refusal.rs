@@ -1,4 +1,4 @@
-//! 'Refusals and what they leave' of document 01: the rows of each call, in their order.
+//! 'Refusals and what they leave' of document 01, and row 19 of document 02 (K3): the rows of each call, in their order.
 use crate::ffi::{Added, Asked};
 use crate::ours::{Lists, Shape};
 
@@ -36,7 +36,7 @@ impl State {
     }
 }
 
-/// The lengths of the lists that are lent; an add is lent no work list.
+/// The lengths of the lists that are lent; an add or a taking back is lent no work list.
 #[derive(Clone, Copy)]
 pub struct Lent {
     pub floats: usize,
@@ -76,6 +76,16 @@ pub fn add(state: &State, lent: Lent, added: &Added) -> Option<u32> {
         sum != added.bytes.len() => 9,
         state.vectors == state.shape.vectors => 10,
         state.entries + added.lengths.len() > state.shape.entries => 11,
+    }
+    None
+}
+
+pub fn take_back(state: &State, lent: Lent) -> Option<u32> {
+    first! {
+        !state.sound() => 4,
+        short(&state.shape, lent, false) => 3,
+        state.built == 1 => 5,
+        state.vectors == 0 => 19,
     }
     None
 }

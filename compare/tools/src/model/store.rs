@@ -1,4 +1,5 @@
-//! A search over the numbers of a store, whatever they are ('Search' and 'Search's 15' of document 01).
+//! Calls over the numbers of a store, whatever they are: a search ('Search' and 'Search's 15' of document 01), and how many entries a taking back takes
+//! (K3 of document 02).
 use super::label::Filter;
 use super::number::{distance, normalized};
 use super::refusal::State;
@@ -88,6 +89,25 @@ impl View<'_> {
             waiting.push(self.near(query, child));
         }
         Ok(())
+    }
+
+    /// The owners of the entries held.
+    fn owners(&self) -> &[u32] {
+        let from = self.state.shape.vectors;
+        &self.store.numbers[from..from + self.state.entries]
+    }
+
+    /// The entries at the end whose owner is the last vector: those behind the last one that has another. There is a vector.
+    pub fn taken_back(&self) -> usize {
+        let last = self.state.vectors - 1;
+        let kept = self.owners().iter().rposition(|&owner| owner as usize != last);
+        self.state.entries - kept.map_or(0, |entry| entry + 1)
+    }
+
+    /// Whether one of the entries that stay has the last vector as its owner too.
+    pub fn kept_of_last(&self) -> bool {
+        let kept = self.state.entries - self.taken_back();
+        self.owners()[..kept].iter().any(|&owner| owner as usize == self.state.vectors - 1)
     }
 
     pub fn walk(&self, query: &[f32], wanted: Option<u64>) -> Result<Walk, Damaged> {

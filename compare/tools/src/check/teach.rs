@@ -1,0 +1,131 @@
+//! Teaching a case: its documents in order, and in between others that are taken back (K3 of document 02). Every call is compared with a model that keeps
+//! the states before the adds that stand, and in each place of the lists what the last add wrote there.
+use super::case::need;
+use super::layout::{put_one, same_lists};
+use crate::case::{Case, Doc};
+use crate::generate::labels;
+use crate::generate::vectors::Maker;
+use crate::model::label::hash_bytes;
+use crate::model::refusal::{self, Lent, State};
+use crate::ours::{added, Lists, Ours};
+use crate::random::Random;
+
+const JUNK: u32 = 0x3F12_3456;
+
+/// An index that is being taught, and what the model says of it.
+pub struct Taught {
+    pub ours: Ours,
+    pub lists: Lists,
+    state: [usize; 12],
+    before: Vec<[usize; 12]>,
+    pub taken_back: usize,
+}
+
+impl Taught {
+    fn new(case: &Case) -> Result<Taught, String> {
+        let lists = Lists::new(case.shape, JUNK, 3);
+        let ours = Ours::new(case.shape, lists.clone()).map_err(|n| format!("new refused {n}"))?;
+        Ok(Taught { state: ours.state, ours, lists, before: Vec::new(), taken_back: 0 })
+    }
+
+    /// Whether the state and every place are as the model has them.
+    fn same(&self, call: &str) -> Result<(), String> {
+        let held = self.before.len();
+        need(self.ours.state == self.state, || format!("{call}, {held} held: {:?}, not {:?}", self.ours.state, self.state))?;
+        let same = same_lists(&self.ours.lists, &self.lists) && self.ours.lists.work == self.lists.work;
+        need(same, || format!("{call}, {held} held: a list differs from the model"))
+    }
+
+    /// Adds a document, where there is room for it; otherwise nothing changes.
+    fn add(&mut self, doc: &Doc) -> Result<(), String> {
+        let (state, given) = (State::of(&self.state), added(doc.id, &doc.vector, &doc.labels));
+        let expected = refusal::add(&state, Lent::of(&self.lists), &given);
+        let got = self.ours.add(doc.id, &doc.vector, &doc.labels).err();
+        need(got == expected, || format!("add: refused {got:?}, not {expected:?}"))?;
+        if expected.is_some() {
+            return self.same("refused add");
+        }
+        put_one(&state, &mut self.lists, &given);
+        self.before.push(self.state);
+        self.state[8] += 1;
+        self.state[9] += doc.labels.len();
+        Ok(())
+    }
+
+    /// Takes the last add back: the state is the one before it, and no list changes. Nothing is held: 19.
+    fn take_back(&mut self) -> Result<(), String> {
+        let expected = refusal::take_back(&State::of(&self.state), Lent::of(&self.lists));
+        let got = self.ours.take_back().err();
+        need(got == expected, || format!("take back: refused {got:?}, not {expected:?}"))?;
+        if let Some(state) = self.before.pop() {
+            self.state = state;
+            self.taken_back += 1;
+        }
+        self.same("take back")
+    }
+
+    /// Takes back some of the documents held, adds others and takes them back, in any order, and adds the former again.
+    fn detour(&mut self, random: &mut Random, case: &Case, held: &[Doc]) -> Result<(), String> {
+        let again = &held[held.len() - depth(random, held.len())..];
+        for _ in again {
+            self.take_back()?;
+        }
+        let floor = self.before.len();
+        for _ in 0..random.from(1, 8) {
+            if random.one_in(3) && (self.before.len() > floor || floor == 0) {
+                self.take_back()?;
+            } else {
+                self.add(&other(random, case))?;
+            }
+        }
+        while self.before.len() > floor {
+            self.take_back()?;
+        }
+        again.iter().try_for_each(|doc| self.add(doc))
+    }
+}
+
+/// How many of the documents held are taken back and added again: none in most cases.
+fn depth(random: &mut Random, held: usize) -> usize {
+    match random.below(6) {
+        0 => random.from(1, 3).min(held),
+        1 => held.min(12),
+        _ => 0,
+    }
+}
+
+/// A document to be taken back: any, with an id of the case or not, or one of the case's own.
+fn other(random: &mut Random, case: &Case) -> Doc {
+    let own = random.of(&case.docs);
+    if random.one_in(4) {
+        return own.clone();
+    }
+    let id = if random.one_in(2) { own.id } else { random.bits() as u32 };
+    let maker = Maker::new(random, case.shape.dimension);
+    let (pool, most) = (labels::pool(random), random.below(5));
+    Doc { id, vector: maker.vector(random), labels: labels::some(random, &pool, most, true) }
+}
+
+/// Random numbers that a document decides, so that what is taught after it stays when others are left out.
+fn of(doc: &Doc) -> Random {
+    let mut bytes = doc.id.to_le_bytes().to_vec();
+    doc.vector.iter().for_each(|x| bytes.extend(x.to_bits().to_le_bytes()));
+    doc.labels.iter().for_each(|label| bytes.extend(label.bytes()));
+    Random::new(hash_bytes(&bytes))
+}
+
+/// Our index with everything added, and what the model says of its lists. There is a detour behind about twelve documents, or two in five of them.
+pub fn teach(case: &Case) -> Result<Taught, String> {
+    let mut taught = Taught::new(case)?;
+    taught.take_back()?;
+    for (i, doc) in case.docs.iter().enumerate() {
+        taught.add(doc)?;
+        let mut random = of(doc);
+        if random.below(case.docs.len().max(30)) < 12 {
+            taught.detour(&mut random, case, &case.docs[..=i])?;
+        }
+    }
+    taught.same("adds")?;
+    need(taught.before.len() == case.docs.len(), || "a document was refused".into())?;
+    Ok(taught)
+}
