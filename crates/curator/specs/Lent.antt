@@ -17,7 +17,7 @@ use Rattle.curator.specs.declared.VectorCheck.{VectorCheck}
 use Rattle.curator.specs.declared.VectorCheck.the-variants as VectorCheck′
 use Rattle.curator.specs.declared.CuratorIndex.{CuratorIndex}
 use Rattle.curator.specs.Limits.{stateSound, indexShape}
-use Rattle.curator.specs.Rows.{firstOf, stateRow, addRows, takeBackRows}
+use Rattle.curator.specs.Rows.{Row, firstOf, stateRow, unbuiltRows, addRows, takeBackRows}
 use Rattle.curator.specs.Calls.{factsOf}
 use Rattle.curator.specs.Arguments.{AddCall}
 
@@ -30,6 +30,10 @@ adding document vector lengths bytes =
 abbrev pub withSquares : Check → Float → VectorCheck
 withSquares Check′.Fine squares = VectorCheck′.Squares squares
 withSquares (Check′.Refused r) squares = VectorCheck′.Refused r
+
+-- rows 4, 3 and 5, by the lengths of the lists: those that add and take back have first
+abbrev pub earlyRows : CuratorIndex → Lengths → List Row
+earlyRows index lent = stateRow (stateSound index) ∷ unbuiltRows (factsOf index) lent
 
 -- what the rows of an add come to, by the lengths of the lists
 abbrev pub addChecked : CuratorIndex → Lengths → AddCall → VectorCheck

@@ -3,7 +3,7 @@
 -- and the call's arguments, list lengths among them, so that the same rows can be asked of a state and of the model of all calls.
 use Prim.Native.Nat.{ℕ, _+_}
 use mathlib.Core.Bool.{Bool, not, _&&_, _||_, cond}
-use mathlib.Core.List.{List, [], _∷_}
+use mathlib.Core.List.{List, [], _∷_, _++_}
 use lib.Dec.{ltb, eqb}
 use lib.ListN.{length}
 use Rattle.lists.specs.Lists.{total}
@@ -56,23 +56,26 @@ newRows dimension params capacities =
 abbrev pub stateRow : Bool → Row
 stateRow sound = row (not sound) (State InvalidState)
 
--- 'Add 4, 3, 5, 7, 8, 9, 10, 11', after row 4; add is lent no work list
+-- rows 3 and 5, which add and take back have first after row 4; they are lent no work list
+abbrev pub unbuiltRows : Facts → Lengths → List Row
+unbuiltRows f lent = row (storeShort (f .shape) lent) (Store ListTooShort) ∷ row (f .built) (State AlreadyBuilt) ∷ []
+
+-- 'Add 4, 3, 5, 7, 8, 9, 10, 11', after row 4
 unfoldable pub addRows : Facts → Lengths → AddCall → List Row
 unfolding storeShort allFinite total
 addRows f lent call =
-    row (storeShort (f .shape) lent) (Store ListTooShort) ∷ row (f .built) (State AlreadyBuilt)
-    ∷ row (not (eqb (length (call .vector)) (f .shape .dimension))) (Input DimensionMismatch)
+    unbuiltRows f lent
+    ++ (row (not (eqb (length (call .vector)) (f .shape .dimension))) (Input DimensionMismatch)
     ∷ row (not (allFinite (call .vector))) (Input NonFiniteInput)
     ∷ row (not (eqb (total (call .lengths)) (length (call .bytes)))) (Input LabelLengths)
     ∷ row (eqb (f .vectors) (f .shape .vectors)) (Store VectorsFull)
     ∷ row (ltb (f .shape .entries) (f .entries + length (call .lengths))) (Store EntriesFull)
-    ∷ []
+    ∷ [])
 
 -- 02, K3: 'Taking back is lent what add is, checks 4, 3, 5, and then returns 19 when no vector is held', after row 4
 unfoldable pub takeBackRows : Facts → Lengths → List Row
 unfolding storeShort
-takeBackRows f lent =
-    row (storeShort (f .shape) lent) (Store ListTooShort) ∷ row (f .built) (State AlreadyBuilt) ∷ row (eqb (f .vectors) 0) (State NoVectorHeld) ∷ []
+takeBackRows f lent = unbuiltRows f lent ++ (row (eqb (f .vectors) 0) (State NoVectorHeld) ∷ [])
 
 -- 'Build 4, 3; a built index then succeeds unchanged; then 12, 15, 13', after row 4. Whether an owner is not below n (15) and whether the defined
 -- tree has more than M nodes (13) are handed in.

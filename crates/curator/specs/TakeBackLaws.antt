@@ -40,6 +40,12 @@ use Rattle.curator.specs.OutcomeLaws.{carried-is, refused-is}
 
 -- ---- the longest suffix of which every element is a number
 
+-- of the owners 1, 0, 1, 1 the last two are at the end, though three are 1; at the end of these none is 0; of one owner alone all are
+trial-at-end :
+    (countAtEnd 1 (1 ∷ 0 ∷ 1 ∷ 1 ∷ []) ≡ 2) × (countAtEnd 0 (1 ∷ 0 ∷ 1 ∷ 1 ∷ []) ≡ 0) × (countAtEnd 1 (1 ∷ 1 ∷ []) ≡ 2) × (countAtEnd 1 [] ≡ 0)
+unfolding countAtEnd
+trial-at-end = (refl, refl, refl, refl)
+
 abbrev pub allAre : ℕ → List ℕ → Bool
 allAre x l = allPass (λ z. eqb z x) l
 

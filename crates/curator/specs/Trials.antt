@@ -14,7 +14,7 @@ use Rattle.settings.specs.declared.Check.the-variants.{Fine}
 use Rattle.curator.specs.declared.CuratorIndex.{CuratorIndex}
 use Rattle.curator.specs.declared.Changed.{Changed}
 use Rattle.curator.specs.Arguments.{AddCall}
-use Rattle.curator.specs.Calls.{countAtEnd, lastEntries, fresh}
+use Rattle.curator.specs.Calls.{lastEntries, fresh}
 use Rattle.curator.specs.Changes.{created, addCheck, AddsBy, Adds, takeBackCheck}
 use Rattle.settings.specs.Limits.{usual}
 use Rattle.settings.specs.Refusals.{checkNumber}
@@ -71,12 +71,6 @@ unfolding Adds AddsBy addCheck trialIndex trialStore trialAdd
 trial-infinite answer store′ (refused, same) = (ap changedNumber (refused-is _ _ refused), same)
 
 -- ---- taking back
-
--- of the owners 1, 0, 1, 1 the last two are at the end, though three are 1; at the end of these none is 0; of one owner alone all are
-trial-at-end :
-    (countAtEnd 1 (1 ∷ 0 ∷ 1 ∷ 1 ∷ []) ≡ 2) × (countAtEnd 0 (1 ∷ 0 ∷ 1 ∷ 1 ∷ []) ≡ 0) × (countAtEnd 1 (1 ∷ 1 ∷ []) ≡ 2) × (countAtEnd 1 [] ≡ 0)
-unfolding countAtEnd
-trial-at-end = (refl, refl, refl, refl)
 
 -- an index of one component with room for three vectors and four entries, so many of them held; it is built where it has a node
 heldIndex : ℕ → ℕ → ℕ → CuratorIndex

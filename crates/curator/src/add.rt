@@ -13,10 +13,11 @@ ghost use Rattle.curator.specs.Lent.{adding, addChecked, AddRoom, Vector
 ghost use Rattle.store.specs.Lent.{lent};
 use crate::CuratorIndex;
 use crate::VectorCheck;
+use crate::check;
 use crate::limits;
+use settings::Check;
 use settings::refusal::InputRefusal;
 use settings::refusal::Refusal;
-use settings::refusal::StateRefusal;
 use settings::refusal::StoreRefusal;
 use store::Counts;
 use store::Lengths;
@@ -55,14 +56,8 @@ pub fn add_check(
 ) -> VectorCheck
     ensures { λ r. ⌜ r ≡ addChecked index lent (adding 0 (vector .entry) (lengths .entry) (bytes .entry)) ⌝ }
 {
-    if !limits::state_sound(index) {
-        return VectorCheck::Refused(Refusal::State(StateRefusal::InvalidState));
-    }
-    if limits::shape_of(index).store_short(lent) {
-        return VectorCheck::Refused(Refusal::Store(StoreRefusal::ListTooShort));
-    }
-    if index.built {
-        return VectorCheck::Refused(Refusal::State(StateRefusal::AlreadyBuilt));
+    if let Check::Refused(refusal) = check::unbuilt_check(index, lent) {
+        return VectorCheck::Refused(refusal);
     }
     if vector.len() != index.dimension {
         return VectorCheck::Refused(Refusal::Input(InputRefusal::DimensionMismatch));

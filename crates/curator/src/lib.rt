@@ -4,6 +4,7 @@ ghost use Rattle.curator.specs.Lent.{adding};
 ghost use Rattle.store.specs.Lent.{lent};
 
 mod add;
+mod check;
 pub mod limits;
 mod take_back;
 

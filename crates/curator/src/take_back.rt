@@ -6,11 +6,10 @@ ghost use Rattle.lists.specs.Lists.{part};
 ghost use Rattle.curator.specs.Calls.{countAtEnd, shrunk};
 ghost use Rattle.curator.specs.Lent.{takeBackChecked};
 use crate::CuratorIndex;
-use crate::limits;
+use crate::check;
 use settings::Check;
 use settings::refusal::Refusal;
 use settings::refusal::StateRefusal;
-use settings::refusal::StoreRefusal;
 use store::Counts;
 use store::Lengths;
 
@@ -18,14 +17,8 @@ use store::Lengths;
 pub fn take_back_check(index: CuratorIndex, lent: Lengths) -> Check
     ensures { λ r. ⌜ r ≡ takeBackChecked index lent ⌝ }
 {
-    if !limits::state_sound(index) {
-        return Check::Refused(Refusal::State(StateRefusal::InvalidState));
-    }
-    if limits::shape_of(index).store_short(lent) {
-        return Check::Refused(Refusal::Store(StoreRefusal::ListTooShort));
-    }
-    if index.built {
-        return Check::Refused(Refusal::State(StateRefusal::AlreadyBuilt));
+    if let Check::Refused(refusal) = check::unbuilt_check(index, lent) {
+        return Check::Refused(refusal);
     }
     if index.counts.vectors == 0 {
         return Check::Refused(Refusal::State(StateRefusal::NoVectorHeld));
