@@ -23,58 +23,15 @@
 //! ```
 
 mod error;
+mod filter;
+mod params;
 mod sys;
 
 pub use error::RetrieveError;
+pub use filter::{pool, Filter};
+pub use params::{Capacities, CuratorParams};
 
 use std::cell::RefCell;
-
-/// The settings of an index beside its dimension.
-#[derive(Clone, Copy, Debug, PartialEq, Eq)]
-pub struct CuratorParams {
-    /// Children of a node, 1 to 64.
-    pub branching_factor: usize,
-    /// Vectors of a leaf, 0 to 4,096.
-    pub max_leaf_size: usize,
-    /// Nodes that a search may open, 0 to 65,537.
-    pub ef_search: usize,
-    /// 0 to 65,535; kept, and read by no build or search.
-    pub beam_width: usize,
-}
-
-impl Default for CuratorParams {
-    /// The usual settings: 16, 128, 256 and 4.
-    fn default() -> Self {
-        Self {
-            branching_factor: 16,
-            max_leaf_size: 128,
-            ef_search: 256,
-            beam_width: 4,
-        }
-    }
-}
-
-/// How many vectors, label entries and nodes an index has room for.
-#[derive(Clone, Copy, Debug, PartialEq, Eq)]
-pub struct Capacities {
-    /// 1 to 4,096.
-    pub vectors: usize,
-    /// 0 to 16,384. A vector has one entry for each of its labels.
-    pub entries: usize,
-    /// 1 to 65,537.
-    pub nodes: usize,
-}
-
-impl Default for Capacities {
-    /// The largest.
-    fn default() -> Self {
-        Self {
-            vectors: 4_096,
-            entries: 16_384,
-            nodes: 65_537,
-        }
-    }
-}
 
 /// A hit: a document and its distance from the query.
 #[repr(C)]
@@ -99,32 +56,6 @@ impl Found {
     fn pairs(self) -> Vec<(u32, f32)> {
         self.hits.iter().map(|hit| (hit.id, hit.distance)).collect()
     }
-}
-
-/// A filter: 256 bits in four words. Each label sets two of the bits (or one, where both are the same). A label whose bits
-/// are not all set is nowhere below the filter's node; one whose bits are may be.
-pub type Filter = [u64; sys::FILTER];
-
-/// The pool of two filters: the bits of both. A region pools the filters of its gateways in any order, and pooling one again
-/// changes nothing.
-///
-/// ```
-/// let north = [0b0101, 0, 0, 1];
-/// let south = [0b0110, 0, 8, 0];
-/// assert_eq!(curator::pool(north, south), [0b0111, 0, 8, 1]);
-/// ```
-pub fn pool(mut filter: Filter, other: Filter) -> Filter {
-    // SAFETY: each pointer and count are those of one list, and the two are different.
-    let number = unsafe {
-        sys::curator_pool(
-            filter.as_mut_ptr(),
-            filter.len(),
-            other.as_ptr(),
-            other.len(),
-        )
-    };
-    debug_assert_eq!(number, 0, "both have four words");
-    filter
 }
 
 /// An index that owns its lists.

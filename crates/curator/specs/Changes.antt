@@ -125,7 +125,7 @@ unfoldable pub takeBackCheck : CuratorIndex → Store → Check
 unfolding firstOf stateSound takeBackRows
 takeBackCheck index store = firstOf (stateRow (stateSound index) ∷ takeBackRows (factsOf index) (lengthsOf store))
 
--- 02, K3: 'the last accepted add can be taken back': the state has one vector less, and its entries less
+-- 02, K3: 'the last accepted add can be taken back': the state has one vector less, and its entries at the end less
 unfoldable pub TakesBackBy : Check → CuratorIndex → Store → Changed → Type 0
 unfolding lastEntries
 TakesBackBy Check′.Fine index store answer = Succeeded (shrunk index (lastEntries index store)) answer

@@ -1,4 +1,4 @@
--- 01's number and values for every case of every answer: 0 where the call is answered, otherwise the refusal's.
+-- The number and values of every case of every answer: 0 where the call is answered, otherwise the refusal's.
 use Prim.Native.Nat.{ℕ}
 use mathlib.Core.Bool.{Bool, cond}
 use mathlib.Core.List.{List, [], _∷_}

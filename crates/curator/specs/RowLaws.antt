@@ -1,6 +1,6 @@
 -- Document 01, 'Refusals and what they leave': 'A refusal is returned in its row's case and in no other; where several cases hold, the earliest in
--- the order is returned.' Stated once over any list of rows, then for the numbers of `new` and `add`; of a build in BuildRowLaws, of the searches in
--- SearchRowLaws.
+-- the order is returned.' Stated once over any list of rows, then for the numbers of `new` and `add`; of a taking back in TakeBackLaws, of a build
+-- in BuildRowLaws, of the searches in SearchRowLaws.
 use Prim.Native.Nat.{ℕ, zero, suc, _<_}
 use mathlib.Core.Bool.{Bool, true, false, not, _&&_}
 use mathlib.Core.Path.{_≡_, refl, sym, ap, _∙_}
@@ -92,7 +92,7 @@ refusalAt [] i = Fine
 refusalAt (r ∷ rows) zero = Refused (r .refusal)
 refusalAt (r ∷ rows) (suc i) = refusalAt rows i
 
--- 01's numbers of some rows, in order
+-- the numbers of some rows, in order
 abbrev pub numbersOfRows : List Row → List ℕ
 numbersOfRows [] = []
 numbersOfRows (r ∷ rows) = number (r .refusal) ∷ numbersOfRows rows

@@ -114,7 +114,7 @@ impl CuratorIndex {
         }
     }
 
-    // Takes back the last vector that is held, with its entries. The lists are read only: the counts go down.
+    // Takes back the last vector that is held, with its entries at the end. The lists are read only: the counts go down.
     pub fn take_back(self, floats: &[f32], numbers: &[u32], hashes: &[u64]) -> Changed
         ensures { λ r. ⌜ TakesBack self (lent (floats .entry) (numbers .entry) (hashes .entry)) r ⌝ }
     {

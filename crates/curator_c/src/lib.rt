@@ -1,4 +1,4 @@
-// The index for C and Rust: each function returns 0, or document 01's number of the refusal. The state is a lent list of numbers.
+// The index for C and Rust: each function returns 0, or the number of the refusal. The state is a lent list of numbers.
 ghost use mathlib.Core.Path.{_≡_};
 ghost use Prim.Native.Nat.{_<_, _≤_, _^_};
 ghost use denote.Ref.{now};
@@ -102,7 +102,7 @@ pub extern "C" fn curator_add(
     }
 }
 
-// Takes back the last vector that is held, with its entries. The store is read only.
+// Takes back the last vector that is held, with its entries at the end. The store is read only.
 #[no_mangle]
 pub extern "C" fn curator_take_back(
     state: &mut [usize],

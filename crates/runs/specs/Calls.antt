@@ -12,9 +12,9 @@ pub data Change : Type 0 where
   take-back : Change
   build : Change
 
--- 'Its calls are add, build, filtered search and search'; 02, K3: 'Taking back may stand among demand 3's calls'; each with the fronts and the work list that it is lent. 'A call may be lent only the front of
--- a list': how much of each list of the store is lent. 'Work and answer lists may be others at each call, of any length and content.' An add or a taking back
--- is lent no work list: nothing looks at the one that stands here.
+-- 'Its calls are add, build, filtered search and search', and 'Taking back may stand among demand 3's calls' (02, K3); each with the fronts and the work list
+-- that it is lent. 'A call may be lent only the front of a list': how much of each list of the store is lent. 'Work and answer lists may be others at each
+-- call, of any length and content.' An add or a taking back is lent no work list: nothing looks at the one that stands here.
 pub data Call : Type 0 where
   change : Lengths → List ℕ → Change → Call
   search : Lengths → List ℕ → SearchCall → Call

@@ -106,9 +106,15 @@ pub too-many : expectations (sample 5 4) emptyModel (first ∷ second ∷ third 
 unfolding expectations ofBits fnvFrom fnvStep distance
 too-many = refl
 
+-- a run of any calls
+run-of : (list : List Call) → AllTyped list → (ends : List Ended) × Run (sample 5 5) list ends
+unfolding created
+run-of list t =
+    every-run (sample 5 5) (fresh 2 (sample 5 5 .params) (sample 5 5 .capacities)) (is-created 2 (sample 5 5 .params) (sample 5 5 .capacities) _ refl) list t
+
 -- ---- taking back
 
--- 9 is taught wrong, taken back and taught again, and so is 10 and left out; nothing can be taken back of an empty or a built index
+-- 9 is taught wrong, taken back and taught again, 10 is taught, taken back and left out; nothing can be taken back of an empty or a built index
 abbrev pub backs : Call
 backs = change fronts [] take-back
 
@@ -135,6 +141,14 @@ tested-back = refl
 pub premise-back : Premise (sample 5 5) callsBack
 premise-back = test-premise (sample 5 5) callsBack tested-back
 
+typed-back : AllTyped callsBack
+typed-back =
+    (tt, (omega arith, (omega arith, (tt, (omega arith, (omega arith, (omega arith, (tt, (tt, (tt, (tt, tt)))))))))))
+
+-- it has a run
+pub back-run : (ends : List Ended) × Run (sample 5 5) callsBack ends
+back-run = run-of callsBack typed-back
+
 -- ---- the premise, the types and a run
 
 tested : (ef : ℕ) → premiseTest (sample ef 5) emptyModel calls ≡ true
@@ -149,9 +163,7 @@ typed =
     (omega arith, (tt, (omega arith, (omega arith, (omega arith, (tt, (omega arith, (tt, (tt, (tt, tt))))))))))
 
 pub example-run : (ends : List Ended) × Run (sample 5 5) calls ends
-unfolding created
-example-run = every-run (sample 5 5) (fresh 2 (sample 5 5 .params) (sample 5 5 .capacities))
-    (is-created 2 (sample 5 5 .params) (sample 5 5 .capacities) _ refl) calls typed
+example-run = run-of calls typed
 
 -- so in every run the eighth call finds 7 and 9 and is whole
 eighth-expected : expected (sample 5 5) (modelFrom (sample 5 5) emptyModel (take 7 calls)) (searches 0 nan 4 label-a) ≡ hits (7 ∷ 9 ∷ []) (0 ∷ 0x3ecccccc ∷ []) 5 true

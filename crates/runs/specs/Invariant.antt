@@ -1,5 +1,6 @@
 -- Between a run and its model: the state is the model's, the lists hold the rows and, once built, the layout of their nodes. Every call keeps it and ends
--- as the model expects: the checks are the same, a refused call leaves all of it, an accepted one writes the same row, the same nodes, or nothing.
+-- as the model expects: the checks are the same, a refused call leaves all of it, an accepted one writes the same row, takes the same
+-- row back, writes the same nodes, or nothing.
 use mathlib.Core.Bool.{true, false≢true}
 use mathlib.Core.Path.{_≡_, _∙_}
 use Rattle.store.specs.Store.{Store}

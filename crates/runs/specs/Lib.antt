@@ -24,7 +24,7 @@ pub mod Due
 pub mod Search
 -- every step, and every run
 pub mod Reached
--- an accepted add and a taking back undo each other
+-- an accepted add is undone by a taking back
 pub mod Undone
 -- (a) and (b)
 pub mod Contents

@@ -66,6 +66,18 @@ same-held s m index store store′ e h h′ =
       entries = held-entries s m store h ∙ sym (held-entries s m store′ h′);
     })
 
+-- What is held is the model's alone: runs of other calls, from other lists, that come to one model have the same state and hold the same. So a taking back
+-- that comes later, after searches, refused calls, and adds that are taken back themselves, undoes the last add that still stands.
+pub same-model : (s : Setting) (calls calls′ : List Call) (ends ends′ : List Ended) (run : Run s calls ends) (run′ : Run s calls′ ends′)
+    → modelFrom s emptyModel calls ≡ modelFrom s emptyModel calls′
+    → (indexAfter (run .run) ≡ indexAfter (run′ .run)) × SameOfIndex (indexAfter (run .run)) (storeAfter (run .run)) (storeAfter (run′ .run))
+same-model s calls calls′ ends ends′ run run′ e =
+    let m = modelFrom s emptyModel calls in
+    let h : Invariant s m (indexAfter (run .run)) (storeAfter (run .run)) = reached s calls ends run in
+    let h′ : Invariant s m (indexAfter (run′ .run)) (storeAfter (run′ .run)) =
+    subst (λ (x : Model). Invariant s x (indexAfter (run′ .run)) (storeAfter (run′ .run))) (sym e) (reached s calls′ ends′ run′) in
+    (h .state ∙ sym (h′ .state), same-held s m (indexAfter (run .run)) (storeAfter (run .run)) (storeAfter (run′ .run)) (h .state) (h .held) (h′ .held))
+
 -- an accepted add leaves one row more, in a model that is not built
 added-row : (s : Setting) (m : Model) (fronts : Lengths) (work : ℕ) (call : AddCall) → changeCheck s m fronts work (add call) ≡ Check′.Fine
     → (changedBy (changeCheck s m fronts work (add call)) (add call) m ≡ withRow m (newRow call)) × (m .built ≡ false)

@@ -106,7 +106,7 @@ fn other(random: &mut Random, case: &Case) -> Doc {
     Doc { id, vector: maker.vector(random), labels: labels::some(random, &pool, most, true) }
 }
 
-/// Random numbers that a document decides, so that what is taught after it stays when others are left out.
+/// Random numbers that a document decides, so that a case is taught alike whenever it is run.
 fn of(doc: &Doc) -> Random {
     let mut bytes = doc.id.to_le_bytes().to_vec();
     doc.vector.iter().for_each(|x| bytes.extend(x.to_bits().to_le_bytes()));
