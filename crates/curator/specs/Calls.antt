@@ -1,13 +1,11 @@
 -- What a call is about: the facts of the state that its rows look at, what the store holds, the labels of an add, and the entries of a taking back.
-use Prim.Native.Nat.{ℕ, suc, _+_, _-_}
-use mathlib.Core.Bool.{true, false, cond}
-use mathlib.Core.List.{List, [], _∷_, map}
+use Prim.Native.Nat.{ℕ, _+_, _-_}
+use mathlib.Core.Bool.{true, false}
+use mathlib.Core.List.{List, map}
 use mathlib.Core.Path.{_≡_}
-use lib.Dec.{eqb}
 use lib.Ieee.{Float}
-use lib.ListN.{length}
 use Rattle.lists.specs.Lists.{part, pieces}
-use Rattle.lists.specs.Tests.{allPass}
+use Rattle.lists.specs.Suffix.{countAtEnd}
 use Rattle.label.specs.Fnv.{fnv}
 use Rattle.store.specs.Store.{Store, ownersAt}
 use Rattle.cluster.specs.Vectors.{vectorsIn}
@@ -48,12 +46,6 @@ pub record SameOfIndex (index : CuratorIndex) (s t : Store) : Type 0 where
   pub vectors : heldVectors index s ≡ heldVectors index t
   pub documents : heldDocuments index s ≡ heldDocuments index t
   pub entries : heldEntries index s ≡ heldEntries index t
-
--- how many elements at the end of a list are a number: the longest suffix of which every element is
-unfoldable pub countAtEnd : ℕ → List ℕ → ℕ
-unfolding allPass
-countAtEnd x [] = 0
-countAtEnd x (y ∷ l) = cond (allPass (λ z. eqb z x) (y ∷ l)) (suc (length l)) (countAtEnd x l)
 
 -- 02, K3: 'The entries taken back are those at the end whose owner is the last vector.' How many they are, for any owners
 unfoldable pub lastEntries : CuratorIndex → Store → ℕ

@@ -6,4 +6,5 @@ pub mod Frame
 pub mod Writes
 pub mod Maps
 pub mod Counting
+pub mod Suffix
 pub mod Partition

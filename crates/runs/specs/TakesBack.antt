@@ -22,10 +22,11 @@ use Rattle.curator.specs.declared.Changed.the-variants as Changed′
 use Rattle.curator.specs.Outcome.{changedNumber}
 use Rattle.settings.specs.Refusals.{checkNumber}
 use Rattle.curator.specs.Rows.{takeBackRows}
-use Rattle.curator.specs.Calls.{countAtEnd, lastEntries, heldEntries, shrunk}
+use Rattle.lists.specs.Suffix.{countAtEnd, at-end-written}
+use Rattle.curator.specs.Calls.{lastEntries, heldEntries, shrunk}
 use Rattle.curator.specs.Changes.{takeBackCheck, TakesBackBy, TakesBack}
 use Rattle.curator.specs.OutcomeLaws.{refused-is, is-refused, carried-is, is-carried}
-use Rattle.curator.specs.TakeBackLaws.{CanTakeBack, can-take-back, at-end-written}
+use Rattle.curator.specs.TakeBackLaws.{CanTakeBack, can-take-back}
 use Rattle.runs.specs.Calls.{take-back}
 use Rattle.runs.specs.Model.{Setting, Model, ModelRow, noRow, struck, rowVectors, rowHashes, ownersFrom, rowEntries, modelFacts, nodeCount, changeRows, changeCheck, carriedOut, changedBy}
 use Rattle.runs.specs.Run.{nextIndex}

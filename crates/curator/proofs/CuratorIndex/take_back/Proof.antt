@@ -13,11 +13,12 @@ use Rattle.store.specs.Lent.{lengthsOf, lent}
 use Rattle.settings.specs.declared.Check.the-variants.{Fine}
 use Rattle.curator.specs.declared.CuratorIndex.{CuratorIndex}
 use Rattle.curator.specs.declared.Changed.the-variants.{Index}
-use Rattle.curator.specs.Calls.{countAtEnd, lastEntries, heldEntries, shrunk}
+use Rattle.lists.specs.Suffix.{countAtEnd, at-end-few}
+use Rattle.curator.specs.Calls.{lastEntries, heldEntries, shrunk}
 use Rattle.curator.specs.Changes.{takeBackCheck, TakesBackBy}
 use Rattle.curator.specs.Limits.{indexShape}
 use Rattle.curator.specs.OutcomeLaws.{is-refused, is-carried}
-use Rattle.curator.specs.TakeBackLaws.{CanTakeBack, can-take-back, takes-back-by, at-end-few}
+use Rattle.curator.specs.TakeBackLaws.{CanTakeBack, can-take-back, takes-back-by}
 use Rattle.curator.proofs.CuratorIndex.take_back.Statement.{statement}
 use Rattle.curator.proofs.CuratorIndex.take_back.Tie as tie
 

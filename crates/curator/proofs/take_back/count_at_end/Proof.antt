@@ -8,7 +8,7 @@ use borrow.Author.Tests.{eq-eqb, ne-eqb}
 use lib.ListN.{length, getD, drop, drop-of-length-le}
 use lib.Seq.{drop-cons}
 use Rattle.lists.specs.Tests.{allPass-nil, allPass-cons}
-use Rattle.curator.specs.TakeBackLaws.{allAre, at-end-all, at-end-behind}
+use Rattle.lists.specs.Suffix.{allAre, at-end-all, at-end-behind}
 use Rattle.curator.proofs.take_back.count_at_end.Statement.{statement}
 use Rattle.curator.proofs.take_back.count_at_end.Tie as tie
 

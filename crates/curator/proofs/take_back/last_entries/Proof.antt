@@ -5,7 +5,7 @@ use native.Mathlib.Omega.{arith}
 use borrow.Author.Needs.{needs}
 use denote.Ref.{now}
 use Rattle.lists.specs.Lists.{part}
-use Rattle.curator.specs.Calls.{countAtEnd}
+use Rattle.lists.specs.Suffix.{countAtEnd}
 use Rattle.curator.proofs.take_back.last_entries.Statement.{statement}
 use Rattle.curator.proofs.take_back.last_entries.Tie as tie
 
