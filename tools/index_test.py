@@ -69,9 +69,9 @@ def refusal(state, sizes, vector, lengths, label_bytes):
     return first(early_rows(state, sizes) + [
         (7, len(vector) != 2),
         (8, not all(math.isfinite(x) for x in vector)),
-        (9, sum(lengths) != len(label_bytes)),
+        (9, len(lengths) % 2 == 1 or sum(lengths) != len(label_bytes)),
         (10, vectors == 2),
-        (11, entries + len(lengths) > 2),
+        (11, entries + len(lengths) // 2 > 2),
     ])
 
 
@@ -87,14 +87,14 @@ def print_add(state, sizes, vector, lengths=b"", label_bytes=b""):
         print(f"{number} ")
     else:
         vectors, entries = state[0], state[1]
-        print(f"0 {vectors + 1} {entries + len(lengths)} ")
+        print(f"0 {vectors + 1} {entries + len(lengths) // 2} ")
         floats[2 * vectors : 2 * vectors + 2] = normalized(vector)
         numbers[vectors] = 77
         start = 0
-        for place, length in enumerate(lengths):
+        for place, (first, second) in enumerate(zip(lengths[::2], lengths[1::2])):
             numbers[2 + entries + place] = vectors
-            hashes[entries + place] = fnv(label_bytes[start : start + length])
-            start += length
+            hashes[entries + place] = fnv(label_bytes[start : start + first + second])
+            start += first + second
     print("".join(bits(x) + " " for x in floats))
     print("".join(f"{n} " for n in numbers))
     print("".join("%016x " % h for h in hashes))
@@ -131,12 +131,14 @@ def main():
     for given in [[3.0], [nan, nan, nan], [greatest, 0.0], [f32(1e30), f32(-1e30)], [0.0, least], [infinity, 0.0], [0.0, -infinity]]:
         print_add(fresh, full, given)
     print_add(fresh, full, [0.0, nan], b"\1", b"")
-    for lengths, label_bytes in [(b"\1", b""), (b"\1", b"a"), (b"\1", b"ab"), (b"\1\0", b"a")]:
+    for lengths, label_bytes in [(b"\1", b"a"), (b"\0", b""), (b"\1\0", b""), (b"\1\0", b"ab"), (b"\1\0", b"a"), (b"\0\1", b"a"), (b"\1\1", b"ab"),
+                                 (b"\2\0", b"ab"), (b"\1\0\0\0", b"a"), (b"\1\1\0", b"ab")]:
         print_add(fresh, full, vector, lengths, label_bytes)
     print_add((2, 0, 0, False), full, vector, b"", b"a")
-    for state, lengths, label_bytes in [((1, 0, 0, False), b"", b""), ((2, 0, 0, False), b"", b""), ((2, 2, 0, False), b"\1", b"a"),
-                                        ((1, 2, 0, False), b"", b""), ((1, 1, 0, False), b"\2", b"ab"), ((1, 1, 0, False), b"\1\1", b"ab"),
-                                        (fresh, b"\0\0\0", b"")]:
+    print_add((2, 0, 0, False), full, vector, b"\1", b"a")
+    for state, lengths, label_bytes in [((1, 0, 0, False), b"", b""), ((2, 0, 0, False), b"", b""), ((2, 2, 0, False), b"\1\0", b"a"),
+                                        ((1, 2, 0, False), b"", b""), ((1, 1, 0, False), b"\1\1", b"ab"),
+                                        ((1, 1, 0, False), b"\1\0\1\0", b"ab"), (fresh, bytes(6), b"")]:
         print_add(state, full, vector, lengths, label_bytes)
 
     sizes = (8, 15, 6)

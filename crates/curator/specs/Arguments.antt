@@ -1,17 +1,24 @@
 -- What the calls bring beside the store and the work list.
 use Prim.Native.Nat.{ℕ}
+use mathlib.Core.Bool.{Bool}
 use mathlib.Core.List.{List}
 use lib.Ieee.{Float}
 use lib.ListN.{length}
+use Rattle.label.specs.Names.{namesOf, lengthsFit}
 
--- what an add brings: document id, vector, label lengths and label bytes
+-- what an add brings: document id, vector, whether the lengths part the label bytes into names, and the names, each joined from its two parts
 pub record AddCall : Type 0 where
   pub document : ℕ
   pub vector : List Float
-  pub lengths : List ℕ
-  pub bytes : List ℕ
+  pub parted : Bool
+  pub names : List (List ℕ)
 
--- what a search asks for: every vector, or those with a label, which is any bytes
+-- as it is called, with label lengths and label bytes
+abbrev pub addOf : ℕ → List Float → List ℕ → List ℕ → AddCall
+addOf document vector lengths bytes =
+    record { document = document; vector = vector; parted = lengthsFit lengths (length bytes); names = namesOf lengths bytes }
+
+-- what a search asks for: every vector, or those with a label, which is any bytes, joined from its two parts
 pub data Asked : Type 0 where
   everything : Asked
   labelled : List ℕ → Asked

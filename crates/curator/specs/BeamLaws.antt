@@ -114,7 +114,7 @@ adds-beam beam index store call answer store′ h g adds =
     by : (check : Check) → AddsBy check index store call answer store′
         → AddsBy check (withBeam beam index) store call (answerWithBeam beam answer) store′
     by Fine (e, w) = (
-      is-carried _ _ (ap (answerWithBeam beam) (carried-is (grown index (length (call .lengths))) answer e)),
+      is-carried _ _ (ap (answerWithBeam beam) (carried-is (grown index (length (call .names))) answer e)),
       record { stored = w .stored; normalized = w .normalized; floats = w .floats; numbers = w .numbers; hashes = w .hashes },
     )
     by (Refused r) (e, same) = (is-refused r _ (ap (answerWithBeam beam) (refused-is r answer e)), same)

@@ -1,12 +1,11 @@
--- What a call is about: the facts of the state that its rows look at, what the store holds, the labels of an add, and the entries of a taking back.
+-- What a call is about: the facts of the state that its rows look at, what the store holds, and the entries of a taking back.
 use Prim.Native.Nat.{ℕ, _+_, _-_}
 use mathlib.Core.Bool.{true, false}
-use mathlib.Core.List.{List, map}
+use mathlib.Core.List.{List}
 use mathlib.Core.Path.{_≡_}
 use lib.Ieee.{Float}
-use Rattle.lists.specs.Lists.{part, pieces}
+use Rattle.lists.specs.Lists.{part}
 use Rattle.lists.specs.Suffix.{countAtEnd}
-use Rattle.label.specs.Fnv.{fnv}
 use Rattle.store.specs.Store.{Store, ownersAt}
 use Rattle.cluster.specs.Vectors.{vectorsIn}
 use Rattle.tree.specs.Tree.{Splitting}
@@ -20,11 +19,6 @@ use Rattle.curator.specs.Rows.{Facts}
 abbrev pub factsOf : CuratorIndex → Facts
 factsOf index =
     record { shape = indexShape index; vectors = index .counts .vectors; entries = index .counts .entries; built = index .built }
-
--- each label's hash: 'lengths are a list of bytes', and cut the labels from the label bytes
-unfoldable pub hashesOfLabels : List ℕ → List ℕ → List ℕ
-unfolding pieces fnv
-hashesOfLabels lengths bytes = map fnv (pieces lengths bytes)
 
 -- the vectors, their document ids, and the entries, that a store holds
 unfoldable pub heldVectors : CuratorIndex → Store → List (List Float)

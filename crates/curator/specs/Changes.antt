@@ -31,7 +31,8 @@ use Rattle.curator.specs.Limits.{stateSound, indexShape}
 use Rattle.store.specs.Lent.{lengthsOf}
 use Rattle.curator.specs.Arguments.{AddCall}
 use Rattle.curator.specs.Rows.{firstOf, stateRow, newRows, addRows, takeBackRows, buildRows}
-use Rattle.curator.specs.Calls.{factsOf, hashesOfLabels, heldVectors, heldEntries, lastEntries, splittingOf, fresh, grown, shrunk, builtWith}
+use Rattle.label.specs.Names.{hashesOfLabels}
+use Rattle.curator.specs.Calls.{factsOf, heldVectors, heldEntries, lastEntries, splittingOf, fresh, grown, shrunk, builtWith}
 
 -- ---- free parts
 
@@ -106,12 +107,12 @@ pub record Wrote (index : CuratorIndex) (store : Store) (call : AddCall) (store�
   pub numbers :
       store′ .numbers
       ≡ sets (set (store .numbers) (index .counts .vectors) (call .document)) (ownersAt (indexShape index) + index .counts .entries)
-      (replicate (length (call .lengths)) (index .counts .vectors))
-  pub hashes : store′ .hashes ≡ sets (store .hashes) (index .counts .entries) (hashesOfLabels (call .lengths) (call .bytes))
+      (replicate (length (call .names)) (index .counts .vectors))
+  pub hashes : store′ .hashes ≡ sets (store .hashes) (index .counts .entries) (hashesOfLabels (call .names))
 
 unfoldable pub AddsBy : Check → CuratorIndex → Store → AddCall → Changed → Store → Type 0
 AddsBy Check′.Fine index store call answer store′ =
-    Succeeded (grown index (length (call .lengths))) answer × Wrote index store call store′
+    Succeeded (grown index (length (call .names))) answer × Wrote index store call store′
 AddsBy (Check′.Refused r) index store call answer store′ = ChangeRefused r answer × (store′ ≡ store)
 
 -- the whole result of an add: state, store and call at entry; answer and store at exit

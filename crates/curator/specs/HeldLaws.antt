@@ -20,11 +20,12 @@ use Rattle.settings.specs.declared.Check.{Check}
 use Rattle.settings.specs.declared.Check.the-variants.{Fine, Refused}
 use Rattle.curator.specs.declared.CuratorIndex.{CuratorIndex}
 use Rattle.curator.specs.AddLaws.{add-facts}
-use Rattle.curator.specs.Calls.{factsOf, hashesOfLabels, heldVectors, heldDocuments, heldEntries, SameOfIndex, grown}
+use Rattle.label.specs.Names.{hashesOfLabels}
+use Rattle.curator.specs.Calls.{factsOf, heldVectors, heldDocuments, heldEntries, SameOfIndex, grown}
 use Rattle.store.specs.Lent.{lengthsOf}
 use Rattle.curator.specs.Changes.{addCheck, Wrote, AddsBy, Adds}
 use Rattle.curator.specs.Arguments.{AddCall}
-use Rattle.curator.specs.LabelLaws.{length-hashesOfLabels}
+use Rattle.label.specs.NameLaws.{length-hashesOfLabels}
 use Rattle.curator.specs.Lent.{AddRoom}
 use Rattle.curator.specs.Limits.{stateSound, indexShape}
 use Rattle.curator.specs.Rows.{firstOf, stateRow, addRows}
@@ -79,7 +80,7 @@ module _ (index : CuratorIndex) (store : Store) (call : AddCall) (store′ : Sto
       omega (arith, room .long .floats, mul-comm parts (index .dimension))
 
   pub vectors-grown :
-      heldVectors (grown index (length (call .lengths))) store′ ≡ heldVectors index store ++ (wrote .stored ∷ [])
+      heldVectors (grown index (length (call .names))) store′ ≡ heldVectors index store ++ (wrote .stored ∷ [])
   unfolding heldVectors
   vectors-grown =
       ap (λ (l : List Float). map (vectorAt (index .dimension) l) (countFrom 0 (index .counts .vectors + 1))) (wrote .floats)
@@ -88,7 +89,7 @@ module _ (index : CuratorIndex) (store : Store) (call : AddCall) (store′ : Sto
       vectors-fit
 
   pub documents-grown :
-      heldDocuments (grown index (length (call .lengths))) store′ ≡ heldDocuments index store ++ (call .document ∷ [])
+      heldDocuments (grown index (length (call .names))) store′ ≡ heldDocuments index store ++ (call .document ∷ [])
   unfolding heldDocuments
   documents-grown =
       let h = room .vectors in
@@ -96,19 +97,19 @@ module _ (index : CuratorIndex) (store : Store) (call : AddCall) (store′ : Sto
       ap (part 0 (index .counts .vectors + 1)) (wrote .numbers)
       ∙ part-sets-before 0 (index .counts .vectors + 1) (set (store .numbers) (index .counts .vectors) (call .document))
       (ownersAt (indexShape index) + index .counts .entries)
-      (replicate (length (call .lengths)) (index .counts .vectors))
+      (replicate (length (call .names)) (index .counts .vectors))
       (omega arith)
       ∙ ap (λ (k : ℕ). take k (set (store .numbers) (index .counts .vectors) (call .document))) (add-one (index .counts .vectors))
       ∙ take-suc-set (store .numbers) (index .counts .vectors) (call .document) fits
 
   pub owners-grown :
-      heldEntries (grown index (length (call .lengths))) store′ .owners
-      ≡ heldEntries index store .owners ++ replicate (length (call .lengths)) (index .counts .vectors)
+      heldEntries (grown index (length (call .names))) store′ .owners
+      ≡ heldEntries index store .owners ++ replicate (length (call .names)) (index .counts .vectors)
   unfolding heldEntries
   owners-grown =
-      let owners = replicate (length (call .lengths)) (index .counts .vectors) in
+      let owners = replicate (length (call .names)) (index .counts .vectors) in
       let numbers = set (store .numbers) (index .counts .vectors) (call .document) in
-      let many : length owners ≡ length (call .lengths) = length-replicate (length (call .lengths)) (index .counts .vectors) in
+      let many : length owners ≡ length (call .names) = length-replicate (length (call .names)) (index .counts .vectors) in
       let wide : length numbers ≡ length (store .numbers) = length-set (store .numbers) (index .counts .vectors) (call .document) in
       let start = ownersAt (indexShape index) in
       let fits : start + index .counts .entries + length owners ≤ length numbers = omega (arith, room .long .numbers, room .entries) in
@@ -118,22 +119,22 @@ module _ (index : CuratorIndex) (store : Store) (call : AddCall) (store′ : Sto
       (part-set-before start (index .counts .entries) (store .numbers) (index .counts .vectors) (call .document) (room .vectors))
 
   pub hashes-grown :
-      heldEntries (grown index (length (call .lengths))) store′ .hashes
-      ≡ heldEntries index store .hashes ++ hashesOfLabels (call .lengths) (call .bytes)
+      heldEntries (grown index (length (call .names))) store′ .hashes
+      ≡ heldEntries index store .hashes ++ hashesOfLabels (call .names)
   unfolding heldEntries
   hashes-grown =
-      let hashes = hashesOfLabels (call .lengths) (call .bytes) in
-      let many : length hashes ≡ length (call .lengths) = length-hashesOfLabels (call .lengths) (call .bytes) in
+      let hashes = hashesOfLabels (call .names) in
+      let many : length hashes ≡ length (call .names) = length-hashesOfLabels (call .names) in
       let fits : 0 + index .counts .entries + length hashes ≤ length (store .hashes) = omega (arith, room .long .hashes, room .entries) in
       ap₂ (λ (k : ℕ) (l : List ℕ). part 0 (index .counts .entries + k) l) (sym many)
       (wrote .hashes ∙ ap (λ (k : ℕ). sets (store .hashes) k hashes) (sym (zero-add (index .counts .entries))))
       ∙ part-grows (store .hashes) 0 (index .counts .entries) hashes fits
 
   pub entries-grown :
-      heldEntries (grown index (length (call .lengths))) store′
+      heldEntries (grown index (length (call .names))) store′
       ≡ record {
-        owners = heldEntries index store .owners ++ replicate (length (call .lengths)) (index .counts .vectors);
-        hashes = heldEntries index store .hashes ++ hashesOfLabels (call .lengths) (call .bytes);
+        owners = heldEntries index store .owners ++ replicate (length (call .names)) (index .counts .vectors);
+        hashes = heldEntries index store .hashes ++ hashesOfLabels (call .names);
       }
   entries-grown = λ i. record { owners = owners-grown i; hashes = hashes-grown i }
 
@@ -144,13 +145,13 @@ module _ (index : CuratorIndex) (store : Store) (call : AddCall) (store′ : Sto
       let n = index .counts .vectors in
       let e = index .counts .entries in
       let start = ownersAt (indexShape index) in
-      let owners = replicate (length (call .lengths)) n in
+      let owners = replicate (length (call .names)) n in
       let numbers = set (store .numbers) n (call .document) in
       let owned : part start e (store′ .numbers) ≡ part start e (store .numbers) =
       ap (part start e) (wrote .numbers) ∙ part-sets-before start e numbers (start + e) owners (let k : start + e ≤ start + e = omega arith in k)
       ∙ part-set-before start e (store .numbers) n (call .document) (room .vectors) in
       let hashed : part 0 e (store′ .hashes) ≡ part 0 e (store .hashes) =
-      ap (part 0 e) (wrote .hashes) ∙ part-sets-before 0 e (store .hashes) e (hashesOfLabels (call .lengths) (call .bytes)) (omega arith) in
+      ap (part 0 e) (wrote .hashes) ∙ part-sets-before 0 e (store .hashes) e (hashesOfLabels (call .names)) (omega arith) in
       record {
         vectors =
             ap (λ (l : List Float). map (vectorAt (index .dimension) l) (countFrom 0 n)) (wrote .floats)
@@ -169,8 +170,8 @@ wrote-lengths index store call store′ wrote =
     let at = ownersAt (indexShape index) + index .counts .entries in
     let f = sym (ap length (wrote .floats) ∙ length-sets (store .floats) (n * index .dimension) (wrote .stored)) in
     let o =
-    sym (ap length (wrote .numbers) ∙ length-sets one at (replicate (length (call .lengths)) n) ∙ length-set (store .numbers) n (call .document)) in
-    let h = sym (ap length (wrote .hashes) ∙ length-sets (store .hashes) (index .counts .entries) (hashesOfLabels (call .lengths) (call .bytes))) in
+    sym (ap length (wrote .numbers) ∙ length-sets one at (replicate (length (call .names)) n) ∙ length-set (store .numbers) n (call .document)) in
+    let h = sym (ap length (wrote .hashes) ∙ length-sets (store .hashes) (index .counts .entries) (hashesOfLabels (call .names))) in
     λ i. record { floats = f i; numbers = o i; hashes = h i }
 
 -- ---- the result of an add is a function of state, store and call
@@ -183,8 +184,8 @@ added index store call =
       floats = sets (store .floats) (index .counts .vectors * index .dimension) (normalized (call .vector));
       numbers =
           sets (set (store .numbers) (index .counts .vectors) (call .document)) (ownersAt (indexShape index) + index .counts .entries)
-          (replicate (length (call .lengths)) (index .counts .vectors));
-      hashes = sets (store .hashes) (index .counts .entries) (hashesOfLabels (call .lengths) (call .bytes));
+          (replicate (length (call .names)) (index .counts .vectors));
+      hashes = sets (store .hashes) (index .counts .entries) (hashesOfLabels (call .names));
     }
 
 pub stored-is : (index : CuratorIndex) (store : Store) (call : AddCall) (store′ : Store) (wrote : Wrote index store call store′)
@@ -213,7 +214,7 @@ added-wrote index store call =
 
 -- what an add answers, and the store that it leaves, by what its check comes to
 abbrev pub addedAnswer : Check → CuratorIndex → AddCall → Changed
-addedAnswer Fine index call = Changed′.Index (grown index (length (call .lengths)))
+addedAnswer Fine index call = Changed′.Index (grown index (length (call .names)))
 addedAnswer (Refused r) index call = Changed′.Refused r
 
 abbrev pub addedStore : Check → CuratorIndex → Store → AddCall → Store
@@ -227,7 +228,7 @@ adds-is index store call answer store′ h = by (addCheck index store call) h
   where
     by : (check : Check) → AddsBy check index store call answer store′
         → (answer ≡ addedAnswer check index call) × (store′ ≡ addedStore check index store call)
-    by Fine (e, w) = (carried-is (grown index (length (call .lengths))) answer e, wrote-added index store call store′ w)
+    by Fine (e, w) = (carried-is (grown index (length (call .names))) answer e, wrote-added index store call store′ w)
     by (Refused r) (e, same) = (refused-is r answer e, same)
 
 -- every call has a result
@@ -237,7 +238,7 @@ unfolding Adds AddsBy
 adds-has index store call = by (addCheck index store call)
   where
     by : (check : Check) → AddsBy check index store call (addedAnswer check index call) (addedStore check index store call)
-    by Fine = (is-carried (grown index (length (call .lengths))) (addedAnswer Fine index call) refl, added-wrote index store call)
+    by Fine = (is-carried (grown index (length (call .names))) (addedAnswer Fine index call) refl, added-wrote index store call)
     by (Refused r) = (is-refused r (Changed′.Refused r) refl, refl)
 
 -- ---- 'Parts past the counts held are never read'
@@ -254,7 +255,7 @@ stateAfter index (Changed′.Index next) = next
 stateAfter index (Changed′.Refused r) = index
 
 grown-same : (index : CuratorIndex) (s t : Store) (call : AddCall) → SameOfIndex index s t → AddRoom index s call → AddRoom index t call
-    → SameOfIndex (grown index (length (call .lengths))) (added index s call) (added index t call)
+    → SameOfIndex (grown index (length (call .names))) (added index s call) (added index t call)
 grown-same index s t call h r q =
     let w = added-wrote index s call in
     let v = added-wrote index t call in
@@ -272,8 +273,8 @@ grown-same index s t call h r q =
           ∙ ap
           (λ (e : Entries).
           record {
-            owners = e .owners ++ replicate (length (call .lengths)) (index .counts .vectors);
-            hashes = e .hashes ++ hashesOfLabels (call .lengths) (call .bytes);
+            owners = e .owners ++ replicate (length (call .names)) (index .counts .vectors);
+            hashes = e .hashes ++ hashesOfLabels (call .names);
           })
           (h .entries)
           ∙ sym (entries-grown index t call _ q v);

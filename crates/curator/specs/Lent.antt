@@ -1,5 +1,6 @@
 -- The records of a call's contract, made of what the call is lent.
 use Prim.Native.Nat.{ℕ, _+_, _≤_, _<_}
+use mathlib.Core.Bool.{true}
 use mathlib.Core.List.{List, _∷_}
 use mathlib.Core.Path.{_≡_}
 use lib.Ieee.{Float}
@@ -7,7 +8,6 @@ use lib.ListN.{length}
 use lib.Seq.{sets}
 use denote.Ref.{RefT, now}
 use Rattle.vector.specs.Vector.{dot, Normalized}
-use Rattle.lists.specs.Lists.{total}
 use Rattle.store.specs.declared.Lengths.{Lengths}
 use Rattle.store.specs.Store.{Store, Limits}
 use Rattle.store.specs.Lent.{lengthsOf, Long}
@@ -19,12 +19,11 @@ use Rattle.curator.specs.declared.CuratorIndex.{CuratorIndex}
 use Rattle.curator.specs.Limits.{stateSound, indexShape}
 use Rattle.curator.specs.Rows.{Row, firstOf, stateRow, unbuiltRows, addRows, takeBackRows}
 use Rattle.curator.specs.Calls.{factsOf}
-use Rattle.curator.specs.Arguments.{AddCall}
+use Rattle.curator.specs.Arguments.{AddCall, addOf}
 
 -- what an add brings
 abbrev pub adding : ℕ → RefT (List Float) → RefT (List ℕ) → RefT (List ℕ) → AddCall
-adding document vector lengths bytes =
-    record { document = document; vector = now vector; lengths = now lengths; bytes = now bytes }
+adding document vector lengths bytes = addOf document (now vector) (now lengths) (now bytes)
 
 -- what the rows come to, as code that scanned a vector answers it: a call that is fine goes on with the sum of the squares
 abbrev pub withSquares : Check → Float → VectorCheck
@@ -49,9 +48,9 @@ pub record AddRoom (index : CuratorIndex) (store : Store) (call : AddCall) : Typ
   pub limits : Limits (indexShape index)
   pub long : Long (indexShape index) (lengthsOf store)
   pub dimension : length (call .vector) ≡ index .dimension
-  pub labels : total (call .lengths) ≡ length (call .bytes)
+  pub labels : call .parted ≡ true
   pub vectors : index .counts .vectors < index .capacities .vectors
-  pub entries : index .counts .entries + length (call .lengths) ≤ index .capacities .entries
+  pub entries : index .counts .entries + length (call .names) ≤ index .capacities .entries
 
 -- the list with what is stored of a vector at a place
 pub record VectorAt (before : List Float) (place : ℕ) (vector : List Float) (after : List Float) : Type 0 where

@@ -8,7 +8,6 @@ pub mod Calls
 pub mod Changes
 pub mod Searches
 pub mod Lent
-pub mod LabelLaws
 pub mod RowLaws
 pub mod BuildRowLaws
 pub mod SearchRowLaws

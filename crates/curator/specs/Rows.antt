@@ -6,7 +6,6 @@ use mathlib.Core.Bool.{Bool, not, _&&_, _||_, cond}
 use mathlib.Core.List.{List, [], _∷_, _++_}
 use lib.Dec.{ltb, eqb}
 use lib.ListN.{length}
-use Rattle.lists.specs.Lists.{total}
 use Rattle.vector.specs.Vector.{allFinite}
 use Rattle.store.specs.declared.Shape.{Shape}
 use Rattle.store.specs.declared.Lengths.{Lengths}
@@ -60,16 +59,16 @@ stateRow sound = row (not sound) (State InvalidState)
 abbrev pub unbuiltRows : Facts → Lengths → List Row
 unbuiltRows f lent = row (storeShort (f .shape) lent) (Store ListTooShort) ∷ row (f .built) (State AlreadyBuilt) ∷ []
 
--- 'Add 4, 3, 5, 7, 8, 9, 10, 11', after row 4
+-- 'Add 4, 3, 5, 7, 8, 9, 10, 11', after row 4; a name has one entry, however it is parted
 unfoldable pub addRows : Facts → Lengths → AddCall → List Row
-unfolding storeShort allFinite total
+unfolding storeShort allFinite
 addRows f lent call =
     unbuiltRows f lent
     ++ (row (not (eqb (length (call .vector)) (f .shape .dimension))) (Input DimensionMismatch)
     ∷ row (not (allFinite (call .vector))) (Input NonFiniteInput)
-    ∷ row (not (eqb (total (call .lengths)) (length (call .bytes)))) (Input LabelLengths)
+    ∷ row (not (call .parted)) (Input LabelLengths)
     ∷ row (eqb (f .vectors) (f .shape .vectors)) (Store VectorsFull)
-    ∷ row (ltb (f .shape .entries) (f .entries + length (call .lengths))) (Store EntriesFull)
+    ∷ row (ltb (f .shape .entries) (f .entries + length (call .names))) (Store EntriesFull)
     ∷ [])
 
 -- 02, K3: 'Taking back is lent what add is, checks 4, 3, 5, and then returns 19 when no vector is held', after row 4

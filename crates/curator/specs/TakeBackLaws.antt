@@ -119,14 +119,14 @@ takes-back-same index s t a b l h x y =
 
 -- what an add has written at the end is its owners, where every owner held is below n
 pub last-added : (index : CuratorIndex) (store : Store) (call : AddCall) (store′ : Store) → AddRoom index store call → Wrote index store call store′
-    → ownersDamaged index store ≡ false → lastEntries (grown index (length (call .lengths))) store′ ≡ length (call .lengths)
+    → ownersDamaged index store ≡ false → lastEntries (grown index (length (call .names))) store′ ≡ length (call .names)
 unfolding lastEntries ownersDamaged
 last-added index store call store′ room wrote sound =
     let n = index .counts .vectors in
     let owners = heldEntries index store .owners in
     let one : n + 1 - 1 ≡ n = omega arith in
     ap₂ countAtEnd one (owners-grown index store call store′ room wrote)
-    ∙ at-end-written n (length (call .lengths)) owners
+    ∙ at-end-written n (length (call .names)) owners
     (λ y m. ltb-true y n (allPass-Memᴰ (λ owner. ltb owner n) owners (not-false _ sound) y m))
 
 shrunk-grown : (index : CuratorIndex) (k : ℕ) → shrunk (grown index k) k ≡ index
@@ -147,10 +147,10 @@ unfolding builtAllowed
 unbuilt-nodes true held next b e h = absurd (false≢true (sym b))
 unbuilt-nodes false held next b e h = rw (sym e) h
 
-grown-sound : (index : CuratorIndex) (store : Store) (call : AddCall) → Accepted index store call → stateSound (grown index (length (call .lengths))) ≡ true
+grown-sound : (index : CuratorIndex) (store : Store) (call : AddCall) → Accepted index store call → stateSound (grown index (length (call .names))) ≡ true
 grown-sound index store call a =
     let s = a .sound in
-    facts-sound (grown index (length (call .lengths)))
+    facts-sound (grown index (length (call .names)))
     (record {
       limits = s .limits;
       leaf-size = s .leaf-size;
@@ -159,17 +159,17 @@ grown-sound index store call a =
       vectors = omega (arith, a .room .vectors);
       entries = a .room .entries;
       nodes = s .nodes;
-      built = unbuilt-nodes (index .built) (index .counts) (grown index (length (call .lengths)) .counts) (a .unbuilt) refl (s .built);
+      built = unbuilt-nodes (index .built) (index .counts) (grown index (length (call .names)) .counts) (a .unbuilt) refl (s .built);
     })
 
 -- so it is accepted
 grown-fine : (index : CuratorIndex) (store : Store) (call : AddCall) (store′ : Store) → addCheck index store call ≡ Fine → Wrote index store call store′
-    → takeBackCheck (grown index (length (call .lengths))) store′ ≡ Fine
+    → takeBackCheck (grown index (length (call .names))) store′ ≡ Fine
 unfolding addRows takeBackRows
 grown-fine index store call store′ fine wrote =
     let (_, (short, (built, _))) = fine-none (rowsOfAdd index store call) (sym (add-check-rows index store call) ∙ fine) in
     let sound = grown-sound index store call (add-facts index store call fine) in
-    let index′ = grown index (length (call .lengths)) in
+    let index′ = grown index (length (call .names)) in
     let short′ : storeShort (indexShape index) (lengthsOf store′) ≡ false =
     ap (storeShort (indexShape index)) (sym (wrote-lengths index store call store′ wrote)) ∙ short in
     take-back-rows index′ store′
@@ -184,7 +184,7 @@ unfolding TakesBack TakesBackBy
 add-taken-back index store call index′ store′ answer sound adds takes =
     let (fine, is, wrote) = adds-accepted index store call index′ store′ adds in
     let room = add-facts index store call fine .room in
-    let k = length (call .lengths) in
+    let k = length (call .names) in
     let check : takeBackCheck index′ store′ ≡ Fine =
     ap (λ (i : CuratorIndex). takeBackCheck i store′) is ∙ grown-fine index store call store′ fine wrote in
     let state : shrunk index′ (lastEntries index′ store′) ≡ index =

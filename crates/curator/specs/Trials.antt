@@ -1,19 +1,20 @@
 -- The definitions on small values: `new` at the limits, the labels of an add, an add whose squares overflow, and a taking back.
 use Prim.Native.Nat.{ℕ}
+use mathlib.Core.Bool.{true}
 use mathlib.Core.List.{List, [], _∷_, _++_, map}
 use mathlib.Core.Path.{_≡_, refl, ap, _∙_}
-use Rattle.lists.specs.Lists.{pieces}
 use lib.Ieee.{binary32, ofBits, toBits}
 use lib.Dec.{eqb}
 use lib.ListN.{replicate}
 use lib.Seq.{sets}
+use Rattle.label.specs.Names.{namesOf, lengthsFit}
 use Rattle.vector.specs.Vector.{zero32}
 use Rattle.vector.specs.Normalized.{normalized, normalized-is}
 use Rattle.store.specs.Store.{Store}
 use Rattle.settings.specs.declared.Check.the-variants.{Fine}
 use Rattle.curator.specs.declared.CuratorIndex.{CuratorIndex}
 use Rattle.curator.specs.declared.Changed.{Changed}
-use Rattle.curator.specs.Arguments.{AddCall}
+use Rattle.curator.specs.Arguments.{AddCall, addOf}
 use Rattle.curator.specs.Calls.{lastEntries, fresh}
 use Rattle.curator.specs.Changes.{created, addCheck, AddsBy, Adds, takeBackCheck}
 use Rattle.settings.specs.Limits.{usual}
@@ -32,11 +33,6 @@ trial-new :
 unfolding created
 trial-new = (refl, refl, refl, refl, refl, refl)
 
--- two labels of lengths 1 and 2, and an empty one
-trial-labels : pieces {A = ℕ} (1 ∷ 0 ∷ 2 ∷ []) (97 ∷ 98 ∷ 99 ∷ []) ≡ (97 ∷ []) ∷ [] ∷ (98 ∷ 99 ∷ []) ∷ []
-unfolding pieces
-trial-labels = refl
-
 -- ---- K2's echo, of which 02 says how it is stored
 
 -- an index of two components with room for one vector, and its store of zeros
@@ -51,7 +47,7 @@ trialStore = record { floats = replicate 6 zero32; numbers = replicate 9 0; hash
 trialAdd : ℕ → ℕ → AddCall
 unfolding ofBits
 trialAdd first second =
-    record { document = 7; vector = ofBits binary32 first ∷ ofBits binary32 second ∷ []; lengths = []; bytes = [] }
+    record { document = 7; vector = ofBits binary32 first ∷ ofBits binary32 second ∷ []; parted = true; names = [] }
 
 -- (1e30, -1e30) is accepted, and whatever an add leaves begins with 0.0 and -0.0
 trial-overflow-fine : addCheck trialIndex trialStore (trialAdd 0x7149F2CA 0xF149F2CA) ≡ Fine
@@ -87,6 +83,14 @@ heldIndex vectors entries nodes =
 heldStore : List ℕ → Store
 unfolding zero32
 heldStore owners = record { floats = replicate 5 zero32; numbers = 7 ∷ 8 ∷ 9 ∷ (owners ++ replicate 14 0); hashes = replicate 8 0 }
+
+-- 9 reads that, and 11 counts names, here two where one has room
+trial-nine-eleven :
+    (checkNumber (addCheck (heldIndex 1 3 0) (heldStore (0 ∷ 0 ∷ 0 ∷ 0 ∷ [])) (addOf 7 (zero32 ∷ []) (1 ∷ []) (97 ∷ []))) ≡ 9)
+    × (checkNumber (addCheck (heldIndex 1 3 0) (heldStore (0 ∷ 0 ∷ 0 ∷ 0 ∷ [])) (addOf 7 (zero32 ∷ []) (1 ∷ 0 ∷ []) (97 ∷ []))) ≡ 0)
+    × (checkNumber (addCheck (heldIndex 1 3 0) (heldStore (0 ∷ 0 ∷ 0 ∷ 0 ∷ [])) (addOf 7 (zero32 ∷ []) (1 ∷ 0 ∷ 0 ∷ 0 ∷ []) (97 ∷ []))) ≡ 11)
+unfolding addCheck heldIndex heldStore zero32 namesOf lengthsFit
+trial-nine-eleven = (refl, refl, refl)
 
 -- two vectors held: the owner is 1, not 2, and of the fourth entry, which is not held, nothing is asked
 trial-last-entries :

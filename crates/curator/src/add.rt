@@ -1,13 +1,10 @@
 // What an add asks and what it writes.
 ghost use mathlib.Core.Path.{_≡_};
-ghost use Prim.Native.Nat.{_+_, _-_, _≤_, _<_};
-ghost use lib.Dec.{eqb};
+ghost use Prim.Native.Nat.{_+_, _≤_, _<_};
 ghost use lib.ListN.{length, set, replicate};
 ghost use lib.Seq.{sets};
-ghost use Rattle.label.specs.Fnv.{fnv};
-ghost use Rattle.lists.specs.Lists.{part, total};
 ghost use Rattle.vector.specs.Vector.{dot};
-ghost use Rattle.curator.specs.Calls.{hashesOfLabels, grown};
+ghost use Rattle.curator.specs.Calls.{grown};
 ghost use Rattle.curator.specs.Changes.{Wrote};
 ghost use Rattle.curator.specs.Lent.{adding, addChecked, AddRoom, VectorAt};
 ghost use Rattle.store.specs.Lent.{lent};
@@ -21,30 +18,6 @@ use settings::refusal::Refusal;
 use settings::refusal::StoreRefusal;
 use store::Counts;
 use store::Lengths;
-
-// A byte as a size.
-fn wide(byte: u8) -> usize
-    ensures { λ r. ⌜ r ≡ byte ⌝ }
-{
-    byte as usize
-}
-
-// Whether the lengths sum to `sum`. What is left of the sum is counted down, so nothing overflows.
-fn sums_to(lengths: &[u8], sum: usize) -> bool
-    ensures { λ r. ⌜ r ≡ eqb (total (now (lengths .entry))) sum ⌝ }
-{
-    let mut left = sum;
-    let mut i = 0;
-    while i < lengths.len() {
-        let next = wide(lengths[i]);
-        if left < next {
-            return false;
-        }
-        left -= next;
-        i += 1;
-    }
-    left == 0
-}
 
 // The first refusal whose case holds, or the sum of the vector's squares. One pass looks at the components. No row looks at the document id.
 pub fn add_check(
@@ -66,13 +39,13 @@ pub fn add_check(
     if !scanned.finite {
         return VectorCheck::Refused(Refusal::Input(InputRefusal::NonFiniteInput));
     }
-    if !sums_to(lengths, bytes.len()) {
+    if !label::names::lengths_fit(lengths, bytes.len()) {
         return VectorCheck::Refused(Refusal::Input(InputRefusal::LabelLengths));
     }
     if index.counts.vectors == index.capacities.vectors {
         return VectorCheck::Refused(Refusal::Store(StoreRefusal::VectorsFull));
     }
-    if index.capacities.entries < index.counts.entries + lengths.len() {
+    if index.capacities.entries < index.counts.entries + label::names::label_count(lengths) {
         return VectorCheck::Refused(Refusal::Store(StoreRefusal::EntriesFull));
     }
     VectorCheck::Squares(scanned.squares)
@@ -96,29 +69,6 @@ fn write_all(numbers: &mut [u32], place: usize, count: usize, number: u32)
     let mut i = 0;
     while i < count {
         numbers[place + i] = number;
-        i += 1;
-    }
-}
-
-// The hash of the label from a start to an end.
-fn label_hash(bytes: &[u8], start: usize, end: usize) -> u64
-    requires { ⌜ (start ≤ end) × (end ≤ length (now bytes)) ⌝ }
-    ensures { λ r. ⌜ r ≡ fnv (part start (end - start) (now (bytes .entry))) ⌝ }
-{
-    label::hash_label(&bytes[start..end])
-}
-
-// Writes each label's hash. A label starts where the one before it ended.
-fn write_hashes(hashes: &mut [u64], place: usize, lengths: &[u8], bytes: &[u8])
-    requires { ⌜ (place + length (now lengths) ≤ length (now hashes)) × (total (now lengths) ≡ length (now bytes)) ⌝ }
-    ensures { λ _. ⌜ now (hashes .exit) ≡ sets (now (hashes .entry)) place (hashesOfLabels (now (lengths .entry)) (now (bytes .entry))) ⌝ }
-{
-    let mut start = 0;
-    let mut i = 0;
-    while i < lengths.len() {
-        let end = start + wide(lengths[i]);
-        hashes[place + i] = label_hash(bytes, start, end);
-        start = end;
         i += 1;
     }
 }
@@ -154,8 +104,14 @@ pub fn write_add(
     let held = index.counts;
     let owners = limits::shape_of(index).owners_at() + held.entries;
     write_vector(floats, held.vectors * index.dimension, vector, squares);
-    write_numbers(numbers, held.vectors, doc_id, owners, lengths.len());
-    write_hashes(hashes, held.entries, lengths, bytes);
+    write_numbers(
+        numbers,
+        held.vectors,
+        doc_id,
+        owners,
+        label::names::label_count(lengths),
+    );
+    label::names::write_hashes(hashes, held.entries, lengths, bytes);
 }
 
 // The state after an accepted add.

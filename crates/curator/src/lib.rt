@@ -73,7 +73,7 @@ impl CuratorIndex {
         })
     }
 
-    // Adds a vector under a document id, with labels: `lengths` cuts them from `bytes`.
+    // Adds a vector under a document id, with labels, each in two parts: `lengths` has two bytes a label, first part's then second's, and cuts them from `bytes`.
     pub fn add(
         self,
         floats: &mut [f32],
@@ -109,7 +109,7 @@ impl CuratorIndex {
                     lengths,
                     bytes,
                 );
-                Changed::Index(add::grown(self, lengths.len()))
+                Changed::Index(add::grown(self, label::names::label_count(lengths)))
             }
         }
     }

@@ -5,6 +5,7 @@ ghost use denote.Ref.{now};
 ghost use lib.ListN.{length};
 ghost use lib.Seq.{sets};
 ghost use Rattle.curator.specs.Lent.{adding};
+ghost use Rattle.label.specs.Fnv.{fnvFrom};
 ghost use Rattle.store.specs.Lent.{lent};
 ghost use Rattle.curator.specs.Outcome.{foundNumber, foundValues};
 ghost use Rattle.search.specs.Lent.{filtered, unfiltered};
@@ -76,7 +77,7 @@ pub extern "C" fn curator_new(
     keep(CuratorIndex::new(dimension, params, capacities), state)
 }
 
-// Adds a vector under a document id, with labels: `lengths` cuts them from `bytes`.
+// Adds a vector under a document id, with labels, each in two parts: two lengths a label cut them from `bytes`.
 #[no_mangle]
 pub extern "C" fn curator_add(
     state: &mut [usize],
@@ -168,7 +169,7 @@ fn tell(found: Found, answer: &mut [usize]) -> u32
     }
 }
 
-// The nearest k documents that have a vector with a label.
+// The nearest k documents that have a vector with a label: a name in two parts.
 #[no_mangle]
 pub extern "C" fn curator_search_filtered(
     state: &[usize],
@@ -177,14 +178,15 @@ pub extern "C" fn curator_search_filtered(
     hashes: &[u64],
     work: &mut [u32],
     query: &[f32],
-    label: &[u8],
+    first: &[u8],
+    second: &[u8],
     k: usize,
     ids: &mut [u32],
     distances: &mut [f32],
     answer: &mut [usize],
 ) -> u32
     ensures { λ r. ⌜ SearchResult (now (state .entry)) (lent (floats .entry) (numbers .entry) (hashes .entry)) (now (work .entry))
-        (filtered (query .entry) (label .entry) k (ids .entry) (distances .entry)) (now (answer .entry))
+        (filtered (query .entry) (first .entry) (second .entry) k (ids .entry) (distances .entry)) (now (answer .entry))
         r
         (now (work .exit)) (now (ids .exit)) (now (distances .exit)) (now (answer .exit)) ⌝ }
 {
@@ -200,7 +202,8 @@ pub extern "C" fn curator_search_filtered(
                     hashes,
                     work,
                     query,
-                    label,
+                    first,
+                    second,
                     hits,
                     ids,
                     distances,
@@ -263,4 +266,12 @@ pub extern "C" fn curator_pool(filter: &mut [u64], other: &[u64]) -> u32
     let pool = bloom::unite(bloom::words(filter, 0), bloom::words(other, 0));
     bloom::write_words(filter, 0, pool);
     ANSWERED
+}
+
+// The label hash from `start` on: the value after the last byte.
+#[no_mangle]
+pub extern "C" fn curator_label_hash(start: u64, bytes: &[u8]) -> u64
+    ensures { λ r. ⌜ r ≡ fnvFrom start (now (bytes .entry)) ⌝ }
+{
+    label::hash_label(start, bytes)
 }

@@ -61,7 +61,7 @@ fn added(
     doc_id: u32,
     vector: &[f32],
 ) -> CuratorIndex {
-    let changed = index.add(floats, numbers, hashes, doc_id, vector, &[1], b"a");
+    let changed = index.add(floats, numbers, hashes, doc_id, vector, &[1, 0], b"a");
     match changed {
         Changed::Index(next) => next,
         Changed::Refused(refusal) => index,

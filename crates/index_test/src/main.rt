@@ -222,30 +222,55 @@ fn vectors() {
     try_add(state(0, 0, 0, false), 10, 17, 8, &[0.0, nan], b"\x01", b"");
 }
 
+// One length, an odd list; two lengths that are not the bytes; two and four that are, with empty parts; three that are, an odd list.
 fn labels(vector: &[f32]) {
-    try_add(state(0, 0, 0, false), 10, 17, 8, vector, b"\x01", b"");
     try_add(state(0, 0, 0, false), 10, 17, 8, vector, b"\x01", b"a");
-    try_add(state(0, 0, 0, false), 10, 17, 8, vector, b"\x01", b"ab");
+    try_add(state(0, 0, 0, false), 10, 17, 8, vector, b"\x00", b"");
+    try_add(state(0, 0, 0, false), 10, 17, 8, vector, b"\x01\x00", b"");
+    try_add(state(0, 0, 0, false), 10, 17, 8, vector, b"\x01\x00", b"ab");
     try_add(state(0, 0, 0, false), 10, 17, 8, vector, b"\x01\x00", b"a");
-    try_add(state(2, 0, 0, false), 10, 17, 8, vector, b"", b"a");
-}
-
-fn room(vector: &[f32]) {
-    try_add(state(1, 0, 0, false), 10, 17, 8, vector, b"", b"");
-    try_add(state(2, 0, 0, false), 10, 17, 8, vector, b"", b"");
-    try_add(state(2, 2, 0, false), 10, 17, 8, vector, b"\x01", b"a");
-    try_add(state(1, 2, 0, false), 10, 17, 8, vector, b"", b"");
-    try_add(state(1, 1, 0, false), 10, 17, 8, vector, b"\x02", b"ab");
-    try_add(state(1, 1, 0, false), 10, 17, 8, vector, b"\x01\x01", b"ab");
+    try_add(state(0, 0, 0, false), 10, 17, 8, vector, b"\x00\x01", b"a");
+    try_add(state(0, 0, 0, false), 10, 17, 8, vector, b"\x01\x01", b"ab");
+    try_add(state(0, 0, 0, false), 10, 17, 8, vector, b"\x02\x00", b"ab");
     try_add(
         state(0, 0, 0, false),
         10,
         17,
         8,
         vector,
-        b"\x00\x00\x00",
-        b"",
+        b"\x01\x00\x00\x00",
+        b"a",
     );
+    try_add(
+        state(0, 0, 0, false),
+        10,
+        17,
+        8,
+        vector,
+        b"\x01\x01\x00",
+        b"ab",
+    );
+    try_add(state(2, 0, 0, false), 10, 17, 8, vector, b"", b"a");
+    try_add(state(2, 0, 0, false), 10, 17, 8, vector, b"\x01", b"a");
+}
+
+fn room(vector: &[f32]) {
+    try_add(state(1, 0, 0, false), 10, 17, 8, vector, b"", b"");
+    try_add(state(2, 0, 0, false), 10, 17, 8, vector, b"", b"");
+    try_add(state(2, 2, 0, false), 10, 17, 8, vector, b"\x01\x00", b"a");
+    try_add(state(1, 2, 0, false), 10, 17, 8, vector, b"", b"");
+    try_add(state(1, 1, 0, false), 10, 17, 8, vector, b"\x01\x01", b"ab");
+    try_add(
+        state(1, 1, 0, false),
+        10,
+        17,
+        8,
+        vector,
+        b"\x01\x00\x01\x00",
+        b"ab",
+    );
+    let three = b"\x00\x00\x00\x00\x00\x00";
+    try_add(state(0, 0, 0, false), 10, 17, 8, vector, three, b"");
 }
 
 // A taking back from lists of the lengths given, whose two entries have these owners.

@@ -1,2 +1,3 @@
--- What the functions' proofs use of plain numbers.
+-- What the functions' proofs use: plain numbers, and the steps of the loops over names.
 pub mod Halves
+pub mod Steps

@@ -14,11 +14,11 @@ prime = 0x100000001b3
 unfoldable pub fnvStep : ℕ → ℕ → ℕ
 fnvStep hash byte = (bitXor hash byte * prime) % 2 ^ 64
 
--- Byte after byte, from a given start.
+-- Byte after byte. 02, K7: 'The label hash now starts from a value that the caller gives and answers the value after the last byte.'
 unfoldable pub fnvFrom : ℕ → List ℕ → ℕ
 fnvFrom hash [] = hash
 fnvFrom hash (byte ∷ bytes) = fnvFrom (fnvStep hash byte) bytes
 
--- The hash of a label.
+-- The hash of a whole name starts from the offset basis.
 unfoldable pub fnv : List ℕ → ℕ
 fnv bytes = fnvFrom offsetBasis bytes

@@ -1,4 +1,6 @@
--- The label hash (document 01, 'Label hash'), its laws, and trial values.
+-- The label hash (document 01, 'Label hash'), the names of an add in two parts (02, K7), their laws, and trial values.
 pub mod Fnv
 pub mod FnvLaws
+pub mod Names
+pub mod NameLaws
 pub mod Trials

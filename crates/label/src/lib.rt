@@ -1,10 +1,13 @@
 // Label hashes: FNV-1a of 64 bits.
+ghost use mathlib.Core.List.{_++_};
 ghost use mathlib.Core.Path.{_≡_};
 ghost use Prim.Native.Nat.{_*_, _%_, _^_};
 ghost use Rattle.label.specs.Fnv.{fnvFrom, fnv};
 
-// FNV-1a's constants for 64 bits.
-const OFFSET_BASIS: u64 = 0xcbf2_9ce4_8422_2325;
+pub mod names;
+
+// FNV-1a's constants for 64 bits: where the hash of a name starts, and the factor.
+pub const OFFSET_BASIS: u64 = 0xcbf2_9ce4_8422_2325;
 
 const PRIME: u64 = 0x100_0000_01b3;
 
@@ -28,8 +31,8 @@ fn wide(byte: u8) -> u64
     byte as u64
 }
 
-// The FNV-1a hash of `bytes`, carried on from `start`.
-pub fn hash_from(start: u64, bytes: &[u8]) -> u64
+// The label hash from `start` on: the value after the last byte.
+pub fn hash_label(start: u64, bytes: &[u8]) -> u64
     ensures { λ r. ⌜ r ≡ fnvFrom start (now (bytes .entry)) ⌝ }
 {
     let mut hash = start;
@@ -41,9 +44,9 @@ pub fn hash_from(start: u64, bytes: &[u8]) -> u64
     hash
 }
 
-// The FNV-1a hash of a label.
-pub fn hash_label(bytes: &[u8]) -> u64
-    ensures { λ r. ⌜ r ≡ fnv (now (bytes .entry)) ⌝ }
+// The hash of a name in two parts: that of the first, carried on through the second.
+pub fn hash_name(first: &[u8], second: &[u8]) -> u64
+    ensures { λ r. ⌜ r ≡ fnv (now (first .entry) ++ now (second .entry)) ⌝ }
 {
-    hash_from(OFFSET_BASIS, bytes)
+    hash_label(hash_label(OFFSET_BASIS, first), second)
 }

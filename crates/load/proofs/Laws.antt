@@ -1,14 +1,18 @@
 -- Lemmas of the proofs in `load`.
-use Prim.Native.Nat.{ℕ, _≤_, _<_}
+use Prim.Native.Nat.{ℕ, _-_, _≤_, _<_}
 use native.Mathlib.Omega.{arith}
 use mathlib.Core.Bool.{Bool, true, false, cond}
-use mathlib.Core.List.{List, [], _∷_, _++_}
-use mathlib.Core.Path.{_≡_, refl, sym, ap, _∙_, subst}
+use mathlib.Core.List.{List, [], _∷_, _++_, map}
+use mathlib.Core.Path.{_≡_, refl, sym, ap, ap₂, _∙_, subst}
 use borrow.Author.Tests.{lt-ltb, le-ltb, le-leb, lt-leb}
 use lib.Dec.{leb}
 use lib.Ieee.{Float, binary32, ofBits}
 use lib.ListN.{length, take, drop, length-append, length-map}
 use lib.Seq.{take-at}
+use Rattle.lists.specs.Lists.{total, pieces}
+use Rattle.lists.specs.Parts.{length-part}
+use Rattle.label.specs.Names.{wholeLengths}
+use Rattle.label.specs.NameLaws.{names-whole, whole-fit}
 use types.Run.{OneOf, miss}
 use denote.Enum.Declared.{tagOf}
 use Rattle.echo_file.proofs.Located.{the-type as located-type}
@@ -21,11 +25,11 @@ use Rattle.settings.specs.declared.refusal.Refusal.the-variants.{Settings, Inpu
 use Rattle.settings.specs.declared.refusal.SettingsRefusal.the-variants.{InvalidConfig}
 use Rattle.settings.specs.declared.refusal.InputRefusal.the-variants.{BadRecord, SettingsOrder, FileTooLong}
 use Rattle.curator.specs.Changes.{Adds, Builds}
-use Rattle.curator.specs.Arguments.{AddCall, SearchCall}
+use Rattle.curator.specs.Arguments.{AddCall, addOf, SearchCall}
 use Rattle.curator.specs.Searches.{Searches}
 use Rattle.echo_file.specs.Format as format
 use Rattle.echo_file.specs.Format.{Bytes, Begins}
-use Rattle.echo_file.specs.FieldLaws.{bytes-drop, length-numbers}
+use Rattle.echo_file.specs.FieldLaws.{bytes-drop, length-numbers, length-labelBytes, pieces-labelBytes}
 use Rattle.echo_file.specs.Decode.{Decoded, numbers, decode}
 use Rattle.text.specs.Lines.{Written}
 use Rattle.echo_file.specs.DecodeLaws.{finds, none-exactly}
@@ -112,6 +116,15 @@ floats-front out rest file at {m} {n} e h =
     let size : length out ≡ n = ap length h ∙ length-map (numbers m (drop at file)) (ofBits binary32) ∙ length-numbers m (drop at file) ∙ e in
     (omega (arith, size, length-append out rest), take-at out rest n size ∙ h ∙ ap (λ (k : ℕ). floats (numbers k (drop at file))) e)
 
+-- the names of an add are the labels that were read
+read-names : (document : ℕ) (vector : List Float) (labels : List (List ℕ)) {lengths bytes : List ℕ} → lengths ≡ map length labels → bytes ≡ format.labelBytes labels
+    → addOf document vector (wholeLengths lengths) bytes ≡ record { document = document; vector = vector; parted = true; names = labels }
+read-names document vector labels {lengths} {bytes} e f =
+    let sum : total lengths ≡ length bytes = ap total e ∙ sym (length-labelBytes labels) ∙ ap length (sym f) in
+    let fit = whole-fit lengths (length bytes) sum in
+    let names = names-whole lengths bytes ∙ ap₂ pieces e f ∙ pieces-labelBytes labels in
+    λ i. record { document = document; vector = vector; parted = fit i; names = names i }
+
 -- after the settings
 pub task-asks : (index : CuratorIndex) (file : List ℕ) (at : ℕ) (located : Located) → index .dimension ≤ 16
     → Reads (known (Running index)) file at (Found located) → Asks file (CarriesNext index file at) (taskOf index located)
@@ -121,9 +134,12 @@ task-asks index file at (Vector document lengths-at labels-at place next) n s =
     let patterns = patternsAt (known (Running index)) file place in
     let v : Placed = record { «doc_id» = document; «lengths_at» = lengths-at; «labels_at» = labels-at; «floats_at» = place; next = next } in
     let same : addAt index file v ≡ addCall document (s .labels) patterns =
-    λ j. record { document = document; vector = floatsAt (index .dimension) file place; lengths = s .lengths j; bytes = s .bytes j } in
+    read-names document (floatsAt (index .dimension) file place) (s .labels) (s .lengths) (s .bytes) in
+    let many : labels-at - lengths-at ≡ length (s .labels) =
+    sym (length-part lengths-at (labels-at - lengths-at) file (omega (arith, s .lengths-order, s .labels-order, s .floats-end, s .stands .inside))) ∙ ap length (s .lengths)
+    ∙ length-map (s .labels) length in
     record {
-      stands = record { narrow = n; lengths-order = s .lengths-order; labels-order = s .labels-order; inside = omega (arith, s .floats-end, s .stands .inside) };
+      stands = record { narrow = n; lengths-order = s .lengths-order; few = omega (arith, many, s .stands .begins .fits .1); labels-order = s .labels-order; inside = omega (arith, s .floats-end, s .stands .inside) };
       comes = λ lent carried store a.
           let lent′ : LoadLists = record { store = store; work = lent .work; ids = lent .ids; distances = lent .distances } in
           stands-carried file at (Running index) lent carried lent′ (format.vector document (s .labels) patterns) next (s .stands)

@@ -6,6 +6,7 @@ use mathlib.Core.Path.{_≡_}
 use lib.Ieee.{Float}
 use lib.ListN.{length, drop}
 use denote.Ref.{RefT, now}
+use Rattle.label.specs.Names.{wholeLengths}
 use Rattle.store.specs.Store.{Store}
 use Rattle.curator.specs.declared.CuratorIndex.{CuratorIndex}
 use Rattle.curator.specs.declared.Changed.{Changed}
@@ -13,7 +14,7 @@ use Rattle.settings.specs.declared.refusal.Refusal.the-variants.{Input}
 use Rattle.settings.specs.declared.refusal.InputRefusal.the-variants.{SettingsOrder}
 use Rattle.store.specs.Lent as store
 use Rattle.curator.specs.Changes.{Adds}
-use Rattle.curator.specs.Arguments.{AddCall, SearchCall, Asked, everything, labelled}
+use Rattle.curator.specs.Arguments.{AddCall, addOf, SearchCall, Asked, everything, labelled}
 use Rattle.echo_file.specs.declared.Located.{Located}
 use Rattle.echo_file.specs.declared.Located.the-variants.{Settings, Vector as VectorAt, Filtered, Search}
 use Rattle.echo_file.specs.Decode.{decode}
@@ -75,17 +76,14 @@ floatsAt dimension file place = floats (patternsAt (record { dimension = dimensi
 pub record VectorIn (file : List ℕ) (dimension : ℕ) (v : Vector) : Type 0 where
   pub narrow : dimension ≤ 16
   pub lengths-order : v .«lengths_at» ≤ v .«labels_at»
+  pub few : v .«labels_at» ≤ v .«lengths_at» + 255
   pub labels-order : v .«labels_at» ≤ v .«floats_at»
   pub inside : v .«floats_at» + 4 * dimension ≤ length file
 
 abbrev pub addAt : CuratorIndex → List ℕ → Vector → AddCall
 addAt index file v =
-    record {
-      document = v .«doc_id»;
-      vector = floatsAt (index .dimension) file (v .«floats_at»);
-      lengths = bytesBetween (v .«lengths_at») (v .«labels_at») file;
-      bytes = bytesBetween (v .«labels_at») (v .«floats_at») file;
-    }
+    addOf (v .«doc_id») (floatsAt (index .dimension) file (v .«floats_at»)) (wholeLengths (bytesBetween (v .«lengths_at») (v .«labels_at») file))
+    (bytesBetween (v .«labels_at») (v .«floats_at») file)
 
 -- what its add comes to
 abbrev pub AddsAt : CuratorIndex → List ℕ → Vector → Store → Carried → Store → Type 0

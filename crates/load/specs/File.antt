@@ -1,7 +1,7 @@
 -- Document 01, 'The echo file and its printer': the text that is printed of a file, by the model of all calls (01's book; crates/runs/specs/Model.antt). No
 -- state, no lent list and no answer occurs in it.
 use Prim.Native.Nat.{ℕ, zero, suc}
-use mathlib.Core.Bool.{cond}
+use mathlib.Core.Bool.{true, cond}
 use mathlib.Core.List.{List, [], _∷_, _++_, map}
 use lib.Dec.{ltb}
 use lib.Ieee.{Float, binary32, ofBits, nan}
@@ -27,7 +27,6 @@ use Rattle.curator.specs.Arguments.{AddCall, SearchCall, Asked, everything, lab
 use Rattle.runs.specs.Calls.{add, build, Call, change, search}
 use Rattle.runs.specs.Model.{Setting, Model, emptyModel, Expected, returns, answers, nothing, expected, after}
 use Rattle.echo_file.specs.declared.Known.{Known}
-use Rattle.echo_file.specs.Format as format
 use Rattle.echo_file.specs.Format.{FileRecord, settings, vector, filtered, unfiltered}
 use Rattle.echo_file.specs.Decode.{Decoded, none, found, decode}
 use Rattle.text.specs.Lines.{hitLines, closingLine, refusedLine}
@@ -57,7 +56,7 @@ abbrev pub floats : List ℕ → List Float
 floats patterns = map (ofBits binary32) patterns
 
 abbrev pub addCall : ℕ → List (List ℕ) → List ℕ → AddCall
-addCall document labels patterns = record { document = document; vector = floats patterns; lengths = map length labels; bytes = format.labelBytes labels }
+addCall document labels patterns = record { document = document; vector = floats patterns; parted = true; names = labels }
 
 -- The contents of work and answer lists do not matter (crates/runs/specs/Contents.antt): here they are zeros.
 abbrev pub searchCall : ℕ → Asked → List ℕ → SearchCall

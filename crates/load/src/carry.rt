@@ -1,10 +1,12 @@
 // A record carried out on the index.
-ghost use Prim.Native.Nat.{_+_, _*_, _≤_};
+ghost use Prim.Native.Nat.{_+_, _-_, _*_, _≤_};
 ghost use lib.ListN.{length, take};
 ghost use mathlib.Core.Path.{_≡_};
+ghost use Rattle.label.specs.Names.{wholeLengths};
 ghost use Rattle.store.specs.Lent.{lent};
 ghost use Rattle.curator.specs.Searches.{Searches};
 ghost use Rattle.search.specs.Lent.{leaving};
+ghost use Rattle.echo_file.specs.Reads.{bytesBetween};
 ghost use Rattle.load.specs.Step.{Carries, addedBy, foundBy};
 ghost use Rattle.load.specs.Code.{lists, Narrow, floatsAt, VectorIn, QueryIn, AddsAt, searchAt, SearchesAt};
 use crate::Loading;
@@ -80,7 +82,19 @@ fn floats_at(file: &[u8], at: usize, count: usize) -> [f32; 16]
     values
 }
 
-// Adds the vector.
+// The lengths of the labels from a place to another, as names whose second part is empty, in front.
+fn name_lengths(file: &[u8], from: usize, to: usize) -> [u8; 510]
+    requires { ⌜ (from ≤ to) × (to ≤ from + 255) × (to ≤ length (now file)) ⌝ }
+    ensures room { λ r. ⌜ 2 * (to - from) ≤ length r ⌝ }
+    ensures front { λ r. ⌜ take (2 * (to - from)) r ≡ wholeLengths (bytesBetween from to (now (file .entry))) ⌝ }
+{
+    let count = 2 * (to - from);
+    let mut parts: [u8; 510] = [0; 510];
+    label::names::whole_lengths(&file[from..to], &mut parts[..count]);
+    parts
+}
+
+// Adds the vector. The file keeps one length a label.
 fn add_vector(
     index: CuratorIndex,
     file: &[u8],
@@ -98,7 +112,8 @@ fn add_vector(
     let labels_at = vector.labels_at;
     let place = vector.floats_at;
     let components = floats_at(file, place, count);
-    let lengths = &file[lengths_at..labels_at];
+    let lengths = name_lengths(file, lengths_at, labels_at);
+    let lengths_count = 2 * (labels_at - lengths_at);
     let labels = &file[labels_at..place];
     let answer = index.add(
         floats,
@@ -106,7 +121,7 @@ fn add_vector(
         hashes,
         vector.doc_id,
         &components[..count],
-        lengths,
+        &lengths[..lengths_count],
         labels,
     );
     added(answer, vector.next)
@@ -138,6 +153,7 @@ fn find(
     let components = floats_at(file, place, count);
     if filtered {
         let label = &file[label_at..place];
+        let none = &file[place..place];
         return search::search_filtered(
             index,
             floats,
@@ -146,6 +162,7 @@ fn find(
             work,
             &components[..count],
             label,
+            none,
             k,
             ids,
             distances,

@@ -50,11 +50,11 @@ within-added s m call store b room =
       nodes = λ t. absurd (false≢true (sym b ∙ t));
     }
 
-state-added : (s : Setting) (m : Model) (call : AddCall) → m .built ≡ false → grown (stateFor s m) (length (call .lengths)) ≡ stateFor s (withRow m (newRow call))
+state-added : (s : Setting) (m : Model) (call : AddCall) → m .built ≡ false → grown (stateFor s m) (length (call .names)) ≡ stateFor s (withRow m (newRow call))
 state-added s m call b =
     let r = newRow call in
     let v : length (m .rows) + 1 ≡ length (withRow m r .rows) = add-one (length (m .rows)) ∙ sym (length-rows m r) in
-    let e : length (rowHashes m) + length (call .lengths) ≡ length (rowHashes (withRow m r)) = sym (count-more m call) in
+    let e : length (rowHashes m) + length (call .names) ≡ length (rowHashes (withRow m r)) = sym (count-more m call) in
     let n : nodesHeld (m .built) s m ≡ nodesHeld (m .built) s (withRow m r) = no-nodes (m .built) s m (withRow m r) b in
     λ i. record {
       dimension = s .dimension;
@@ -91,7 +91,7 @@ module _ (s : Setting) (allowed : Allowed s) (m : Model) (front rest front′ : 
       subst (Long (settingShape s)) (wrote-lengths (stateFor s m) front call front′ (by .1)) (room .long) in (
         by .0 .number-is,
         record {
-          state = ap (nextIndex (stateFor s m)) (carried-is (grown (stateFor s m) (length (call .lengths))) answer (by .0)) ∙ state-added s m call (found .unbuilt);
+          state = ap (nextIndex (stateFor s m)) (carried-is (grown (stateFor s m) (length (call .names))) answer (by .0)) ∙ state-added s m call (found .unbuilt);
           within = w;
           held = held-back s m′ front′ rest w long′ h′;
           laid = λ b. absurd (false≢true (sym (found .unbuilt) ∙ b));
@@ -136,7 +136,7 @@ add-by : (index : CuratorIndex) (store : Store) (call : AddCall) (c : Check) →
 unfolding AddsBy
 add-by index store call (Check′.Refused r) = (Changed′.Refused r, store, (is-refused r (Changed′.Refused r) refl, refl))
 add-by index store call Check′.Fine =
-    (Changed′.Index (grown index (length (call .lengths))), added index store call, (is-carried _ _ refl, added-wrote index store call))
+    (Changed′.Index (grown index (length (call .names))), added index store call, (is-carried _ _ refl, added-wrote index store call))
 
 add-outcome : (index : CuratorIndex) (store : Store) (work : List ℕ) (call : AddCall) → ChangeOutcome index store work (add call)
 unfolding Adds

@@ -1,5 +1,6 @@
 -- Runs of 01's worked example, computed: 'D 2, B 2, leaf size 1, ef 5, beam 4; 7: (1, 0) `a`; 8: (0, 2) `b`; 9: (3, 4) `a`; search k 4, `a`, (1, 0)', with
--- refused calls in between; V 4, E 4, M 5; and M 4, where the build is refused. The premise holds of it, and it has runs.
+-- refused calls in between; V 4, E 4, M 5; and M 4, where the build is refused; with takings back; with names in two parts. The premise holds of it, and it
+-- has runs.
 use Prim.Native.Nat.{ℕ}
 use native.Mathlib.Omega.{arith}
 use mathlib.Core.Bool.{Bool, true}
@@ -9,11 +10,12 @@ use lib.Ieee.{Float, binary32, ofBits, nan}
 use lib.ListN.{length, getD, take, replicate}
 use Rattle.distance.specs.Distance.{distance}
 use Rattle.label.specs.Fnv.{fnvFrom, fnvStep}
+use Rattle.label.specs.Names.{namesOf, lengthsFit}
 use Rattle.store.specs.declared.Lengths.{Lengths}
 use Rattle.store.specs.Lent.{sizesOf}
 use Rattle.curator.specs.Calls.{fresh}
 use Rattle.curator.specs.Changes.{created}
-use Rattle.curator.specs.Arguments.{Asked, everything, labelled}
+use Rattle.curator.specs.Arguments.{addOf, Asked, everything, labelled}
 use Rattle.runs.specs.Calls.{add, take-back, build, Call, change, search, AllTyped, Alike, AllAlike}
 use Rattle.runs.specs.Model.{Setting, settingShape, Model, emptyModel, Expected, returns, answers, expected, after, modelFrom}
 use Rattle.runs.specs.Run.{Ended, Run}
@@ -38,9 +40,9 @@ sample ef nodes =
 abbrev pub fronts : Lengths
 fronts = sizesOf (settingShape (sample 5 6))
 
--- an add of a document with a vector, by bits, and a label of one byte
+-- an add of a document with a vector, by bits, and a label of one byte: its first part, the second is empty
 abbrev pub adds : ℕ → List ℕ → ℕ → Call
-adds document bits label = change fronts [] (add (record { document = document; vector = map (ofBits binary32) bits; lengths = 1 ∷ []; bytes = label ∷ [] }))
+adds document bits label = change fronts [] (add (addOf document (map (ofBits binary32) bits) (1 ∷ 0 ∷ []) (label ∷ [])))
 
 -- a search from (1, 0) for the first k, lent work and answer lists of some content
 abbrev pub searches : ℕ → Float → ℕ → Asked → Call
@@ -97,13 +99,13 @@ pub expects : expectations (sample 5 5) emptyModel calls
     ∷ answers (record { ids = 7 ∷ 9 ∷ []; distances = map (ofBits binary32) (0 ∷ 0x3ecccccc ∷ []); total = 3; opened = 5; complete = true })
     ∷ returns 14
     ∷ []
-unfolding expectations ofBits fnvFrom fnvStep distance
+unfolding expectations ofBits fnvFrom fnvStep distance namesOf lengthsFit
 expects = refl
 
 -- with M 4 the build is refused 13; an add may still follow, and a search finds no index
 pub too-many : expectations (sample 5 4) emptyModel (first ∷ second ∷ third ∷ change fronts (replicate 30 0) build ∷ adds 10 (0x3F800000 ∷ 0 ∷ []) 97 ∷ searches 0 nan 4 label-a ∷ [])
     ≡ returns 0 ∷ returns 0 ∷ returns 0 ∷ returns 13 ∷ returns 0 ∷ returns 6 ∷ []
-unfolding expectations ofBits fnvFrom fnvStep distance
+unfolding expectations ofBits fnvFrom fnvStep distance namesOf lengthsFit
 too-many = refl
 
 -- a run of any calls
@@ -131,11 +133,11 @@ pub expects-back : expectations (sample 5 5) emptyModel callsBack
     ≡ returns 19 ∷ returns 0 ∷ returns 0 ∷ returns 0 ∷ returns 0 ∷ returns 0 ∷ returns 0 ∷ returns 0 ∷ returns 0 ∷ returns 5
     ∷ hits (7 ∷ 9 ∷ []) (0 ∷ 0x3ecccccc ∷ []) 5 true
     ∷ []
-unfolding expectations ofBits fnvFrom fnvStep distance
+unfolding expectations ofBits fnvFrom fnvStep distance namesOf lengthsFit
 expects-back = refl
 
 tested-back : premiseTest (sample 5 5) emptyModel callsBack ≡ true
-unfolding premiseTest ofBits fnvFrom fnvStep distance
+unfolding premiseTest ofBits fnvFrom fnvStep distance namesOf lengthsFit
 tested-back = refl
 
 pub premise-back : Premise (sample 5 5) callsBack
@@ -149,10 +151,25 @@ typed-back =
 pub back-run : (ends : List Ended) × Run (sample 5 5) callsBack ends
 back-run = run-of callsBack typed-back
 
+-- ---- names in two parts
+
+-- an add of 7 with these lengths and label bytes
+abbrev pub named : List ℕ → List ℕ → Call
+named lengths bytes = change fronts [] (add (addOf 7 (map (ofBits binary32) (0x3F800000 ∷ 0 ∷ [])) lengths bytes))
+
+-- one length and three are odd lists, and 9; `a` and `b` are the name `ab`, which is found joined
+pub expects-parted : expectations (sample 5 5) emptyModel
+    (named (1 ∷ []) (97 ∷ []) ∷ named (1 ∷ 0 ∷ 0 ∷ []) (97 ∷ []) ∷ named (1 ∷ 1 ∷ []) (97 ∷ 98 ∷ []) ∷ second ∷ change fronts (replicate 30 0) build
+    ∷ searches 0 nan 4 (labelled (97 ∷ 98 ∷ []))
+    ∷ [])
+    ≡ returns 9 ∷ returns 9 ∷ returns 0 ∷ returns 0 ∷ returns 0 ∷ hits (7 ∷ []) (0 ∷ []) 3 true ∷ []
+unfolding expectations ofBits fnvFrom fnvStep distance namesOf lengthsFit
+expects-parted = refl
+
 -- ---- the premise, the types and a run
 
 tested : (ef : ℕ) → premiseTest (sample ef 5) emptyModel calls ≡ true
-unfolding premiseTest ofBits fnvFrom fnvStep distance
+unfolding premiseTest ofBits fnvFrom fnvStep distance namesOf lengthsFit
 tested ef = refl
 
 pub premise : (ef : ℕ) → Premise (sample ef 5) calls
@@ -167,7 +184,7 @@ example-run = run-of calls typed
 
 -- so in every run the eighth call finds 7 and 9 and is whole
 eighth-expected : expected (sample 5 5) (modelFrom (sample 5 5) emptyModel (take 7 calls)) (searches 0 nan 4 label-a) ≡ hits (7 ∷ 9 ∷ []) (0 ∷ 0x3ecccccc ∷ []) 5 true
-unfolding expected modelFrom ofBits fnvFrom fnvStep distance
+unfolding expected modelFrom ofBits fnvFrom fnvStep distance namesOf lengthsFit
 eighth-expected = refl
 
 pub eighth : (ends : List Ended) → Run (sample 5 5) calls ends → (none : Ended)

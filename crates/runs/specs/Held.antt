@@ -18,11 +18,12 @@ use Rattle.store.specs.declared.Lengths.{Lengths}
 use Rattle.store.specs.Store.{Store, vectorAt, centroidsAt, orderAt, filtersAt}
 use Rattle.store.specs.Lent.{sizesOf, NoShorter}
 use Rattle.store.specs.Agree.{Agree, part-same}
-use Rattle.curator.specs.Calls.{hashesOfLabels, heldVectors, heldEntries}
+use Rattle.label.specs.Names.{hashesOfLabels}
+use Rattle.curator.specs.Calls.{heldVectors, heldEntries}
 use Rattle.curator.specs.Changes.{Wrote}
 use Rattle.curator.specs.Arguments.{AddCall}
 use Rattle.curator.specs.Lent.{AddRoom}
-use Rattle.curator.specs.LabelLaws.{length-hashesOfLabels}
+use Rattle.label.specs.NameLaws.{length-hashesOfLabels}
 use Rattle.runs.specs.Model.{Setting, Model, ModelRow, emptyModel, rowVectors, rowHashes, ownersFrom, rowEntries, newRow, settingShape}
 use Rattle.runs.specs.State.{stateFor, Within}
 
@@ -121,10 +122,10 @@ pub owners-more : (m : Model) (r : ModelRow)
 owners-more m r = owners-snoc 0 (m .rows) r ∙ ap (λ (k : ℕ). ownersFrom 0 (m .rows) ++ replicate (length (r .hashes)) k) (zero-add (length (m .rows)))
 
 -- one hash a label
-pub count-more : (m : Model) (call : AddCall) → length (rowHashes (withRow m (newRow call))) ≡ length (rowHashes m) + length (call .lengths)
+pub count-more : (m : Model) (call : AddCall) → length (rowHashes (withRow m (newRow call))) ≡ length (rowHashes m) + length (call .names)
 count-more m call =
     ap length (hashes-more m (newRow call)) ∙ length-append (rowHashes m) (newRow call .hashes)
-    ∙ ap (λ (k : ℕ). length (rowHashes m) + k) (length-hashesOfLabels (call .lengths) (call .bytes))
+    ∙ ap (λ (k : ℕ). length (rowHashes m) + k) (length-hashesOfLabels (call .names))
 
 module _ (s : Setting) (m : Model) (call : AddCall) (store store′ : Store) (room : AddRoom (stateFor s m) store call)
     (wrote : Wrote (stateFor s m) store call store′) where
@@ -161,7 +162,7 @@ module _ (s : Setting) (m : Model) (call : AddCall) (store store′ : Store) (ro
   added-documents : (n : ℕ) → length (m .rows) ≡ n → part 0 n (store .numbers) ≡ map (λ r. r .document) (m .rows)
       → part 0 (suc n) (store′ .numbers) ≡ map (λ r. r .document) (m .rows) ++ (call .document ∷ [])
   added-documents n en h =
-      let L = replicate (length (call .lengths)) (length (m .rows)) in
+      let L = replicate (length (call .names)) (length (m .rows)) in
       let at = s .capacities .vectors + length (rowHashes m) in
       let one = sets (store .numbers) n (call .document ∷ []) in
       let small : 0 + suc n ≤ at = omega (arith, room .vectors, en) in
@@ -173,27 +174,27 @@ module _ (s : Setting) (m : Model) (call : AddCall) (store store′ : Store) (ro
       ∙ ap (λ (l : List ℕ). l ++ (call .document ∷ [])) h
 
   added-owners : part (s .capacities .vectors) (length (rowHashes m)) (store .numbers) ≡ ownersFrom 0 (m .rows)
-      → part (s .capacities .vectors) (length (rowHashes m) + length (call .lengths)) (store′ .numbers)
-      ≡ ownersFrom 0 (m .rows) ++ replicate (length (call .lengths)) (length (m .rows))
+      → part (s .capacities .vectors) (length (rowHashes m) + length (call .names)) (store′ .numbers)
+      ≡ ownersFrom 0 (m .rows) ++ replicate (length (call .names)) (length (m .rows))
   added-owners h =
       let v = s .capacities .vectors in
       let e = length (rowHashes m) in
-      let L = replicate (length (call .lengths)) (length (m .rows)) in
+      let L = replicate (length (call .names)) (length (m .rows)) in
       let n = length (m .rows) in
-      ap (λ (l : List ℕ). part v (e + length (call .lengths)) l) (wrote .numbers)
-      ∙ part-sets-grown v e (set (store .numbers) n (call .document)) L (length (call .lengths)) (length-replicate (length (call .lengths)) n)
-      (let t : v + e + length (call .lengths) ≤ length (set (store .numbers) n (call .document)) =
+      ap (λ (l : List ℕ). part v (e + length (call .names)) l) (wrote .numbers)
+      ∙ part-sets-grown v e (set (store .numbers) n (call .document)) L (length (call .names)) (length-replicate (length (call .names)) n)
+      (let t : v + e + length (call .names) ≤ length (set (store .numbers) n (call .document)) =
       omega (arith, room .entries, room .long .numbers, length-set (store .numbers) n (call .document)) in t)
       ∙ ap (λ (l : List ℕ). l ++ L) (part-set-before v e (store .numbers) n (call .document) (room .vectors) ∙ h)
 
   added-hashes : part 0 (length (rowHashes m)) (store .hashes) ≡ rowHashes m
-      → part 0 (length (rowHashes m) + length (call .lengths)) (store′ .hashes) ≡ rowHashes m ++ hashesOfLabels (call .lengths) (call .bytes)
+      → part 0 (length (rowHashes m) + length (call .names)) (store′ .hashes) ≡ rowHashes m ++ hashesOfLabels (call .names)
   added-hashes h =
       let e = length (rowHashes m) in
-      let hs = hashesOfLabels (call .lengths) (call .bytes) in
-      ap (λ (l : List ℕ). part 0 (e + length (call .lengths)) l) (wrote .hashes)
-      ∙ ap (λ (k : ℕ). part 0 (e + length (call .lengths)) (sets (store .hashes) k hs)) (sym (zero-add e))
-      ∙ part-sets-grown 0 e (store .hashes) hs (length (call .lengths)) (length-hashesOfLabels (call .lengths) (call .bytes)) (omega (arith, room .entries, room .long .hashes))
+      let hs = hashesOfLabels (call .names) in
+      ap (λ (l : List ℕ). part 0 (e + length (call .names)) l) (wrote .hashes)
+      ∙ ap (λ (k : ℕ). part 0 (e + length (call .names)) (sets (store .hashes) k hs)) (sym (zero-add e))
+      ∙ part-sets-grown 0 e (store .hashes) hs (length (call .names)) (length-hashesOfLabels (call .names)) (omega (arith, room .entries, room .long .hashes))
       ∙ ap (λ (l : List ℕ). l ++ hs) h
 
   pub held-added : Held s m store → Held s (withRow m (newRow call)) store′
@@ -209,7 +210,7 @@ module _ (s : Setting) (m : Model) (call : AddCall) (store store′ : Store) (ro
             ∙ sym (map-append (λ t. t .document) (m .rows) (r ∷ []));
         owners =
             ap (λ (k : ℕ). part (s .capacities .vectors) k (store′ .numbers)) count ∙ added-owners (h .owners)
-            ∙ ap (λ (k : ℕ). ownersFrom 0 (m .rows) ++ replicate k (length (m .rows))) (sym (length-hashesOfLabels (call .lengths) (call .bytes)))
+            ∙ ap (λ (k : ℕ). ownersFrom 0 (m .rows) ++ replicate k (length (m .rows))) (sym (length-hashesOfLabels (call .names)))
             ∙ sym (owners-more m r);
         hashes = ap (λ (k : ℕ). part 0 k (store′ .hashes)) count ∙ added-hashes (h .hashes) ∙ sym (hashes-more m r);
       }

@@ -26,7 +26,8 @@ use Rattle.settings.specs.declared.Check.the-variants.{Fine, Refused}
 use Rattle.curator.specs.Limits.{shapeOf}
 use Rattle.settings.specs.Refusals.{number, checkNumber}
 use Rattle.curator.specs.Rows.{Facts, Row, firstOf, addRows, takeBackRows, buildRows, searchRows}
-use Rattle.curator.specs.Calls.{hashesOfLabels, splittingOf}
+use Rattle.label.specs.Names.{hashesOfLabels}
+use Rattle.curator.specs.Calls.{splittingOf}
 use Rattle.curator.specs.Arguments.{AddCall, Question, SearchCall, askingOf}
 use Rattle.curator.specs.Searches.{wantedOf}
 use Rattle.runs.specs.Calls.{Change, add, take-back, build, Call, change, search}
@@ -104,7 +105,7 @@ changeCheck s m lent work c = firstOf (changeRows s m lent work c)
 
 -- 'document id, normalised vector, each label's hash'
 abbrev pub newRow : AddCall → ModelRow
-newRow call = record { document = call .document; vector = normalized (call .vector); hashes = hashesOfLabels (call .lengths) (call .bytes) }
+newRow call = record { document = call .document; vector = normalized (call .vector); hashes = hashesOfLabels (call .names) }
 
 -- the lines without the last
 abbrev pub struck : List ModelRow → List ModelRow

@@ -1,6 +1,6 @@
 -- The records of a search's contract, made of what the call is lent.
 use Prim.Native.Nat.{ℕ, _≤_}
-use mathlib.Core.List.{List, _∷_}
+use mathlib.Core.List.{List, _∷_, _++_}
 use mathlib.Core.Path.{_≡_}
 use lib.Ieee.{Float}
 use lib.ListN.{length}
@@ -38,9 +38,9 @@ abbrev pub looking : RefT (List Float) → ℕ → RefT (List ℕ) → RefT (Lis
 looking query k ids distances asked =
     record { question = record { query = now query; asked = asked }; k = k; ids = now ids; distances = now distances }
 
--- `search_filtered` asks for those with a label, `search` for every vector
-abbrev pub filtered : RefT (List Float) → RefT (List ℕ) → ℕ → RefT (List ℕ) → RefT (List Float) → SearchCall
-filtered query label k ids distances = looking query k ids distances (labelled (now label))
+-- `search_filtered` asks for those with a label, joined from its two parts, `search` for every vector
+abbrev pub filtered : RefT (List Float) → RefT (List ℕ) → RefT (List ℕ) → ℕ → RefT (List ℕ) → RefT (List Float) → SearchCall
+filtered query first second k ids distances = looking query k ids distances (labelled (now first ++ now second))
 
 abbrev pub unfiltered : RefT (List Float) → ℕ → RefT (List ℕ) → RefT (List Float) → SearchCall
 unfiltered query k ids distances = looking query k ids distances everything

@@ -158,7 +158,7 @@ fn search_wanted(
     }
 }
 
-// The nearest k documents that have a vector with a label, which is any bytes.
+// The nearest k documents that have a vector with a label: a name in two parts, which are any bytes.
 pub fn search_filtered(
     index: CuratorIndex,
     floats: &[f32],
@@ -166,16 +166,17 @@ pub fn search_filtered(
     hashes: &[u64],
     work: &mut [u32],
     query: &[f32],
-    label: &[u8],
+    first: &[u8],
+    second: &[u8],
     k: usize,
     ids: &mut [u32],
     distances: &mut [f32],
 ) -> Found
     ensures { λ r. ⌜ Searches index (lent (floats .entry) (numbers .entry) (hashes .entry)) (now (work .entry))
-        (filtered (query .entry) (label .entry) k (ids .entry) (distances .entry))
+        (filtered (query .entry) (first .entry) (second .entry) k (ids .entry) (distances .entry))
         (leaving r (work .exit) (ids .exit) (distances .exit)) ⌝ }
 {
-    let wanted = Wanted::Label(label::hash_label(label));
+    let wanted = Wanted::Label(label::hash_name(first, second));
     search_wanted(
         index,
         floats,

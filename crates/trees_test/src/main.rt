@@ -140,21 +140,28 @@ fn vector_at(s: &[u8], at: usize) -> [f32; 8] {
     ]
 }
 
+// The bytes of a label in two parts, whose lengths stand at a place.
+fn label_size(s: &[u8], at: usize) -> usize
+    ensures { λ r. ⌜ r < 512 ⌝ }
+{
+    byte_at(s, at) + byte_at(s, forward(s.len(), at, 1))
+}
+
 // The bytes of up to three labels, whose lengths stand at a place.
 fn text_size(s: &[u8], at: usize, labels: usize) -> usize
-    ensures { λ r. ⌜ r < 1024 ⌝ }
+    ensures { λ r. ⌜ r < 2048 ⌝ }
 {
     if labels == 0 {
         return 0;
     }
     if labels == 1 {
-        return byte_at(s, at);
+        return label_size(s, at);
     }
-    let two = byte_at(s, at) + byte_at(s, forward(s.len(), at, 1));
+    let two = label_size(s, at) + label_size(s, forward(s.len(), at, 2));
     if labels == 2 {
         return two;
     }
-    two + byte_at(s, forward(s.len(), at, 2))
+    two + label_size(s, forward(s.len(), at, 4))
 }
 
 // One add of a case; a refusal is printed and leaves the index.
@@ -168,7 +175,7 @@ fn add_one(
 ) -> Step {
     let labels = at_most(byte_at(s, forward(s.len(), at, 4)), 3);
     let lengths = forward(s.len(), at, 5);
-    let text = forward(s.len(), lengths, labels);
+    let text = forward(s.len(), lengths, 2 * labels);
     let place = forward(s.len(), text, text_size(s, lengths, labels));
     let start = 0;
     let dimension = at_most(index.dimension, 8);

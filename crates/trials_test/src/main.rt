@@ -1,5 +1,5 @@
-// Prints what the leaves give for the records on standard input, a line each. A record has 40 bytes: what is asked, a count, two bytes unused, and nine
-// numbers of four bytes, low byte first. The records and the lines that they must give are made by tools/trials.c.
+// Prints what the leaves give for the records on standard input, a line each. A record has 40 bytes: what is asked, a count, a second count, a byte unused, and
+// nine numbers of four bytes, low byte first. The records and the lines that they must give are made by tools/trials.c.
 use float_bits::from_bits;
 use float_bits::to_bits;
 use libc::STDIN_FILENO;
@@ -23,16 +23,25 @@ fn number(r: &[u8], i: usize) -> u32
     wide(r[at]) + 256 * wide(r[at + 1]) + 65536 * wide(r[at + 2]) + 16777216 * wide(r[at + 3])
 }
 
+// A byte of a record, at most `most`.
+fn byte(r: &[u8], at: usize, most: usize) -> usize
+    requires { ⌜ length (now r) ≡ 40 ⌝ }
+    requires { ⌜ at < 40 ⌝ }
+    ensures { λ n. ⌜ n ≤ most ⌝ }
+{
+    let n = wide(r[at]) as usize;
+    if n < most {
+        return n;
+    }
+    most
+}
+
 // The count of a record, at most `most`.
 fn count(r: &[u8], most: usize) -> usize
     requires { ⌜ length (now r) ≡ 40 ⌝ }
     ensures { λ n. ⌜ n ≤ most ⌝ }
 {
-    let n = wide(r[1]) as usize;
-    if n < most {
-        return n;
-    }
-    most
+    byte(r, 1, most)
 }
 
 // Four floats from number i on.
@@ -112,12 +121,28 @@ fn keys(r: &[u8])
     print_float(total_order::from_key(key));
 }
 
-// 6: the hash of the first bytes, as many as the second byte says.
+// 6: the hash of a name of `count` bytes, whose first part has as many as the third byte says.
 fn hash(r: &[u8])
     requires { ⌜ length (now r) ≡ 40 ⌝ }
 {
-    let end = 4 + count(r, 36);
-    io::print_hex(STDOUT_FILENO, label::hash_label(&r[4..end]), 16);
+    let n = count(r, 36);
+    let middle = 4 + byte(r, 2, n);
+    let end = 4 + n;
+    io::print_hex(
+        STDOUT_FILENO,
+        label::hash_name(&r[4..middle], &r[middle..end]),
+        16,
+    );
+    line_end();
+}
+
+// 9: the hash of `count` bytes after the first two numbers, from a start that these numbers are.
+fn carried_on(r: &[u8])
+    requires { ⌜ length (now r) ≡ 40 ⌝ }
+{
+    let start = number(r, 0) as u64 + 4294967296 * number(r, 1) as u64;
+    let end = 12 + count(r, 28);
+    io::print_hex(STDOUT_FILENO, label::hash_label(start, &r[12..end]), 16);
     line_end();
 }
 
@@ -170,6 +195,7 @@ fn answer(r: &[u8])
         6 => hash(r),
         7 => filter(r),
         8 => scanned(r),
+        9 => carried_on(r),
         _ => line_end(),
     }
 }

@@ -97,7 +97,7 @@ fn added(
 ) -> CuratorIndex {
     kept(
         index,
-        index.add(floats, numbers, hashes, doc_id, vector, &[1], label),
+        index.add(floats, numbers, hashes, doc_id, vector, &[1, 0], label),
     )
 }
 
@@ -123,7 +123,8 @@ fn look_up(
     hashes: &[u64; 24],
     work: &mut [u32; 27],
     filtered: bool,
-    label: &[u8],
+    first: &[u8],
+    second: &[u8],
 ) {
     let query = [1.0f32, 0.0];
     let mut ids = [0u32; 4];
@@ -137,7 +138,8 @@ fn look_up(
             hashes,
             work,
             &query,
-            label,
+            first,
+            second,
             4,
             &mut ids,
             &mut distances,
@@ -160,7 +162,7 @@ fn look_up(
 
 // The worked example with damage: V 4, E 4, M 5, so owners stand at 4, the leaf order of vectors at 8, six numbers per node at 12, child links at 42 and the
 // leaf order of entries at 47. Nodes 0 and 2 are inner, 1, 3 and 4 hold the vectors 0, 1 and 2.
-fn example(ef_search: usize, filtered: bool, label: &[u8], damage: Damage) {
+fn example(ef_search: usize, filtered: bool, first: &[u8], second: &[u8], damage: Damage) {
     let made = fresh_index(ef_search);
     let Changed::Index(fresh) = made else {
         io::write_all(STDOUT_FILENO, b"refused by new\n");
@@ -180,7 +182,8 @@ fn example(ef_search: usize, filtered: bool, label: &[u8], damage: Damage) {
         &hashes,
         &mut work,
         filtered,
-        label,
+        first,
+        second,
     );
 }
 
@@ -189,6 +192,7 @@ fn one_place(filtered: bool, place: usize, value: u32) {
         5,
         filtered,
         b"a",
+        b"",
         Damage {
             first: place,
             first_value: value,
@@ -230,6 +234,7 @@ fn other() {
         5,
         true,
         b"a",
+        b"",
         Damage {
             first: 23,
             first_value: 3,
@@ -245,6 +250,7 @@ fn other() {
         0,
         true,
         b"a",
+        b"",
         Damage {
             first: 13,
             first_value: 99,
@@ -254,11 +260,12 @@ fn other() {
     );
 }
 
-fn unharmed(ef_search: usize, label: &[u8]) {
+fn unharmed(ef_search: usize, first: &[u8], second: &[u8]) {
     example(
         ef_search,
         true,
-        label,
+        first,
+        second,
         Damage {
             first: 51,
             first_value: 0,
@@ -269,16 +276,25 @@ fn unharmed(ef_search: usize, label: &[u8]) {
 }
 
 fn budgets() {
-    unharmed(5, b"a");
-    unharmed(0, b"a");
-    unharmed(2, b"a");
-    unharmed(4, b"a");
-    unharmed(6, b"a");
-    unharmed(65537, b"a");
-    unharmed(65538, b"a");
-    unharmed(5, b"c");
+    unharmed(5, b"a", b"");
+    unharmed(0, b"a", b"");
+    unharmed(2, b"a", b"");
+    unharmed(4, b"a", b"");
+    unharmed(6, b"a", b"");
+    unharmed(65537, b"a", b"");
+    unharmed(65538, b"a", b"");
+    unharmed(5, b"c", b"");
     let long = [97u8; 300];
-    unharmed(5, &long);
+    unharmed(5, &long, b"");
+}
+
+// The name in other parts: the first empty; two that are no echo's label joined, in either place; each of 300 bytes.
+fn parts() {
+    unharmed(5, b"", b"a");
+    unharmed(5, b"a", b"a");
+    unharmed(5, b"a", b"b");
+    let long = [97u8; 300];
+    unharmed(5, &long, &long);
 }
 
 fn main() {
@@ -286,4 +302,5 @@ fn main() {
     children();
     leaves();
     other();
+    parts();
 }

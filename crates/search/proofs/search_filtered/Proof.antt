@@ -1,4 +1,5 @@
--- What is wanted is the hash of the label's bytes.
+-- What is wanted is the hash of the joined name.
+use mathlib.Core.List.{_++_}
 use mathlib.Core.Path.{sym, ap}
 use denote.Ref.{now}
 use Rattle.walk.specs.declared.Wanted.the-variants.{Label}
@@ -10,17 +11,17 @@ use Rattle.search.proofs.search_filtered.Tie as tie
 
 -- ---- the places that needs go back to (primed: the same place, from another one)
 
-abbrev start : tie.After-hash-label → tie.Start
-start c = c .before .before .before .before .before .before .before .before .before
+abbrev start : tie.After-hash-name → tie.Start
+start c = c .before .before .before .before .before .before .before .before .before .before
 
-abbrev after-hash-label : tie.After-search-wanted → tie.After-hash-label
-after-hash-label c = c .before .before .before .before
+abbrev after-hash-name : tie.After-search-wanted → tie.After-hash-name
+after-hash-name c = c .before .before .before .before
 
 abbrev after-search-wanted : tie.After-slice-known6 → tie.After-search-wanted
 after-search-wanted c = c .before .before .before .before .before .before
 
-hash-label-requires : tie.Need-hash-label-requires
-hash-label-requires c κs = search needs
+hash-name-requires : tie.Need-hash-name-requires
+hash-name-requires c κs = search needs
 
 search-wanted-requires : tie.Need-search-wanted-requires
 search-wanted-requires c κs = search needs
@@ -38,17 +39,17 @@ returns : tie.Need-returns
 unfolding wantedOf
 returns c =
     let search-wanted = after-search-wanted c in
-    let hash-label = after-hash-label search-wanted in
-    let hashed = hash-label in
+    let hash-name = after-hash-name search-wanted in
+    let hashed = hash-name in
     search-wanted .search-wanted .ensures
-    (labelled (now (start hash-label .args .label)))
-    (ap Label (sym (hashed .hash-label .ensures)))
+    (labelled (now (start hash-name .args .first) ++ now (start hash-name .args .second)))
+    (ap Label (sym (hashed .hash-name .ensures)))
 
 pub search-filtered-spec : {M : Type 1} → statement M
 search-filtered-spec =
     tie.close
     (tie.spec
-    hash-label-requires
+    hash-name-requires
     search-wanted-requires
     same-length
     same-length-2

@@ -1,12 +1,17 @@
 -- By the case of the check: its first refusal, or what `write_add` leaves; that no row's case holds gives what the writing relies on.
 use mathlib.Core.Path.{_≡_, refl, sym, ap, _∙_}
+use Prim.Native.Nat.{ℕ}
 use native.Mathlib.Omega.{arith}
+use denote.Ref.{now}
+use lib.ListN.{length}
+use Rattle.label.specs.NameLaws.{length-names}
 use Rattle.store.specs.Store.{Store}
 use Rattle.curator.specs.declared.Changed.the-variants.{Index}
 use Rattle.settings.specs.declared.Check.the-variants.{Fine}
 use Rattle.vector.specs.Vector.{dot}
 use Rattle.curator.specs.RowLaws.{squares-fine, squares-refused}
 use Rattle.curator.specs.AddLaws.{Accepted, add-facts, adds-by}
+use Rattle.curator.specs.Calls.{grown}
 use Rattle.curator.specs.Changes.{AddsBy, addCheck}
 use Rattle.curator.specs.Arguments.{AddCall}
 use Rattle.curator.specs.Lent.{adding}
@@ -50,11 +55,17 @@ after-known-told2 c = c .before .before .before
 abbrev after-known-told2′ : tie.After-write-add → tie.After-known-told2
 after-known-told2′ c = c .before .before .before .before
 
-abbrev after-write-add : tie.After-slice-known6 → tie.After-write-add
-after-write-add c = c .before .before .before .before .before .before
+abbrev after-write-add : tie.After-label-count → tie.After-write-add
+after-write-add c = c .before .before .before .before .before .before .before
 
-abbrev after-write-add′ : tie.After-grown → tie.After-write-add
-after-write-add′ c = c .before .before .before .before .before .before .before
+abbrev counted : tie.After-grown → tie.After-label-count
+counted c = c .before
+
+-- the labels counted are the names
+labels : (c : tie.After-label-count) → c .label-count .result ≡ length (callOf (entry (after-known-told2′ (after-write-add c))) .names)
+labels c =
+    let args = entry (after-known-told2′ (after-write-add c)) .args in
+    c .label-count .ensures ∙ sym (length-names (now (args .lengths)) (now (args .bytes)))
 
 add-check-requires : tie.Need-add-check-requires
 add-check-requires c κs = search needs
@@ -68,9 +79,13 @@ enum-known-check-2 c = search needs
 write-add-requires : tie.Need-write-add-requires
 write-add-requires c κs = (facts (after-known-told2 c) .room, fine (after-known-told2 c) .1)
 
+label-count-requires : tie.Need-label-count-requires
+label-count-requires c κs = search needs
+
 grown-requires : tie.Need-grown-requires
 grown-requires c κs =
     let r = facts (after-known-told2′ (after-write-add c)) .room in
+    let many = labels c in
     (omega arith, omega arith)
 
 returns : tie.Need-returns
@@ -89,8 +104,10 @@ same-length-3 c = search needs
 returns-2 : tie.Need-returns-2
 unfolding AddsBy
 returns-2 c =
-    let wrote = after-write-add′ c in
-    adds-by _ _ _ _ _ _ (fine (after-known-told2′ wrote) .0) (is-carried _ _ (ap Index (c .grown .ensures)), wrote .write-add .ensures)
+    let wrote = after-write-add (counted c) in
+    let index = entry (after-known-told2′ wrote) .args .self in
+    adds-by _ _ _ _ _ _ (fine (after-known-told2′ wrote) .0)
+    (is-carried _ _ (ap Index (c .grown .ensures ∙ ap (λ (n : ℕ). grown index n) (labels (counted c)))), wrote .write-add .ensures)
 
 pub add-spec : {M : Type 1} → statement M
 add-spec =
@@ -100,6 +117,7 @@ add-spec =
     enum-known-check
     enum-known-check-2
     write-add-requires
+    label-count-requires
     grown-requires
     returns
     same-length

@@ -1,12 +1,17 @@
 -- The first three rows are `unbuilt_check`'s. Then row by row: what each test asked is its row's case. `after-k` says that the first k rows pass, so that what is
 -- left decides.
+use Prim.Native.Nat.{ℕ, _+_}
 use mathlib.Core.Bool.{not}
 use mathlib.Core.Path.{_≡_, sym, ap, _∙_}
 use mathlib.Core.List.{List, _∷_}
 use native.Mathlib.Omega.{arith}
 use borrow.Author.Needs.{needs}
 use borrow.Author.Tests.{not-false, eq-eqb, ne-eqb, lt-ltb, le-ltb}
-use lib.ListN.{drop}
+use denote.Ref.{now}
+use lib.Dec.{ltb}
+use lib.ListN.{length, drop}
+use Rattle.label.specs.Names.{namesOf}
+use Rattle.label.specs.NameLaws.{length-names}
 use Rattle.settings.specs.declared.Check.{Check}
 use Rattle.settings.specs.declared.Check.the-variants.{Fine, Refused}
 use Rattle.curator.specs.Calls.{factsOf}
@@ -38,8 +43,11 @@ told-3 c = told-2 (c .before .before)
 abbrev told-4 : tie.Else4 → tie.After-enum-told
 told-4 c = told-3 (c .before .before)
 
+abbrev else4 : tie.Else5 → tie.Else4
+else4 c = c .before .before .before .before
+
 abbrev told-5 : tie.Else5 → tie.After-enum-told
-told-5 c = told-4 (c .before .before .before)
+told-5 c = told-4 (else4 c)
 
 abbrev start : tie.After-unbuilt-check → tie.Start
 start c = c .before .before .before .before
@@ -53,14 +61,20 @@ else1 c = c .before .before .before
 abbrev else1′ : tie.Then2 → tie.Else1
 else1′ c = c .before .before .before
 
-abbrev else4 : tie.Else5 → tie.Else4
-else4 c = c .before .before .before
-
 abbrev else4′ : tie.Then5 → tie.Else4
-else4′ c = c .before .before .before
+else4′ c = c .before .before .before .before
+
+abbrev named : tie.After-label-count → tie.Start
+named c = entry (told-4 (c .before))
+
+abbrev counted : tie.Else5 → tie.After-label-count
+counted c = c .before .before .before
+
+abbrev counted′ : tie.Then5 → tie.After-label-count
+counted′ c = c .before .before .before
 
 abbrev scanned : tie.Else5 → tie.After-scan
-scanned c = c .before .before .before .before .before .before .before .before .before
+scanned c = c .before .before .before .before .before .before .before .before .before .before
 
 abbrev rows : tie.Start → List Row
 rows s =
@@ -92,15 +106,24 @@ after-5 c = after-4 (else1 c) ∙ row-passes _ _ (ap not (sym (c .before .before
 
 after-6 : (c : tie.Else3) → firstOf (rows (entry (told-3 c))) ≡ firstOf (drop 6 (rows (entry (told-3 c))))
 unfolding addRows
-after-6 c = after-5 (c .before .before) ∙ row-passes _ _ (ap not (sym (c .before .sums-to .ensures)) ∙ c .if3 .left)
+after-6 c = after-5 (c .before .before) ∙ row-passes _ _ (ap not (sym (c .before .lengths-fit .ensures)) ∙ c .if3 .left)
 
 after-7 : (c : tie.Else4) → firstOf (rows (entry (told-4 c))) ≡ firstOf (drop 7 (rows (entry (told-4 c))))
 unfolding addRows
 after-7 c = after-6 (c .before .before) ∙ row-passes _ _ (ne-eqb _ _ (c .if4 .left))
 
+-- the labels counted are the names
+room : (c : tie.After-label-count)
+    → ltb (named c .args .index .capacities .entries) (named c .args .index .counts .entries + c .label-count .result)
+    ≡ ltb (named c .args .index .capacities .entries)
+    (named c .args .index .counts .entries + length (namesOf (now (named c .args .lengths)) (now (named c .args .bytes))))
+room c =
+    ap (λ (labels : ℕ). ltb (named c .args .index .capacities .entries) (named c .args .index .counts .entries + labels))
+    (c .label-count .ensures ∙ sym (length-names (now (named c .args .lengths)) (now (named c .args .bytes))))
+
 after-8 : (c : tie.Else5) → firstOf (rows (entry (told-5 c))) ≡ firstOf (drop 8 (rows (entry (told-5 c))))
 unfolding addRows
-after-8 c = after-7 (else4 c) ∙ row-passes _ _ (le-ltb _ _ (c .if5 .left))
+after-8 c = after-7 (else4 c) ∙ row-passes _ _ (sym (room (counted c)) ∙ le-ltb _ _ (c .if5 .left))
 
 unbuilt-check-requires : tie.Need-unbuilt-check-requires
 unbuilt-check-requires c κs = search needs
@@ -127,26 +150,29 @@ returns-3 : tie.Need-returns-3
 unfolding addRows
 returns-3 c = squares-by _ _ (after-4 (else1′ c) ∙ row-stops _ _ (ap not (sym (c .before .before .scan .ensures .0)) ∙ c .if2 .taken))
 
-sums-to-requires : tie.Need-sums-to-requires
-sums-to-requires c κs = search needs
+lengths-fit-requires : tie.Need-lengths-fit-requires
+lengths-fit-requires c κs = search needs
 
 returns-4 : tie.Need-returns-4
 unfolding addRows
-returns-4 c = squares-by _ _ (after-5 (c .before .before) ∙ row-stops _ _ (ap not (sym (c .before .sums-to .ensures)) ∙ c .if3 .taken))
+returns-4 c = squares-by _ _ (after-5 (c .before .before) ∙ row-stops _ _ (ap not (sym (c .before .lengths-fit .ensures)) ∙ c .if3 .taken))
 
 returns-5 : tie.Need-returns-5
 unfolding addRows
 returns-5 c = squares-by _ _ (after-6 (c .before .before) ∙ row-stops _ _ (eq-eqb _ _ (c .if4 .taken)))
 
+label-count-requires : tie.Need-label-count-requires
+label-count-requires c κs = search needs
+
 add-if5 : tie.Need-add-if5
 add-if5 c =
-    let told = told-4 (c .before) in
+    let told = told-4 (c .before .before) in
     let s = sound told in
-    omega (arith, entry told .good)
+    omega (arith, entry told .good, c .before .label-count .ensures)
 
 returns-6 : tie.Need-returns-6
 unfolding addRows
-returns-6 c = squares-by _ _ (after-7 (else4′ c) ∙ row-stops _ _ (lt-ltb _ _ (c .if5 .taken)))
+returns-6 c = squares-by _ _ (after-7 (else4′ c) ∙ row-stops _ _ (sym (room (counted′ c)) ∙ lt-ltb _ _ (c .if5 .taken)))
 
 returns-7 : tie.Need-returns-7
 unfolding addRows
@@ -163,9 +189,10 @@ add-check-spec =
     returns-2
     scan-requires
     returns-3
-    sums-to-requires
+    lengths-fit-requires
     returns-4
     returns-5
+    label-count-requires
     add-if5
     returns-6
     returns-7)

@@ -1,11 +1,13 @@
 -- Each list is written by one call; the facts of `AddRoom` say that it fits. The owners stand after the document ids.
 use Prim.Native.Nat.{ℕ, _+_}
-use mathlib.Core.Path.{_≡_, sym, ap, _∙_, subst}
+use mathlib.Core.Path.{_≡_, sym, ap, ap₂, _∙_, subst}
 use mathlib.Core.List.{List}
 use native.Mathlib.Omega.{arith}
 use borrow.Author.Needs.{needs}
 use lib.ListN.{length, set, replicate}
 use lib.Seq.{sets}
+use Rattle.label.specs.Names.{namesOf}
+use Rattle.label.specs.NameLaws.{length-names, fit-total}
 use Rattle.store.specs.declared.Shape.{Shape}
 use Rattle.store.specs.Store.{Limits}
 use Rattle.curator.proofs.Steps.{place-fits, place-room}
@@ -21,11 +23,11 @@ entry c = c .before .before .before .before .before .before .before .before .bef
 owners : (c : tie.After-owners-at) → c .owners-at .result ≡ entry c .args .index .capacities .vectors
 owners c = c .owners-at .ensures ∙ ap (λ (s : Shape). s .vectors) (c .before .shape-of .ensures)
 
--- what `write_numbers` left, by an equal start of the owners
-started : {after : List ℕ} (numbers : List ℕ) (vector document held count : ℕ) {a b : ℕ}
-    → after ≡ sets (set numbers vector document) (a + held) (replicate count vector) → a ≡ b
-    → after ≡ sets (set numbers vector document) (b + held) (replicate count vector)
-started numbers vector document held count h e = h ∙ ap (λ (o : ℕ). sets (set numbers vector document) (o + held) (replicate count vector)) e
+-- what `write_numbers` left, by an equal start of the owners and an equal number of them
+started : {after : List ℕ} (numbers : List ℕ) (vector document held : ℕ) {a b m n : ℕ}
+    → after ≡ sets (set numbers vector document) (a + held) (replicate m vector) → a ≡ b → m ≡ n
+    → after ≡ sets (set numbers vector document) (b + held) (replicate n vector)
+started numbers vector document held h e f = h ∙ ap₂ (λ (o count : ℕ). sets (set numbers vector document) (o + held) (replicate count vector)) e f
 
 abbrev at-start : tie.After-shape-of → tie.Start
 at-start c = c .before .before .before .before .before .before .before .before
@@ -36,17 +38,27 @@ after-owners-at c = c .before .before .before .before
 abbrev after-owners-at′ : tie.After-write-vector → tie.After-owners-at
 after-owners-at′ c = c .before .before .before .before .before
 
-abbrev after-write-vector : tie.After-write-numbers-arg → tie.After-write-vector
-after-write-vector c = c .before .before .before
+abbrev counted : tie.After-write-numbers → tie.After-label-count
+counted c = c .before
+
+abbrev after-write-vector : tie.After-label-count → tie.After-write-vector
+after-write-vector c = c .before .before .before .before
 
 abbrev after-write-vector′ : tie.After-write-numbers → tie.After-write-vector
-after-write-vector′ c = c .before .before .before .before
+after-write-vector′ c = c .before .before .before .before .before
 
 abbrev after-write-numbers : tie.After-write-hashes-arg → tie.After-write-numbers
 after-write-numbers c = c .before .before .before
 
 abbrev after-write-numbers′ : tie.After-slice-known6 → tie.After-write-numbers
 after-write-numbers′ c = c .before .before .before .before .before .before
+
+-- the labels counted are the names
+labels : (c : tie.After-label-count)
+    → let args = entry (after-owners-at′ (after-write-vector c)) .args in c .label-count .result ≡ length (namesOf (args .lengths .now) (args .bytes .now))
+labels c =
+    let args = entry (after-owners-at′ (after-write-vector c)) .args in
+    c .label-count .ensures ∙ sym (length-names (args .lengths .now) (args .bytes .now))
 
 shape-of-requires : tie.Need-shape-of-requires
 shape-of-requires c κs = search needs
@@ -72,16 +84,22 @@ write-vector-requires c κs =
     (start .pre .0 .vectors) in
     (omega arith, start .pre .1)
 
+label-count-requires : tie.Need-label-count-requires
+label-count-requires c κs = search needs
+
 write-numbers-requires : tie.Need-write-numbers-requires
 write-numbers-requires c κs =
     let known = after-owners-at′ (after-write-vector c) in
     let start = owners known in
-    (omega (arith, entry known .pre .0), omega (arith, entry known .pre .0), omega (arith, entry known .pre .0))
+    let many = labels c in
+    (omega (arith, entry known .pre .0), omega (arith, entry known .pre .0), omega (arith, entry known .pre .0, many))
 
 write-hashes-requires : tie.Need-write-hashes-requires
 write-hashes-requires c κs =
     let known = after-owners-at′ (after-write-vector′ (after-write-numbers c)) in
-    (omega (arith, entry known .pre .0), entry known .pre .0 .labels)
+    let args = entry known .args in
+    let many = length-names (args .lengths .now) (args .bytes .now) in
+    (omega (arith, entry known .pre .0, many), fit-total (args .lengths .now) (length (args .bytes .now)) (entry known .pre .0 .labels))
 
 same-length : tie.Need-same-length
 same-length c = search needs
@@ -103,9 +121,10 @@ returns c =
       normalized = stored .write-vector .ensures .normalized;
       floats = stored .write-vector .ensures .floats;
       numbers =
-          started (args .numbers .now) (args .index .counts .vectors) (args .doc-id) (args .index .counts .entries) (length (args .lengths .now))
+          started (args .numbers .now) (args .index .counts .vectors) (args .doc-id) (args .index .counts .entries)
           (numbered .write-numbers .ensures)
-          (owners known);
+          (owners known)
+          (labels (counted numbered));
       hashes = c .before .before .write-hashes .ensures;
     }
 
@@ -118,6 +137,7 @@ write-add-spec =
     add-owners
     mul-write-vector
     write-vector-requires
+    label-count-requires
     write-numbers-requires
     write-hashes-requires
     same-length

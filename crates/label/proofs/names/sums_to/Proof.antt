@@ -6,11 +6,11 @@ use native.Mathlib.Omega.{arith}
 use borrow.Author.Tests.{ne-eqb}
 use lib.ListN.{length, getD, drop, drop-of-length-le}
 use Rattle.lists.specs.Lists.{total}
-use Rattle.curator.specs.LabelLaws.{total-drop}
-use Rattle.curator.proofs.Steps.{same-eqb}
+use Rattle.label.specs.NameLaws.{total-drop}
+use Rattle.label.proofs.Steps.{same-eqb}
 use borrow.Author.Needs.{needs}
-use Rattle.curator.proofs.add.sums_to.Statement.{statement}
-use Rattle.curator.proofs.add.sums_to.Tie as tie
+use Rattle.label.proofs.names.sums_to.Statement.{statement}
+use Rattle.label.proofs.names.sums_to.Tie as tie
 
 abbrev Inv-loop : tie.InvT-loop
 Inv-loop lengths sum left₀ i₀ left i = (i ≤ length lengths) × (total (drop i lengths) + sum ≡ total lengths + left)

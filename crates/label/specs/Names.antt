@@ -1,0 +1,35 @@
+-- 02, K7: names in two parts, as an add brings them. 'In add the lengths list has two bytes a label, first part's then second's; 9 and 20 read the sum, and
+-- an odd list is 9.'
+use Prim.Native.Nat.{ℕ, _%_}
+use mathlib.Core.Bool.{Bool, _&&_}
+use mathlib.Core.List.{List, [], _∷_, _++_, map}
+use lib.Dec.{eqb}
+use lib.ListN.{length}
+use Rattle.lists.specs.Lists.{total, pieces}
+use Rattle.label.specs.Fnv.{fnv}
+
+-- two parts make a name: the first with the second after it; a part left over makes none
+unfoldable pub joinedPairs : List (List ℕ) → List (List ℕ)
+joinedPairs [] = []
+joinedPairs (first ∷ []) = []
+joinedPairs (first ∷ second ∷ parts) = (first ++ second) ∷ joinedPairs parts
+
+-- the joined names: the lengths cut the parts from the label bytes, one after the other
+unfoldable pub namesOf : List ℕ → List ℕ → List (List ℕ)
+unfolding pieces joinedPairs
+namesOf lengths bytes = joinedPairs (pieces lengths bytes)
+
+-- whether the lengths part so many bytes into names; if not, 9
+unfoldable pub lengthsFit : List ℕ → ℕ → Bool
+unfolding total
+lengthsFit lengths bytes = eqb (length lengths % 2) 0 && eqb (total lengths) bytes
+
+-- the lengths of names whose second part is empty
+unfoldable pub wholeLengths : List ℕ → List ℕ
+wholeLengths [] = []
+wholeLengths (n ∷ lengths) = n ∷ 0 ∷ wholeLengths lengths
+
+-- each label's hash
+unfoldable pub hashesOfLabels : List (List ℕ) → List ℕ
+unfolding fnv
+hashesOfLabels names = map fnv names

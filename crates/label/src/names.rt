@@ -1,0 +1,87 @@
+// The names of an add, each in two parts: two lengths a name cut them from the label bytes.
+ghost use mathlib.Core.List.{_++_};
+ghost use mathlib.Core.Path.{_≡_};
+ghost use Prim.Native.Nat.{_+_, _-_, _*_, _/_, _≤_};
+ghost use lib.Dec.{eqb};
+ghost use lib.ListN.{length};
+ghost use lib.Seq.{sets};
+ghost use Rattle.lists.specs.Lists.{part, total};
+ghost use Rattle.label.specs.Fnv.{fnv};
+ghost use Rattle.label.specs.Names.{namesOf, lengthsFit, hashesOfLabels, wholeLengths};
+use crate::hash_name;
+
+// A byte as a size.
+fn wide(byte: u8) -> usize
+    ensures { λ r. ⌜ r ≡ byte ⌝ }
+{
+    byte as usize
+}
+
+// Whether the lengths sum to `sum`. What is left of the sum is counted down, so nothing overflows.
+fn sums_to(lengths: &[u8], sum: usize) -> bool
+    ensures { λ r. ⌜ r ≡ eqb (total (now (lengths .entry))) sum ⌝ }
+{
+    let mut left = sum;
+    let mut i = 0;
+    while i < lengths.len() {
+        let next = wide(lengths[i]);
+        if left < next {
+            return false;
+        }
+        left -= next;
+        i += 1;
+    }
+    left == 0
+}
+
+// Whether the lengths part so many bytes into names: two lengths a name, and together the bytes.
+pub fn lengths_fit(lengths: &[u8], bytes: usize) -> bool
+    ensures { λ r. ⌜ r ≡ lengthsFit (now (lengths .entry)) bytes ⌝ }
+{
+    (lengths.len() % 2 == 0) & sums_to(lengths, bytes)
+}
+
+// How many labels have these lengths, two each.
+pub fn label_count(lengths: &[u8]) -> usize
+    ensures { λ r. ⌜ r ≡ length (now (lengths .entry)) / 2 ⌝ }
+{
+    lengths.len() / 2
+}
+
+// The hash of the name whose first part goes from a start to a middle and whose second part from there to an end.
+fn name_hash(bytes: &[u8], start: usize, middle: usize, end: usize) -> u64
+    requires { ⌜ (start ≤ middle) × (middle ≤ end) × (end ≤ length (now bytes)) ⌝ }
+    ensures { λ r. ⌜ r ≡ fnv (part start (middle - start) (now (bytes .entry)) ++ part middle (end - middle) (now (bytes .entry))) ⌝ }
+{
+    hash_name(&bytes[start..middle], &bytes[middle..end])
+}
+
+// Writes each name's hash. A part starts where the one before it ended.
+pub fn write_hashes(hashes: &mut [u64], place: usize, lengths: &[u8], bytes: &[u8])
+    requires { ⌜ (place + length (now lengths) / 2 ≤ length (now hashes)) × (total (now lengths) ≡ length (now bytes)) ⌝ }
+    ensures { λ _. ⌜ now (hashes .exit) ≡ sets (now (hashes .entry)) place (hashesOfLabels (namesOf (now (lengths .entry)) (now (bytes .entry)))) ⌝ }
+{
+    let labels = label_count(lengths);
+    let mut start = 0;
+    let mut i = 0;
+    while i < labels {
+        let middle = start + wide(lengths[2 * i]);
+        let end = middle + wide(lengths[2 * i + 1]);
+        hashes[place + i] = name_hash(bytes, start, middle, end);
+        start = end;
+        i += 1;
+    }
+}
+
+// Writes the lengths of names whose second part is empty: each length, and a 0 after it.
+pub fn whole_lengths(lengths: &[u8], parts: &mut [u8])
+    requires { ⌜ 2 * length (now lengths) ≡ length (now parts) ⌝ }
+    ensures { λ _. ⌜ now (parts .exit) ≡ wholeLengths (now (lengths .entry)) ⌝ }
+{
+    let mut i = 0;
+    while i < lengths.len() {
+        parts[2 * i] = lengths[i];
+        parts[2 * i + 1] = 0;
+        i += 1;
+    }
+}
