@@ -1,5 +1,5 @@
 -- Lemmas of the proofs in `load`.
-use Prim.Native.Nat.{ℕ, _-_, _≤_, _<_}
+use Prim.Native.Nat.{ℕ, _-_, _*_, _≤_, _<_}
 use native.Mathlib.Omega.{arith}
 use mathlib.Core.Bool.{Bool, true, false, cond}
 use mathlib.Core.List.{List, [], _∷_, _++_, map}
@@ -12,7 +12,7 @@ use lib.Seq.{take-at}
 use Rattle.lists.specs.Lists.{total, pieces}
 use Rattle.lists.specs.Parts.{length-part}
 use Rattle.label.specs.Names.{wholeLengths}
-use Rattle.label.specs.NameLaws.{names-whole, whole-fit}
+use Rattle.label.specs.NameLaws.{length-whole, names-whole, whole-fit}
 use types.Run.{OneOf, miss}
 use denote.Enum.Declared.{tagOf}
 use Rattle.echo_file.proofs.Located.{the-type as located-type}
@@ -115,6 +115,13 @@ pub floats-front : (out rest : List Float) (file : List ℕ) (at : ℕ) {m n : �
 floats-front out rest file at {m} {n} e h =
     let size : length out ≡ n = ap length h ∙ length-map (numbers m (drop at file)) (ofBits binary32) ∙ length-numbers m (drop at file) ∙ e in
     (omega (arith, size, length-append out rest), take-at out rest n size ∙ h ∙ ap (λ (k : ℕ). floats (numbers k (drop at file))) e)
+
+-- lengths that were made of those read stand in front
+pub lengths-front : (out rest lengths : List ℕ) {n : ℕ} → 2 * length lengths ≡ n → out ≡ wholeLengths lengths
+    → (n ≤ length (out ++ rest)) × (take n (out ++ rest) ≡ wholeLengths lengths)
+lengths-front out rest lengths {n} e h =
+    let size : length out ≡ n = ap length h ∙ length-whole lengths ∙ e in
+    (omega (arith, size, length-append out rest), take-at out rest n size ∙ h)
 
 -- the names of an add are the labels that were read
 read-names : (document : ℕ) (vector : List Float) (labels : List (List ℕ)) {lengths bytes : List ℕ} → lengths ≡ map length labels → bytes ≡ format.labelBytes labels

@@ -12,7 +12,7 @@ use Rattle.curator_c.proofs.curator_search_filtered.Tie as tie
 
 -- what the function is called with
 abbrev callOf : tie.Start → SearchCall
-callOf s = filtered (s .args .query) (s .args .label) (s .args .k) (s .args .ids) (s .args .distances)
+callOf s = filtered (s .args .query) (s .args .first) (s .args .second) (s .args .k) (s .args .ids) (s .args .distances)
 
 -- ---- the places that needs go back to (primed: the same place, from another one)
 

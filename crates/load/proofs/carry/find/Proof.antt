@@ -1,12 +1,15 @@
 -- The floats that were read are the query, and the search is the one that was asked for.
-use mathlib.Core.Bool.{Bool}
-use mathlib.Core.List.{List}
-use mathlib.Core.Path.{_≡_, sym, ap, subst}
+use Prim.Native.Nat.{ℕ, _-_}
+use native.Mathlib.Omega.{arith}
+use mathlib.Core.Bool.{Bool, true}
+use mathlib.Core.List.{List, _++_, append-nil}
+use mathlib.Core.Path.{_≡_, sym, ap, _∙_, subst}
 use lib.Ieee.{Float}
 use lib.Seq.{length-take-le}
 use Rattle.store.specs.Lent.{lent}
 use Rattle.curator.specs.Searches.{SearchEnd, Searches}
-use Rattle.curator.specs.Arguments.{Asked}
+use Rattle.lists.specs.Lists.{part}
+use Rattle.curator.specs.Arguments.{Asked, labelled}
 use Rattle.echo_file.specs.Reads.{bytesBetween}
 use Rattle.load.specs.Step.{searchWith}
 use Rattle.load.specs.Code.{lists, askedFor}
@@ -22,7 +25,7 @@ start c = c .before .before .before .before .before .before .before .before
 
 -- they are read before either search
 abbrev filtered : tie.After-components → tie.Then1
-filtered c = c .before .before .before
+filtered c = c .before .before .before .before
 
 abbrev unfiltered : tie.After-components2 → tie.Else1
 unfiltered c = c .before .before
@@ -40,6 +43,18 @@ finds-as s end {q} {query} {a} {asked} e k h = subst (λ (x : List Float). Finds
 
 abbrev label : tie.Start → Bool → Asked
 label s filtered = let q = s .args .query in askedFor filtered (bytesBetween (q .«label_at») (q .«floats_at») (s .args .file .now))
+
+-- the second part is empty
+whole : (s : tie.Start)
+    → let q = s .args .query in
+    let file = s .args .file .now in
+    labelled (bytesBetween (q .«label_at») (q .«floats_at») file ++ bytesBetween (q .«floats_at») (q .«floats_at») file) ≡ label s true
+whole s =
+    let q = s .args .query in
+    let file = s .args .file .now in
+    let none : q .«floats_at» - q .«floats_at» ≡ 0 = omega arith in
+    ap (λ (n : ℕ). labelled (bytesBetween (q .«label_at») (q .«floats_at») file ++ part (q .«floats_at») n file)) none
+    ∙ ap labelled (append-nil (bytesBetween (q .«label_at») (q .«floats_at») file))
 
 abbrev after-components2 : tie.After-search → tie.After-components2
 after-components2 c = c .before .before .before
@@ -64,6 +79,15 @@ part-label-start c = search needs
 
 part-label-end : tie.Need-part-label-end
 part-label-end c = search needs
+
+sub-none : tie.Need-sub-none
+sub-none c = search needs
+
+part-none-start : tie.Need-part-none-start
+part-none-start c = search needs
+
+part-none-end : tie.Need-part-none-end
+part-none-end c = search needs
 
 array-share-prefix-components : tie.Need-array-share-prefix-components
 array-share-prefix-components c = search needs
@@ -90,8 +114,8 @@ returns c =
     let t = filtered (after-components f) in
     let s = start (t .before) in
     let x = f .search-filtered .last .1 .1 .1 .1 in
-    let end : SearchEnd = record { answer = f .search-filtered .result; work = x .0; ids = x .1 .1 .1 .1 .0; distances = x .1 .1 .1 .1 .1 .0 } in
-    finds-as s end (t .before .floats-at .ensures .1) (ap (label s) (sym (t .if1 .taken))) (f .search-filtered .ensures)
+    let end : SearchEnd = record { answer = f .search-filtered .result; work = x .0; ids = x .1 .1 .1 .1 .1 .0; distances = x .1 .1 .1 .1 .1 .1 .0 } in
+    finds-as s end (t .before .floats-at .ensures .1) (whole s ∙ ap (label s) (sym (t .if1 .taken))) (f .search-filtered .ensures)
 
 array-share-prefix-components-2 : tie.Need-array-share-prefix-components-2
 array-share-prefix-components-2 c = search needs
@@ -129,6 +153,9 @@ find-spec =
     sub-label
     part-label-start
     part-label-end
+    sub-none
+    part-none-start
+    part-none-end
     array-share-prefix-components
     slice-aggregate-search-filtered
     search-filtered-requires
