@@ -32,13 +32,14 @@ static void test_new(void) {
 
 /* each call on a state list of a length returns 4 and leaves everything */
 static void no_state(index_t *x, size_t state_len) {
-    static const uint8_t label[] = {'a'}, length[] = {1};
+    static const uint8_t label[] = {'a'}, lengths[] = {1, 0};
     answer_t a;
     copy_t c = copy(x);
     mark(&a);
-    CHECK(curator_add(x->state, state_len, STORE(x), 1, query, 2, length, 1, label, 1) == CURATOR_INVALID_STATE);
+    CHECK(curator_add(x->state, state_len, STORE(x), 1, query, 2, lengths, 2, label, 1) == CURATOR_INVALID_STATE);
+    CHECK(curator_add(x->state, state_len, STORE(x), 1, query, 2, lengths, 1, label, 1) == CURATOR_INVALID_STATE);
     CHECK(curator_build(x->state, state_len, STORE(x), WORK(x)) == CURATOR_INVALID_STATE);
-    CHECK(curator_search_filtered(x->state, state_len, STORE(x), WORK(x), query, 2, label, 1, 4, a.ids, HITS, a.distances, HITS, a.answer, 3)
+    CHECK(curator_search_filtered(x->state, state_len, STORE(x), WORK(x), query, 2, label, 1, label, 0, 4, a.ids, HITS, a.distances, HITS, a.answer, 3)
           == CURATOR_INVALID_STATE);
     CHECK(curator_search(x->state, state_len, STORE(x), WORK(x), query, 2, 4, a.ids, HITS, a.distances, HITS, a.answer, 3)
           == CURATOR_INVALID_STATE);
@@ -73,29 +74,29 @@ static void test_state(void) {
 }
 
 static void test_add(void) {
-    static const uint8_t lengths[] = {1, 0, 2}, bytes[] = {'a', 'b', 'c'};
+    static const uint8_t lengths[] = {1, 0, 0, 0, 1, 1}, bytes[] = {'a', 'b', 'c'};
     static const float bad[] = {1.0f, 1.0f / 0.0f};
     index_t x;
     example(&x, 5, 0);
     static const size_t held[] = {2, 2, 1, 5, 4, 4, 8, 16, 3, 3, 0, 0};
     CHECK(memcmp(x.state, held, sizeof held) == 0);
     copy_t c = copy(&x);
-    CHECK(curator_add(STATE(&x), x.floats, x.floats_len - 1, x.numbers, x.numbers_len, x.hashes, x.hashes_len, 1, bad, 1, lengths, 3, bytes, 2)
+    CHECK(curator_add(STATE(&x), x.floats, x.floats_len - 1, x.numbers, x.numbers_len, x.hashes, x.hashes_len, 1, bad, 1, lengths, 6, bytes, 2)
           == CURATOR_LIST_TOO_SHORT);
-    CHECK(curator_add(STATE(&x), STORE(&x), 1, bad, 1, lengths, 3, bytes, 2) == CURATOR_DIMENSION_MISMATCH);
-    CHECK(curator_add(STATE(&x), STORE(&x), 1, bad, 2, lengths, 3, bytes, 2) == CURATOR_NON_FINITE_INPUT);
-    CHECK(curator_add(STATE(&x), STORE(&x), 1, query, 2, lengths, 3, bytes, 2) == CURATOR_LABEL_LENGTHS);
+    CHECK(curator_add(STATE(&x), STORE(&x), 1, bad, 1, lengths, 6, bytes, 2) == CURATOR_DIMENSION_MISMATCH);
+    CHECK(curator_add(STATE(&x), STORE(&x), 1, bad, 2, lengths, 6, bytes, 2) == CURATOR_NON_FINITE_INPUT);
+    CHECK(curator_add(STATE(&x), STORE(&x), 1, query, 2, lengths, 6, bytes, 2) == CURATOR_LABEL_LENGTHS);
     CHECK(unchanged(&x, &c));
-    CHECK(curator_add(STATE(&x), STORE(&x), 1, query, 2, lengths, 3, bytes, 3) == 0);
+    CHECK(curator_add(STATE(&x), STORE(&x), 1, query, 2, lengths, 6, bytes, 3) == 0);
     CHECK(x.state[CURATOR_VECTORS_HELD] == 4 && x.state[CURATOR_ENTRIES_HELD] == 6);
     forget(&c);
     c = copy(&x);
-    CHECK(curator_add(STATE(&x), STORE(&x), 1, query, 2, lengths, 3, bytes, 3) == CURATOR_VECTORS_FULL);
+    CHECK(curator_add(STATE(&x), STORE(&x), 1, query, 2, lengths, 6, bytes, 3) == CURATOR_VECTORS_FULL);
     CHECK(unchanged(&x, &c));
     forget(&c);
     x.state[CURATOR_VECTORS_HELD] = 3;
     c = copy(&x);
-    CHECK(curator_add(STATE(&x), STORE(&x), 1, query, 2, lengths, 3, bytes, 3) == CURATOR_ENTRIES_FULL);
+    CHECK(curator_add(STATE(&x), STORE(&x), 1, query, 2, lengths, 6, bytes, 3) == CURATOR_ENTRIES_FULL);
     CHECK(unchanged(&x, &c));
     CHECK(surplus_untouched(&x));
     forget(&c);
@@ -177,8 +178,8 @@ static void test_build(void) {
 static void both(index_t *x, const float *q, size_t q_len, size_t work_len, size_t k, size_t ids_len, size_t distances_len, size_t answer_len, uint32_t number) {
     answer_t a;
     mark(&a);
-    CHECK(curator_search_filtered(STATE(x), STORE(x), x->work, work_len, q, q_len, (const uint8_t *)"a", 1, k, a.ids, ids_len, a.distances,
-                                  distances_len, a.answer, answer_len) == number);
+    CHECK(curator_search_filtered(STATE(x), STORE(x), x->work, work_len, q, q_len, (const uint8_t *)"", 0, (const uint8_t *)"a", 1, k,
+                                  a.ids, ids_len, a.distances, distances_len, a.answer, answer_len) == number);
     CHECK(!number || answer_untouched(&a));
     mark(&a);
     CHECK(curator_search(STATE(x), STORE(x), x->work, work_len, q, q_len, k, a.ids, ids_len, a.distances, distances_len, a.answer, answer_len)

@@ -135,12 +135,19 @@ static inline int floats_kept(const index_t *x, void *before, size_t from, size_
     return kept;
 }
 
-/* a vector with one label; it writes the vector's places */
+/* FNV-1a from a start, byte by byte */
+static inline uint64_t hashed(uint64_t start, const uint8_t *bytes, size_t count) {
+    for (size_t i = 0; i < count; i++) start = (start ^ bytes[i]) * 0x100000001b3u;
+    return start;
+}
+
+/* a vector with one label, whose second part is the longer; it writes the vector's places */
 static inline uint32_t add(index_t *x, uint32_t doc_id, const float *vector, const char *label) {
-    uint8_t length = (uint8_t)strlen(label);
+    size_t length = strlen(label), first = length / 2;
+    const uint8_t lengths[] = {(uint8_t)first, (uint8_t)(length - first)};
     size_t at = x->state[CURATOR_VECTORS_HELD] * x->d;
     void *before = floats_before(x);
-    uint32_t number = curator_add(STATE(x), STORE(x), doc_id, vector, x->d, &length, 1, (const uint8_t *)label, length);
+    uint32_t number = curator_add(STATE(x), STORE(x), doc_id, vector, x->d, lengths, 2, (const uint8_t *)label, length);
     CHECK(floats_kept(x, before, at, number ? at : at + x->d, 0, 0));
     return number;
 }
@@ -186,11 +193,14 @@ static inline uint32_t searched(const index_t *x, void *before, const answer_t *
     return number;
 }
 
+/* the first part of the label is the longer */
 static inline uint32_t search_filtered(index_t *x, answer_t *a, const float *query, const char *label, size_t k) {
+    const uint8_t *bytes = (const uint8_t *)label;
+    size_t length = strlen(label), first = length - length / 2;
     void *before = floats_before(x);
     mark(a);
     return searched(x, before, a,
-                    curator_search_filtered(STATE(x), STORE(x), WORK(x), query, x->d, (const uint8_t *)label, strlen(label), k,
+                    curator_search_filtered(STATE(x), STORE(x), WORK(x), query, x->d, bytes, first, bytes + first, length - first, k,
                                             a->ids, HITS, a->distances, HITS, a->answer, CURATOR_ANSWER + SURPLUS));
 }
 

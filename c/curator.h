@@ -4,8 +4,11 @@
    count is 0, and each is aligned for its type. A list that a call writes (one whose pointer is not const) shares no place with any other list
    of that call. Threads may search one index at the same time, each with its own work and answer lists.
 
-   Each function returns 0 where the call is answered, otherwise the number of its refusal. A refused call leaves the state, the store and the answer
-   lists as they were, but for the parts that CURATOR_NODES_FULL names. The work list holds nothing between calls.
+   Each function but curator_label_hash returns 0 where the call is answered, otherwise the number of its refusal. A refused call leaves the state, the
+   store and the answer lists as they were, but for the parts that CURATOR_NODES_FULL names. The work list holds nothing between calls.
+
+   A label's name comes in two parts, which are joined without anything between them; either may be empty. However a name is parted, every call answers
+   and writes the same.
 
    The contracts are in crates/curator_c/src/lib.rt; the definitions that they cite begin in crates/curator_c/specs/Results.antt. */
 #ifndef CURATOR_H
@@ -54,6 +57,9 @@ enum {
 #define CURATOR_FILTER 4
 #define CURATOR_FILTER_AT(e, node) ((e) + 4 * (node))
 
+/* Where the hash of a whole name starts. */
+#define CURATOR_LABEL_START UINT64_C(0xcbf29ce484222325)
+
 /* What is returned. Where several cases hold, the earliest in the call's order is returned:
    new 1, 2, 4; add 4, 3, 5, 7, 8, 9, 10, 11; take back 4, 3, 5, 19; build 4, 3, then 0 for a built index, then 12, 15, 13;
    search 4, 3, 6, 7, 8, 14, 15; pool 3. The numbers 16 to 18 are of the echo file, which no call here reads. */
@@ -67,9 +73,9 @@ enum {
     CURATOR_NOT_BUILT = 6,
     CURATOR_DIMENSION_MISMATCH = 7,  /* vector_len or query_len is not D */
     CURATOR_NON_FINITE_INPUT = 8,    /* a component is infinite or NaN */
-    CURATOR_LABEL_LENGTHS = 9,       /* the lengths do not sum to bytes_len */
+    CURATOR_LABEL_LENGTHS = 9,       /* lengths_len is odd, or the lengths do not sum to bytes_len */
     CURATOR_VECTORS_FULL = 10,
-    CURATOR_ENTRIES_FULL = 11,
+    CURATOR_ENTRIES_FULL = 11,       /* the entries held and the labels, half of lengths_len, are more than E */
     CURATOR_EMPTY_INDEX = 12,
     CURATOR_NODES_FULL = 13,         /* the tree has more than M nodes; leaves anything in centroids, centres, the six
                                         numbers of each node, child links, leaf orders, filters and work */
@@ -86,7 +92,8 @@ uint32_t curator_new(size_t dimension, size_t branching_factor, size_t max_leaf_
                      size_t vectors, size_t entries, size_t nodes,
                      size_t *state, size_t state_len);
 
-/* Adds a vector under a document id, with labels: lengths cuts them from bytes, so a label has at most 255 bytes. */
+/* Adds a vector under a document id, with labels. lengths has two bytes a label, the length of its first part and that of its second; bytes has the
+   parts one after the other. So a part has at most 255 bytes and a name at most 510. */
 uint32_t curator_add(size_t *state, size_t state_len,
                      float *floats, size_t floats_len, uint32_t *numbers, size_t numbers_len, uint64_t *hashes, size_t hashes_len,
                      uint32_t doc_id, const float *vector, size_t vector_len,
@@ -103,12 +110,13 @@ uint32_t curator_build(size_t *state, size_t state_len,
                        float *floats, size_t floats_len, uint32_t *numbers, size_t numbers_len, uint64_t *hashes, size_t hashes_len,
                        uint32_t *work, size_t work_len);
 
-/* The nearest k documents that have a vector with the label: ids and distances of the hits, nearest first, and the three numbers of the answer. */
+/* The nearest k documents that have a vector with the label whose name is first, then second, of any length: ids and distances of the hits, nearest first,
+   and the three numbers of the answer. */
 uint32_t curator_search_filtered(const size_t *state, size_t state_len,
                                  const float *floats, size_t floats_len, const uint32_t *numbers, size_t numbers_len,
                                  const uint64_t *hashes, size_t hashes_len,
                                  uint32_t *work, size_t work_len, const float *query, size_t query_len,
-                                 const uint8_t *label, size_t label_len, size_t k,
+                                 const uint8_t *first, size_t first_len, const uint8_t *second, size_t second_len, size_t k,
                                  uint32_t *ids, size_t ids_len, float *distances, size_t distances_len,
                                  size_t *answer, size_t answer_len);
 
@@ -123,6 +131,10 @@ uint32_t curator_search(const size_t *state, size_t state_len,
 /* Pools a filter into another: the first four words of filter get the bits of the first four of other too. The pool of filters of several indexes is the
    filter of all their labels, in whatever order they are pooled; pooling one again changes nothing. Refused (3), it writes nothing. */
 uint32_t curator_pool(uint64_t *filter, size_t filter_len, const uint64_t *other, size_t other_len);
+
+/* The label hash, FNV-1a: the value after the last byte, from a start; without bytes the start. A name's hash is that of its bytes from
+   CURATOR_LABEL_START, or, in two parts, that of the second part from that of the first. It always answers. */
+uint64_t curator_label_hash(uint64_t start, const uint8_t *bytes, size_t bytes_len);
 
 #ifdef __cplusplus
 }

@@ -1,4 +1,4 @@
-/* Three echoes of two drains, and the nearest with the label `silt`.
+/* Three echoes of the drain `kerb-7`, and the nearest with the label `kerb-7/silt`. A label's name comes in two parts: the drain, and how it was.
 
    rt staticlib curator_c && gcc -Ic c/example.c target/staticlib/libcurator_c.a -o target/example && target/example */
 #include "curator.h"
@@ -18,10 +18,13 @@ static uint32_t work[CURATOR_WORK_SIZE(V, E, M)];
 #define LEN(list) (sizeof(list) / sizeof((list)[0]))
 #define STORE floats, LEN(floats), numbers, LEN(numbers), hashes, LEN(hashes)
 
-/* An echo with one label. */
-static uint32_t add(uint32_t doc_id, const float echo[D], const char *label) {
-    uint8_t length = (uint8_t)strlen(label);
-    return curator_add(state, LEN(state), STORE, doc_id, echo, D, &length, 1, (const uint8_t *)label, length);
+static const char drain[] = "kerb-7/";
+
+/* An echo with one label; its name begins with the drain. */
+static uint32_t add(uint32_t doc_id, const float echo[D], const char *name) {
+    size_t first = strlen(drain), length = strlen(name);
+    const uint8_t lengths[] = {(uint8_t)first, (uint8_t)(length - first)};
+    return curator_add(state, LEN(state), STORE, doc_id, echo, D, lengths, LEN(lengths), (const uint8_t *)name, length);
 }
 
 int main(void) {
@@ -32,16 +35,17 @@ int main(void) {
     static const char silt[] = "silt";
 
     uint32_t refused = curator_new(D, B, 128, 256, 4, V, E, M, state, LEN(state));
-    if (!refused) refused = add(10, clear, "free");
-    if (!refused) refused = add(11, muddy, silt);
-    if (!refused) refused = add(12, blocked, silt);
+    if (!refused) refused = add(10, clear, "kerb-7/free");
+    if (!refused) refused = add(11, muddy, "kerb-7/silt");
+    if (!refused) refused = add(12, blocked, "kerb-7/silt");
     if (!refused) refused = curator_build(state, LEN(state), STORE, work, LEN(work));
 
     uint32_t ids[K];
     float distances[K];
     size_t answer[CURATOR_ANSWER];
     if (!refused)
-        refused = curator_search_filtered(state, LEN(state), STORE, work, LEN(work), heard, D, (const uint8_t *)silt, strlen(silt), K,
+        refused = curator_search_filtered(state, LEN(state), STORE, work, LEN(work), heard, D,
+                                          (const uint8_t *)drain, strlen(drain), (const uint8_t *)silt, strlen(silt), K,
                                           ids, LEN(ids), distances, LEN(distances), answer, LEN(answer));
     if (refused) {
         printf("refused %" PRIu32 "\n", refused);

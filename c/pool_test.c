@@ -34,14 +34,16 @@ static void test_lengths(void) {
 static void grow(index_t *x, size_t count) {
     for (size_t i = 0; i < count; i++) {
         float echo[8];
-        uint8_t lengths[3], bytes[6];
+        uint8_t lengths[6], bytes[6];
         size_t labels = below(4), at = 0;
         for (size_t j = 0; j < x->d; j++) echo[j] = (float)below(2001) / 1000.0f - 1.0f;
         for (size_t j = 0; j < labels; j++) {
-            lengths[j] = (uint8_t)below(3);
-            for (size_t k = 0; k < lengths[j]; k++) bytes[at++] = (uint8_t)('a' + below(26));
+            size_t length = below(3), first = below(length + 1);
+            lengths[2 * j] = (uint8_t)first;
+            lengths[2 * j + 1] = (uint8_t)(length - first);
+            for (size_t k = 0; k < length; k++) bytes[at++] = (uint8_t)('a' + below(26));
         }
-        CHECK(curator_add(STATE(x), STORE(x), (uint32_t)i, echo, x->d, lengths, labels, bytes, at) == 0);
+        CHECK(curator_add(STATE(x), STORE(x), (uint32_t)i, echo, x->d, lengths, 2 * labels, bytes, at) == 0);
     }
 }
 

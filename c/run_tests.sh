@@ -1,15 +1,16 @@
 #!/bin/sh
-# Builds the C tests and the example over target/staticlib/libcurator_c.a and libhit_records.a (`rt staticlib` writes them) and runs them.
-# The last line is 'N passed, M failed'.
+# Builds the C tests and the example over libcurator_c.a and libhit_records.a and runs them. The last line is 'N passed, M failed'.
+# CURATOR_LIB names the folder of the libraries (default target/staticlib, where `rt staticlib` writes them).
 set -eu
 cd "$(dirname "$0")/.."
-library='target/staticlib/libcurator_c.a target/staticlib/libhit_records.a'
+folder=${CURATOR_LIB:-target/staticlib}
+library="$folder/libcurator_c.a $folder/libhit_records.a"
 out=target/c
 mkdir -p "$out"
 flags="-std=c11 -Wall -Wextra -Werror -O1 -ffp-contract=off -Ic"
 passed=0
 failed=0
-for name in call_test nan_test hits_test pool_test take_back_test; do
+for name in call_test names_test nan_test hits_test pool_test take_back_test; do
     ${CC:-gcc} $flags -o "$out/$name" "c/$name.c" $library
     "$out/$name" >"$out/$name.out" || true
     cat "$out/$name.out" | sed "s/^/$name: /"

@@ -185,11 +185,11 @@ static void test_all_owners(void) {
 /* 4,096 vectors of four labels, in full lists without surplus: taken back one by one, until 19. Then every owner is the last vector: all entries go at once. */
 static void test_largest(void) {
     enum { MOST = 4096 };
-    static const uint8_t lengths[4] = {1, 1, 1, 1}, bytes[4] = {'a', 'b', 'c', 'd'};
+    static const uint8_t lengths[8] = {1, 0, 0, 1, 1, 0, 0, 1}, bytes[4] = {'a', 'b', 'c', 'd'};
     static const float one = 1.0f;
     index_t x;
     CHECK(make(&x, 1, 1, 0, 1, MOST, 4 * MOST, 1) == 0);
-    for (uint32_t i = 0; i < MOST; i++) CHECK(curator_add(STATE(&x), STORE(&x), i, &one, 1, lengths, 4, bytes, 4) == 0);
+    for (uint32_t i = 0; i < MOST; i++) CHECK(curator_add(STATE(&x), STORE(&x), i, &one, 1, lengths, 8, bytes, 4) == 0);
     copy_t c = copy(&x);
     for (size_t i = MOST; i-- > 0;) {
         CHECK(curator_take_back(x.state, CURATOR_STATE, x.floats, x.floats_len, x.numbers, x.numbers_len, x.hashes, x.hashes_len) == 0);
@@ -213,16 +213,9 @@ typedef struct {
     uint32_t id;
     float vector[D], stored[D];
     size_t labels, bytes_len;
-    uint8_t lengths[LABELS], bytes[2 * LABELS];
+    uint8_t lengths[2 * LABELS], bytes[2 * LABELS];
     uint64_t hashes[LABELS];
 } echo_t;
-
-/* FNV-1a */
-static uint64_t hashed(const uint8_t *bytes, size_t count) {
-    uint64_t h = 0xcbf29ce484222325u;
-    for (size_t i = 0; i < count; i++) h = (h ^ bytes[i]) * 0x100000001b3u;
-    return h;
-}
 
 /* Whole numbers whose squares sum to a square, turned, with signs and times a power of two: the norm is exact and needs no root. Zeros are not divided. */
 static void any_vector(echo_t *echo) {
@@ -245,10 +238,12 @@ static echo_t any_echo(void) {
     echo.labels = below(LABELS + 1);
     for (size_t j = 0; j < echo.labels; j++) {
         uint8_t *label = echo.bytes + echo.bytes_len;
-        echo.lengths[j] = (uint8_t)below(3);
-        for (size_t k = 0; k < echo.lengths[j]; k++) label[k] = (uint8_t)('a' + below(3));
-        echo.hashes[j] = hashed(label, echo.lengths[j]);
-        echo.bytes_len += echo.lengths[j];
+        size_t length = below(3), first = below(length + 1);
+        echo.lengths[2 * j] = (uint8_t)first;
+        echo.lengths[2 * j + 1] = (uint8_t)(length - first);
+        for (size_t k = 0; k < length; k++) label[k] = (uint8_t)('a' + below(3));
+        echo.hashes[j] = hashed(0xcbf29ce484222325u, label, length);
+        echo.bytes_len += length;
     }
     return echo;
 }
@@ -284,7 +279,7 @@ static void compare(const index_t *x, model_t *m) {
 }
 
 static uint32_t teach(index_t *x, const echo_t *echo) {
-    return curator_add(STATE(x), STORE(x), echo->id, echo->vector, D, echo->lengths, echo->labels, echo->bytes, echo->bytes_len);
+    return curator_add(STATE(x), STORE(x), echo->id, echo->vector, D, echo->lengths, 2 * echo->labels, echo->bytes, echo->bytes_len);
 }
 
 /* how often each number was returned */

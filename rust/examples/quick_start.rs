@@ -1,6 +1,6 @@
-//! Echoes of drain sensors: the nearest to the last one among those of the same drain.
+//! Echoes of drain sensors: the nearest to the last one among those of one drain and cause, a label whose name is in two parts.
 
-use curator::{CuratorIndex, CuratorParams, RetrieveError};
+use curator::{CuratorIndex, CuratorParams, Name, RetrieveError};
 
 /// An echo of 64 numbers: a pulse at a place, and its tail.
 fn echo(place: usize, tail: f32) -> Vec<f32> {
@@ -19,20 +19,20 @@ fn main() -> Result<(), RetrieveError> {
     let mut index = CuratorIndex::new(64, CuratorParams::default())?;
     for day in 0..30 {
         let (drain, state) = if day % 2 == 0 {
-            ("north", "free")
+            ("kerb-6/", "free")
         } else {
-            ("south", "silt")
+            ("kerb-7/", "silt")
         };
-        index.add(
+        index.add_names(
             day,
             &echo(4 + day as usize % 7, 0.1 + 0.01 * day as f32),
-            &[drain, state],
+            &[Name::new(drain, state), drain.into()],
         )?;
     }
     index.build()?;
 
     let heard = echo(6, 0.25);
-    for (doc_id, distance) in index.search_filtered(&heard, 3, "south")? {
+    for (doc_id, distance) in index.search_filtered(&heard, 3, ("kerb-7/", "silt"))? {
         println!("day {doc_id}: {distance:.4}");
     }
     let all = index.find(&heard, 3)?;
@@ -43,7 +43,7 @@ fn main() -> Result<(), RetrieveError> {
         if all.whole { "whole" } else { "cut" }
     );
 
-    match index.add(30, &heard, &["south"]) {
+    match index.add(30, &heard, &["kerb-7/"]) {
         Err(RetrieveError::AlreadyBuilt) => println!("a built index takes no more echoes"),
         other => other?,
     }

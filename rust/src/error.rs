@@ -22,7 +22,7 @@ pub enum RetrieveError {
     DimensionMismatch,
     /// 8: a component is infinite or NaN.
     NonFiniteInput,
-    /// 9: the label lengths do not sum to the label bytes.
+    /// 9: the label lengths are an odd number, or do not sum to the label bytes.
     LabelLengths,
     /// 10: the index holds as many vectors as it has room for.
     VectorsFull,
@@ -38,7 +38,7 @@ pub enum RetrieveError {
     Damaged,
     /// 19: no vector is held, so none can be taken back.
     NoVectorHeld,
-    /// A label has more than 255 bytes. Refused here, before any call: it has no number.
+    /// A label's name has more than 510 bytes. Refused here, before any call: it has no number.
     LabelTooLong,
 }
 
@@ -94,7 +94,7 @@ impl fmt::Display for RetrieveError {
             NotBuilt => "the index is not built; call build() before a search",
             DimensionMismatch => "the length is not the dimension of the index",
             NonFiniteInput => "a component is infinite or NaN",
-            LabelLengths => "the label lengths do not sum to the label bytes",
+            LabelLengths => "the label lengths are odd in number or do not sum to the label bytes",
             VectorsFull => "no room for another vector",
             EntriesFull => "no room for the label entries",
             EmptyIndex => "the index is empty",
@@ -102,7 +102,7 @@ impl fmt::Display for RetrieveError {
             AnswerTooShort => "an answer list is too short",
             Damaged => "the store is damaged",
             NoVectorHeld => "no vector is held",
-            LabelTooLong => "a label has more than 255 bytes",
+            LabelTooLong => "a label's name has more than 510 bytes",
         })
     }
 }

@@ -10,53 +10,34 @@
 //!
 //! # fn main() -> Result<(), curator::RetrieveError> {
 //! let mut index = CuratorIndex::new(3, CuratorParams::default())?;
-//! index.add(1, &[1.0, 0.0, 0.5], &["drain:north"])?;
-//! index.add(2, &[0.0, 1.0, 0.5], &["drain:south", "silt"])?;
-//! index.add(3, &[0.0, 0.5, 2.0], &["drain:south"])?;
+//! index.add(1, &[1.0, 0.0, 0.5], &["kerb-6/silt"])?;
+//! index.add(2, &[0.0, 1.0, 0.5], &["kerb-7/silt", "night"])?;
+//! index.add(3, &[0.0, 0.5, 2.0], &["kerb-7/silt"])?;
 //! index.build()?;
 //!
-//! let nearest = index.search_filtered(&[0.0, 0.25, 1.0], 5, "drain:south")?;
+//! let nearest = index.search_filtered(&[0.0, 0.25, 1.0], 5, "kerb-7/silt")?;
 //! let ids: Vec<u32> = nearest.iter().map(|hit| hit.0).collect();
 //! assert_eq!(ids, [3, 2]);
+//! // the same name in two parts
+//! assert_eq!(index.search_filtered(&[0.0, 0.25, 1.0], 5, ("kerb-7/", "silt"))?, nearest);
 //! # Ok(())
 //! # }
 //! ```
 
 mod error;
 mod filter;
+mod found;
+mod name;
 mod params;
 mod sys;
 
 pub use error::RetrieveError;
 pub use filter::{pool, Filter};
+pub use found::{Found, Hit};
+pub use name::{label_hash, Name, LABEL_START};
 pub use params::{Capacities, CuratorParams};
 
 use std::cell::RefCell;
-
-/// A hit: a document and its distance from the query.
-#[repr(C)]
-#[derive(Clone, Copy, Debug, Default, PartialEq)]
-pub struct Hit {
-    pub id: u32,
-    pub distance: f32,
-}
-
-/// What a search found.
-#[derive(Clone, Debug, PartialEq)]
-pub struct Found {
-    /// Nearest first.
-    pub hits: Vec<Hit>,
-    /// How many nodes the search opened.
-    pub opened: usize,
-    /// Whether the search ended because no node waited; otherwise `ef_search` cut it.
-    pub whole: bool,
-}
-
-impl Found {
-    fn pairs(self) -> Vec<(u32, f32)> {
-        self.hits.iter().map(|hit| (hit.id, hit.distance)).collect()
-    }
-}
 
 /// An index that owns its lists.
 #[derive(Clone, Debug)]
@@ -133,18 +114,37 @@ impl CuratorIndex {
         })
     }
 
-    /// Adds a vector under a document id, with labels of at most 255 bytes each.
+    /// Adds a vector under a document id, with labels of at most 510 bytes each.
     pub fn add(
         &mut self,
         doc_id: u32,
         vector: &[f32],
         labels: &[&str],
     ) -> Result<(), RetrieveError> {
-        let mut lengths = Vec::with_capacity(labels.len());
-        for label in labels {
-            lengths.push(u8::try_from(label.len()).map_err(|_| RetrieveError::LabelTooLong)?);
-        }
-        let bytes = labels.concat().into_bytes();
+        let names: Vec<Name<'_>> = labels.iter().map(|&label| label.into()).collect();
+        self.add_names(doc_id, vector, &names)
+    }
+
+    /// [`CuratorIndex::add`], with each label's name in two parts of together at most 510 bytes.
+    ///
+    /// ```
+    /// # use curator::{CuratorIndex, CuratorParams, Name, RetrieveError};
+    /// # fn main() -> Result<(), RetrieveError> {
+    /// let mut index = CuratorIndex::new(2, CuratorParams::default())?;
+    /// index.add_names(1, &[1.0, 0.0], &[Name::new("kerb-7/", "silt")])?;
+    /// index.add(2, &[0.0, 1.0], &["kerb-7/silt"])?; // the same label
+    /// index.build()?;
+    /// assert_eq!(index.search_filtered(&[1.0, 0.0], 5, ("kerb-7", "/silt"))?.len(), 2);
+    /// # Ok(())
+    /// # }
+    /// ```
+    pub fn add_names(
+        &mut self,
+        doc_id: u32,
+        vector: &[f32],
+        names: &[Name<'_>],
+    ) -> Result<(), RetrieveError> {
+        let (lengths, bytes) = name::lists(names)?;
         // SAFETY: each pointer and count are those of one list. The lists that are written are fields of `self`, which is
         // borrowed mutably; the others are borrowed, or local, and different from them.
         let number = unsafe {
@@ -227,12 +227,13 @@ impl CuratorIndex {
         RetrieveError::check(number)
     }
 
-    /// The nearest k documents that have a vector with the label: document ids and distances, nearest first.
-    pub fn search_filtered(
+    /// The nearest k documents that have a vector with the label: document ids and distances, nearest first. The label's name is
+    /// given whole, `"kerb-7/silt"`, or in two parts, `("kerb-7/", "silt")`.
+    pub fn search_filtered<'a>(
         &self,
         query: &[f32],
         k: usize,
-        label: &str,
+        label: impl Into<Name<'a>>,
     ) -> Result<Vec<(u32, f32)>, RetrieveError> {
         self.find_filtered(query, k, label).map(Found::pairs)
     }
@@ -243,16 +244,16 @@ impl CuratorIndex {
     }
 
     /// [`CuratorIndex::search_filtered`], with the count of opened nodes and whether the answer is whole.
-    pub fn find_filtered(
+    pub fn find_filtered<'a>(
         &self,
         query: &[f32],
         k: usize,
-        label: &str,
+        label: impl Into<Name<'a>>,
     ) -> Result<Found, RetrieveError> {
+        let Name { first, second } = label.into();
         let places = k.min(self.state[ENTRIES_HELD]);
         self.found(places, |work, ids, distances, answer| {
-            // SAFETY: each pointer and count are those of one list. The lists that are written are borrowed mutably here
-            // alone; those of `self`, the query and the label are only read.
+            // SAFETY: each pointer and count are those of one list. Those that are written are borrowed mutably here alone.
             unsafe {
                 sys::curator_search_filtered(
                     self.state.as_ptr(),
@@ -267,8 +268,10 @@ impl CuratorIndex {
                     work.len(),
                     query.as_ptr(),
                     query.len(),
-                    label.as_ptr(),
-                    label.len(),
+                    first.as_ptr(),
+                    first.len(),
+                    second.as_ptr(),
+                    second.len(),
                     places,
                     ids.as_mut_ptr(),
                     ids.len(),

@@ -75,8 +75,10 @@ extern "C" {
         work_len: usize,
         query: *const f32,
         query_len: usize,
-        label: *const u8,
-        label_len: usize,
+        first: *const u8,
+        first_len: usize,
+        second: *const u8,
+        second_len: usize,
         k: usize,
         ids: *mut u32,
         ids_len: usize,
@@ -114,6 +116,8 @@ extern "C" {
         other: *const u64,
         other_len: usize,
     ) -> u32;
+
+    pub fn curator_label_hash(start: u64, bytes: *const u8, bytes_len: usize) -> u64;
 
     pub fn curator_hits(
         hits: *mut Hit,

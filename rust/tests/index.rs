@@ -113,7 +113,7 @@ fn calls_refused() {
         Err(RetrieveError::NonFiniteInput)
     );
     assert_eq!(
-        index.add(1, &[1.0, 0.0], &["", &"x".repeat(256)]),
+        index.add(1, &[1.0, 0.0], &["", &"x".repeat(511)]),
         Err(RetrieveError::LabelTooLong)
     );
     assert_eq!(
@@ -193,7 +193,7 @@ fn nodes_full() {
 
 #[test]
 fn labels() {
-    let long = "x".repeat(255);
+    let long = "x".repeat(510);
     let mut index = CuratorIndex::with_capacities(2, CuratorParams::default(), SMALL).unwrap();
     index.add(1, &[1.0, 0.0], &[]).unwrap();
     index.add(2, &[1.0, 1.0], &["", "grün"]).unwrap();

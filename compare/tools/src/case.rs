@@ -17,6 +17,13 @@ pub struct Query {
     pub k: usize,
 }
 
+impl Query {
+    /// The middle of the label.
+    pub fn half(&self) -> usize {
+        self.label.as_ref().map_or(0, |label| label.len() / 2)
+    }
+}
+
 #[derive(Clone, Debug)]
 pub struct Case {
     pub shape: Shape,

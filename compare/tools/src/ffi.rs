@@ -1,6 +1,7 @@
 //! The functions of the static library over slices. Each returns 0, or the number of the refusal (documents 01 and 02).
 use crate::c;
 use crate::ours::Shape;
+use crate::parting::Name;
 
 /// The store, for the calls that read it.
 #[derive(Clone, Copy)]
@@ -17,7 +18,7 @@ pub struct StoreMut<'a> {
     pub hashes: &'a mut [u64],
 }
 
-/// What an add is given. `lengths` cuts the labels from `bytes`.
+/// What an add is given. `lengths` has two bytes a label, the lengths of its parts, which stand in `bytes` one after the other.
 #[derive(Clone, Debug)]
 pub struct Added {
     pub id: u32,
@@ -26,11 +27,17 @@ pub struct Added {
     pub bytes: Vec<u8>,
 }
 
-/// What a search is given: a label where it is filtered.
+impl Added {
+    pub fn labels(&self) -> usize {
+        self.lengths.len() / 2
+    }
+}
+
+/// What a search is given: a label's name where it is filtered.
 #[derive(Clone, Copy, Debug)]
 pub struct Asked<'a> {
     pub query: &'a [f32],
-    pub label: Option<&'a [u8]>,
+    pub label: Option<Name<'a>>,
     pub k: usize,
 }
 
@@ -49,6 +56,10 @@ pub fn new(shape: Shape, state: &mut [usize]) -> u32 {
 }
 
 pub fn add(state: &mut [usize], store: StoreMut, added: &Added) -> u32 {
+    add_lists(state, store, added.id, &added.vector, &added.lengths, &added.bytes)
+}
+
+pub fn add_lists(state: &mut [usize], store: StoreMut, id: u32, vector: &[f32], lengths: &[u8], bytes: &[u8]) -> u32 {
     unsafe {
         c::curator_add(
             state.as_mut_ptr(),
@@ -59,13 +70,13 @@ pub fn add(state: &mut [usize], store: StoreMut, added: &Added) -> u32 {
             store.numbers.len(),
             store.hashes.as_mut_ptr(),
             store.hashes.len(),
-            added.id,
-            added.vector.as_ptr(),
-            added.vector.len(),
-            added.lengths.as_ptr(),
-            added.lengths.len(),
-            added.bytes.as_ptr(),
-            added.bytes.len(),
+            id,
+            vector.as_ptr(),
+            vector.len(),
+            lengths.as_ptr(),
+            lengths.len(),
+            bytes.as_ptr(),
+            bytes.len(),
         )
     }
 }
@@ -115,9 +126,9 @@ pub fn search(state: &[usize], store: Store, work: &mut [u32], asked: Asked, fil
     let (ap, al) = (filled.answer.as_mut_ptr(), filled.answer.len());
     let k = asked.k;
     match asked.label {
-        Some(x) => unsafe {
+        Some(Name { first: x, second: y }) => unsafe {
             c::curator_search_filtered(
-                sp, sl, fp, fl, np, nl, hp, hl, wp, wl, qp, ql, x.as_ptr(), x.len(), k, ip, il, dp, dl, ap, al,
+                sp, sl, fp, fl, np, nl, hp, hl, wp, wl, qp, ql, x.as_ptr(), x.len(), y.as_ptr(), y.len(), k, ip, il, dp, dl, ap, al,
             )
         },
         None => unsafe {
@@ -128,4 +139,8 @@ pub fn search(state: &[usize], store: Store, work: &mut [u32], asked: Asked, fil
 
 pub fn pool(filter: &mut [u64], other: &[u64]) -> u32 {
     unsafe { c::curator_pool(filter.as_mut_ptr(), filter.len(), other.as_ptr(), other.len()) }
+}
+
+pub fn label_hash(start: u64, bytes: &[u8]) -> u64 {
+    unsafe { c::curator_label_hash(start, bytes.as_ptr(), bytes.len()) }
 }

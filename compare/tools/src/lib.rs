@@ -9,6 +9,7 @@ pub mod ffi;
 pub mod generate;
 pub mod model;
 pub mod ours;
+pub mod parting;
 pub mod random;
 pub mod sample;
 pub mod theirs;

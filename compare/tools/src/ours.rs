@@ -1,5 +1,6 @@
 //! An index of ours with its lists, called through the static library.
 use crate::ffi::{self, Added, Asked, Filled, Store, StoreMut};
+use crate::parting::halved;
 
 /// Settings and capacities, in the order of the state.
 #[derive(Clone, Copy, Debug)]
@@ -73,16 +74,6 @@ pub struct Answer {
     pub whole: bool,
 }
 
-/// What an add is given, as our lists have it.
-pub fn added(id: u32, vector: &[f32], labels: &[String]) -> Added {
-    Added {
-        id,
-        vector: vector.to_vec(),
-        lengths: labels.iter().map(|label| label.len() as u8).collect(),
-        bytes: labels.concat().into_bytes(),
-    }
-}
-
 /// The state of an index and its lists.
 #[derive(Clone)]
 pub struct Ours {
@@ -103,9 +94,13 @@ impl Ours {
         Shape { dimension, branching, leaf_size, ef, beam, vectors, entries, nodes }
     }
 
-    /// Adds a vector with its labels.
+    /// Adds a vector with its labels, each name in two halves.
     pub fn add(&mut self, id: u32, vector: &[f32], labels: &[String]) -> Result<(), u32> {
-        done(ffi::add(&mut self.state, self.lists.lend_mut().0, &added(id, vector, labels)))
+        self.give(&halved(id, vector, labels))
+    }
+
+    pub fn give(&mut self, added: &Added) -> Result<(), u32> {
+        done(ffi::add(&mut self.state, self.lists.lend_mut().0, added))
     }
 
     /// Takes the last add back.

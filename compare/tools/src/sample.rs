@@ -6,11 +6,12 @@ use crate::echo;
 use crate::generate::index::{case, Most};
 use crate::model::search::{answer, walk};
 use crate::model::tree::Tree;
+use crate::parting::PART;
 use crate::random::Random;
 use crate::theirs;
 
-/// The sizes of the program `echoes`.
-pub const SIZES: Most = Most { dimension: 16, vectors: 128, entries: 256 };
+/// The sizes of the program `echoes`. An echo file has one length byte a label.
+pub const SIZES: Most = Most { dimension: 16, vectors: 128, entries: 256, name: PART };
 pub const NODES: usize = 512;
 const PLACES: usize = 256;
 const LONGEST: usize = 65536;

@@ -3,7 +3,8 @@ use super::inputs::K;
 use crate::case::{Case, Query};
 use crate::check::search::{same_hits, search};
 use crate::ffi::{self, Added, Asked, Filled};
-use crate::ours::{added, Lists, Ours};
+use crate::ours::{Lists, Ours};
+use crate::parting::{halved, Name};
 use crate::theirs;
 use original::curator::CuratorIndex;
 use std::hint::black_box;
@@ -135,7 +136,7 @@ fn add_theirs(case: &Case) -> f64 {
 
 /// Adds: `rounds` blocks of `size` fillings each.
 pub fn adds(case: &Case, rounds: usize, size: usize) -> Times {
-    let given: Vec<Added> = case.docs.iter().map(|doc| added(doc.id, &doc.vector, &doc.labels)).collect();
+    let given: Vec<Added> = case.docs.iter().map(|doc| halved(doc.id, &doc.vector, &doc.labels)).collect();
     let mut times = Times::default();
     for _ in 0..rounds {
         times.ours.push(median((0..size).map(|_| add_ours(case, &given)).collect()));
@@ -165,9 +166,11 @@ pub fn builds(case: &Case, rounds: usize, size: usize) -> Times {
     times
 }
 
+/// The label is given in two halves.
 fn search_ours(ours: &mut Ours, query: &[f32], label: Option<&str>) -> f64 {
     let (mut ids, mut distances, mut answer) = ([0; K], [0.0; K], [0; 3]);
-    let asked = Asked { query, label: label.map(str::as_bytes), k: K };
+    let label = label.map(|label| Name::cut(label.as_bytes(), label.len() / 2));
+    let asked = Asked { query, label, k: K };
     let mut code = 0;
     let time = microseconds(|| {
         let filled = Filled { ids: &mut ids, distances: &mut distances, answer: &mut answer };
@@ -193,7 +196,7 @@ fn compare_answers(case: &Case, call: Call, ours: &mut Ours, theirs: &CuratorInd
     for query in &case.queries {
         let label = query.label.clone().filter(|_| call == Call::Filtered);
         let query = Query { label, ..query.clone() };
-        let found = search(ours, &query).expect("search");
+        let found = search(ours, &query, query.half()).expect("search");
         assert!(same_hits(&found.hits, &theirs::search(theirs, &query)), "the answers differ");
     }
 }

@@ -23,6 +23,7 @@ fn summary(tally: &Tally) {
     println!("  outside the domain of equality: {}", tally.outside);
     println!("  equal to the brute-force first k: {}", tally.brute);
     println!("adds taken back: {}", tally.taken_back);
+    println!("names parted twice: {} in adds, {} in searches", tally.parted_adds, tally.parted_searches);
     println!("builds refused for want of nodes: {}", tally.too_many);
 }
 

@@ -2,8 +2,9 @@
 use std::collections::BTreeMap;
 use tools::damage::check::{self, Ended};
 use tools::damage::make::to_take_back;
+use tools::damage::names::label_hash;
 use tools::damage::pool::pool;
-use tools::damage::random_calls::{added, damaged, vector};
+use tools::damage::random_calls::{added, cut_twice, damaged, parted_otherwise, vector};
 use tools::damage::short::{short_answer, short_state};
 use tools::damage::take_back::take_back;
 use tools::ffi::Asked;
@@ -21,17 +22,24 @@ fn calls(random: &mut Random, ours: &Ours, labels: &[String], codes: &mut Codes)
         times.0 += 1;
         times.1 += usize::from(end.nan);
     };
-    note("add", check::add(ours, &added(random, dimension))?);
+    let given = added(random, dimension);
+    note("add", check::add(ours, &given)?);
+    if let Some(other) = parted_otherwise(random, &given) {
+        note("add, parted otherwise", check::add(ours, &other)?);
+    }
     note("build", check::build(ours)?);
     note("pool", pool(random)?);
+    note("label_hash", label_hash(random)?);
     for _ in 0..4 {
         let query = vector(random, dimension);
         let k = random.below(70);
         let places = if random.one_in(20) { random.below(k + 1) } else { k + random.below(3) };
         let all = Asked { query: &query, label: None, k };
         note("search", check::search(ours, all, places)?);
-        let label = Some(random.of(labels).as_bytes());
+        let label = random.of(labels);
+        let [label, other] = cut_twice(random, label);
         note("search_filtered", check::search(ours, Asked { label, ..all }, places)?);
+        note("search_filtered, parted otherwise", check::search(ours, Asked { label: other, ..all }, places)?);
     }
     take_back(ours, 1, &mut note)?;
     take_back(&to_take_back(random, ours), random.from(1, 4), &mut note)?;

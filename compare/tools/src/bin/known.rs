@@ -25,7 +25,7 @@ fn our_ids(case: &Case) -> Vec<u32> {
         ours.add(doc.id, &doc.vector, &doc.labels).expect("add");
     }
     ours.build().expect("build");
-    ids(&search(&mut ours, &case.queries[0]).expect("search").hits)
+    ids(&search(&mut ours, &case.queries[0], 0).expect("search").hits)
 }
 
 /// Whether ours answers as expected.

@@ -19,7 +19,7 @@ fn ours(case: &Case) -> String {
     ours.build().expect("build");
     let mut text = String::new();
     for query in &case.queries {
-        let found = search(&mut ours, query).expect("search");
+        let found = search(&mut ours, query, query.half()).expect("search");
         echo::print(&mut text, &found.hits, found.opened, found.whole);
     }
     text

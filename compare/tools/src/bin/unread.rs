@@ -3,7 +3,7 @@
 use tools::damage::bare::{Bare, BareLists};
 use tools::damage::check::{search_result, take_back_result};
 use tools::damage::make::to_take_back;
-use tools::damage::random_calls::{added, damaged, vector};
+use tools::damage::random_calls::{added, cut_twice, damaged, vector};
 use tools::ffi::{self, Asked, Filled, Store, StoreMut};
 use tools::model::refusal::State;
 use tools::ours::Ours;
@@ -46,7 +46,8 @@ fn calls(random: &mut Random, ours: &Ours, labels: &[String]) -> bool {
     ffi::build(&mut state, store, work);
     let query = vector(random, ours.state[0]);
     let all = Asked { query: &query, label: None, k: random.below(70) };
-    let label = Some(random.of(labels).as_bytes());
+    let label = random.of(labels);
+    let [label, _] = cut_twice(random, label);
     let other = to_take_back(random, ours);
     take_back(ours) && take_back(&other) && search(ours, all) && search(ours, Asked { label, ..all })
 }

@@ -1,13 +1,14 @@
 //! All checks of one case.
 use super::domain::{self, Domain};
 use super::layout;
+use super::names::{carried_on, cuts};
 use super::pool::unpooled;
 use super::search::{same, same_hits, search};
 use super::teach::teach;
 use crate::case::{Case, Query};
 use crate::model::search::{answer, brute_force, walk};
 use crate::model::tree::Tree;
-use crate::ours::{Lists, Ours};
+use crate::ours::{Answer, Lists, Ours};
 use crate::theirs;
 use original::curator::CuratorIndex;
 
@@ -23,6 +24,8 @@ pub struct Tally {
     pub cut: usize,
     pub too_many: usize,
     pub taken_back: usize,
+    pub parted_adds: usize,
+    pub parted_searches: usize,
 }
 
 pub fn need(holds: bool, what: impl FnOnce() -> String) -> Result<(), String> {
@@ -56,9 +59,37 @@ fn check_build(ours: &mut Ours, tree: &Tree, lists: Lists) -> Result<(), String>
     }
 }
 
-fn check_search(query: &Query, plain: bool, tree: &Tree, ours: &mut Ours, theirs: &CuratorIndex, tally: &mut Tally) -> Result<(), String> {
+/// The second of two indexes after its build: the same as the first, outside the parts that are free.
+fn check_twin(ours: &Ours, twin: &mut Ours) -> Result<(), String> {
+    twin.build().map_err(|n| format!("parted otherwise, build refused {n}"))?;
+    let same = ours.state == twin.state && layout::same_store(&ours.shape(), &ours.lists, &twin.lists);
+    need(same, || "parted otherwise, build: the store differs".into())
+}
+
+/// One search of both indexes, the name cut at two places.
+fn search_twice(query: &Query, pair: &mut [Ours; 2], tally: &mut Tally) -> Result<Answer, String> {
+    let [ours, twin] = pair;
+    let [one, other] = cuts(query);
+    let got = search(ours, query, one)?;
+    let again = search(twin, query, other)?;
+    need(same(&got, &again), || format!("cut at {one} {got:?}, at {other} {again:?}"))?;
+    if let Some(label) = &query.label {
+        need(carried_on(label, one) && carried_on(label, other), || format!("the hash of {label:?}, cut at {one} or {other}"))?;
+    }
+    tally.parted_searches += usize::from(one != other);
+    Ok(got)
+}
+
+fn check_search(
+    query: &Query,
+    plain: bool,
+    tree: &Tree,
+    pair: &mut [Ours; 2],
+    theirs: &CuratorIndex,
+    tally: &mut Tally,
+) -> Result<(), String> {
     let walk = walk(tree, query);
-    let got = search(ours, query)?;
+    let got = search_twice(query, pair, tally)?;
     let model = answer(&walk, query.k);
     need(same(&got, &model), || format!("ours {got:?} model {model:?}"))?;
     let domain = domain::of(&walk, plain);
@@ -86,17 +117,21 @@ fn check_search(query: &Query, plain: bool, tree: &Tree, ours: &mut Ours, theirs
 pub fn check(case: &Case, tree: &Tree, tally: &mut Tally) -> Result<(), String> {
     let taught = teach(case)?;
     tally.taken_back += taught.taken_back;
-    let (mut ours, lists) = (taught.ours, taught.lists);
+    tally.parted_adds += taught.parted;
+    let (mut pair, lists) = (taught.pair, taught.lists);
     if case.shape.nodes < tree.nodes.len() {
         tally.too_many += 1;
-        return check_too_many(ours);
+        return pair.into_iter().try_for_each(check_too_many);
     }
-    check_build(&mut ours, tree, lists)?;
+    let [ours, twin] = &mut pair;
+    check_build(ours, tree, lists)?;
+    check_twin(ours, twin)?;
     let theirs = theirs::built(case);
     let plain = case.plain();
-    let before = ours.clone();
+    let before = pair.clone();
     for query in &case.queries {
-        check_search(query, plain, tree, &mut ours, &theirs, tally)?;
+        check_search(query, plain, tree, &mut pair, &theirs, tally)?;
     }
-    need(ours.state == before.state && layout::same_store(&case.shape, &ours.lists, &before.lists), || "a search changed the store".into())
+    let kept = |i: usize| pair[i].state == before[i].state && layout::same_store(&case.shape, &pair[i].lists, &before[i].lists);
+    need(kept(0) && kept(1), || "a search changed the store".into())
 }

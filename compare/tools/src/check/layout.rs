@@ -34,8 +34,8 @@ pub fn put_one(state: &State, lists: &mut Lists, added: &Added) {
     put(&mut lists.floats, state.vectors * s.dimension, normalized(&added.vector));
     lists.numbers[state.vectors] = added.id;
     let mut from = 0;
-    for (i, &length) in added.lengths.iter().enumerate() {
-        let end = from + usize::from(length);
+    for (i, parts) in added.lengths.chunks_exact(2).enumerate() {
+        let end = from + usize::from(parts[0]) + usize::from(parts[1]);
         lists.numbers[s.vectors + state.entries + i] = state.vectors as u32;
         lists.hashes[state.entries + i] = hash_bytes(&added.bytes[from..end]);
         from = end;
@@ -79,8 +79,13 @@ pub fn expected(tree: &Tree, shape: &Shape, mut lists: Lists, built: bool) -> Li
     lists
 }
 
+/// The bytes of floats.
+fn bytes(list: &[f32]) -> &[u8] {
+    unsafe { std::slice::from_raw_parts(list.as_ptr().cast(), std::mem::size_of_val(list)) }
+}
+
 pub fn same_bits(a: &[f32], b: &[f32]) -> bool {
-    a.len() == b.len() && a.iter().zip(b).all(|(x, y)| x.to_bits() == y.to_bits())
+    bytes(a) == bytes(b)
 }
 
 /// Whether every place of the stores is the same.

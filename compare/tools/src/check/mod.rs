@@ -2,6 +2,7 @@
 pub mod case;
 pub mod domain;
 pub mod layout;
+pub mod names;
 pub mod pool;
 pub mod search;
 pub mod shrink;

@@ -1,62 +1,93 @@
 //! Teaching a case: its documents in order, and in between others that are taken back (K3 of document 02). Every call is compared with a model that keeps
-//! the states before the adds that stand, and in each place of the lists what the last add wrote there.
+//! the states before the adds that stand, and in each place of the lists what the last add wrote there. Two indexes are taught the same names, each cut in
+//! two ways (K7).
 use super::case::need;
 use super::layout::{put_one, same_lists};
+use super::names::{spoilt, twice};
 use crate::case::{Case, Doc};
+use crate::ffi::Added;
 use crate::generate::labels;
 use crate::generate::vectors::Maker;
 use crate::model::label::hash_bytes;
 use crate::model::refusal::{self, Lent, State};
-use crate::ours::{added, Lists, Ours};
+use crate::ours::{Lists, Ours};
+use crate::parting::NAME;
 use crate::random::Random;
 
 const JUNK: u32 = 0x3F12_3456;
 
-/// An index that is being taught, and what the model says of it.
+/// An index that is being taught, twice, and what the model says of it.
 pub struct Taught {
-    pub ours: Ours,
+    pub pair: [Ours; 2],
     pub lists: Lists,
     state: [usize; 12],
     before: Vec<[usize; 12]>,
     pub taken_back: usize,
+    pub parted: usize,
 }
 
 impl Taught {
     fn new(case: &Case) -> Result<Taught, String> {
         let lists = Lists::new(case.shape, JUNK, 3);
         let ours = Ours::new(case.shape, lists.clone()).map_err(|n| format!("new refused {n}"))?;
-        Ok(Taught { state: ours.state, ours, lists, before: Vec::new(), taken_back: 0 })
+        Ok(Taught { state: ours.state, pair: [ours.clone(), ours], lists, before: Vec::new(), taken_back: 0, parted: 0 })
     }
 
     /// Whether the state and every place are as the model has them.
     fn same(&self, call: &str) -> Result<(), String> {
-        let held = self.before.len();
-        need(self.ours.state == self.state, || format!("{call}, {held} held: {:?}, not {:?}", self.ours.state, self.state))?;
-        let same = same_lists(&self.ours.lists, &self.lists) && self.ours.lists.work == self.lists.work;
-        need(same, || format!("{call}, {held} held: a list differs from the model"))
+        let (held, ours) = (self.before.len(), &self.pair[0]);
+        need(ours.state == self.state, || format!("{call}, {held} held: {:?}, not {:?}", ours.state, self.state))?;
+        let same = same_lists(&ours.lists, &self.lists) && ours.lists.work == self.lists.work;
+        need(same, || format!("{call}, {held} held: a list differs from the model"))?;
+        self.alike(call)
     }
 
-    /// Adds a document, where there is room for it; otherwise nothing changes.
-    fn add(&mut self, doc: &Doc) -> Result<(), String> {
-        let (state, given) = (State::of(&self.state), added(doc.id, &doc.vector, &doc.labels));
-        let expected = refusal::add(&state, Lent::of(&self.lists), &given);
-        let got = self.ours.add(doc.id, &doc.vector, &doc.labels).err();
-        need(got == expected, || format!("add: refused {got:?}, not {expected:?}"))?;
+    /// Whether the state and every place are the same in both indexes.
+    fn alike(&self, call: &str) -> Result<(), String> {
+        let [ours, twin] = &self.pair;
+        let alike = ours.state == twin.state && same_lists(&ours.lists, &twin.lists) && ours.lists.work == twin.lists.work;
+        need(alike, || format!("{call}, {} held: parted otherwise, a place differs", self.before.len()))
+    }
+
+    /// Adds to both indexes; returns whether it is accepted. Otherwise nothing changes.
+    fn give(&mut self, given: &[Added; 2]) -> Result<bool, String> {
+        let state = State::of(&self.state);
+        let expected = refusal::add(&state, Lent::of(&self.lists), &given[0]);
+        let got = [0, 1].map(|i| self.pair[i].give(&given[i]).err());
+        need(got == [expected; 2], || format!("add: refused {got:?}, not {expected:?}"))?;
         if expected.is_some() {
-            return self.same("refused add");
+            self.same("refused add")?;
+            return Ok(false);
         }
-        put_one(&state, &mut self.lists, &given);
+        put_one(&state, &mut self.lists, &given[0]);
         self.before.push(self.state);
         self.state[8] += 1;
-        self.state[9] += doc.labels.len();
+        self.state[9] += given[0].labels();
+        self.alike("add")?;
+        Ok(true)
+    }
+
+    /// Adds a document, where there is room for it, its names cut in two ways.
+    fn add(&mut self, doc: &Doc) -> Result<(), String> {
+        let (given, parted) = twice(&mut Random::new(!seed(doc)), doc);
+        if self.give(&given)? {
+            self.parted += parted;
+        }
         Ok(())
+    }
+
+    /// An add of a document with lengths that do not fit: 9.
+    fn add_spoilt(&mut self, random: &mut Random, doc: &Doc) -> Result<(), String> {
+        let (given, _) = twice(random, doc);
+        let given = given.map(|given| spoilt(random, &given));
+        self.give(&given).map(drop)
     }
 
     /// Takes the last add back: the state is the one before it, and no list changes. Nothing is held: 19.
     fn take_back(&mut self) -> Result<(), String> {
         let expected = refusal::take_back(&State::of(&self.state), Lent::of(&self.lists));
-        let got = self.ours.take_back().err();
-        need(got == expected, || format!("take back: refused {got:?}, not {expected:?}"))?;
+        let got = [0, 1].map(|i| self.pair[i].take_back().err());
+        need(got == [expected; 2], || format!("take back: refused {got:?}, not {expected:?}"))?;
         if let Some(state) = self.before.pop() {
             self.state = state;
             self.taken_back += 1;
@@ -71,6 +102,8 @@ impl Taught {
             self.take_back()?;
         }
         let floor = self.before.len();
+        let doc = other(random, case);
+        self.add_spoilt(random, &doc)?;
         for _ in 0..random.from(1, 8) {
             if random.one_in(3) && (self.before.len() > floor || floor == 0) {
                 self.take_back()?;
@@ -102,16 +135,16 @@ fn other(random: &mut Random, case: &Case) -> Doc {
     }
     let id = if random.one_in(2) { own.id } else { random.bits() as u32 };
     let maker = Maker::new(random, case.shape.dimension);
-    let (pool, most) = (labels::pool(random), random.below(5));
+    let (pool, most) = (labels::pool(random, NAME), random.below(5));
     Doc { id, vector: maker.vector(random), labels: labels::some(random, &pool, most, true) }
 }
 
-/// Random numbers that a document decides, so that a case is taught alike whenever it is run.
-fn of(doc: &Doc) -> Random {
+/// The seed of random numbers that a document decides, so that a case is taught alike whenever it is run.
+fn seed(doc: &Doc) -> u64 {
     let mut bytes = doc.id.to_le_bytes().to_vec();
     doc.vector.iter().for_each(|x| bytes.extend(x.to_bits().to_le_bytes()));
     doc.labels.iter().for_each(|label| bytes.extend(label.bytes()));
-    Random::new(hash_bytes(&bytes))
+    hash_bytes(&bytes)
 }
 
 /// Our index with everything added, and what the model says of its lists. There is a detour behind about twelve documents, or two in five of them.
@@ -120,7 +153,7 @@ pub fn teach(case: &Case) -> Result<Taught, String> {
     taught.take_back()?;
     for (i, doc) in case.docs.iter().enumerate() {
         taught.add(doc)?;
-        let mut random = of(doc);
+        let mut random = Random::new(seed(doc));
         if random.below(case.docs.len().max(30)) < 12 {
             taught.detour(&mut random, case, &case.docs[..=i])?;
         }

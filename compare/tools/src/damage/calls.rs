@@ -2,6 +2,7 @@
 use super::guard::Guarded;
 use crate::ffi::{self, Added, Asked, Filled, Store, StoreMut};
 use crate::ours::{Lists, Ours};
+use crate::parting::Name;
 
 /// What a call left.
 pub struct Left {
@@ -79,7 +80,8 @@ impl Lent {
 pub fn add(ours: &Ours, added: &Added) -> Result<Left, String> {
     let mut lent = Lent::new(ours, 0);
     let mut state = ours.state;
-    let code = ffi::add(&mut state, lent.store_mut(), added);
+    let (lengths, bytes) = (Guarded::new(&added.lengths), Guarded::new(&added.bytes));
+    let code = ffi::add_lists(&mut state, lent.store_mut(), added.id, &added.vector, lengths.get(), bytes.get());
     lent.state = Guarded::new(&state);
     lent.left(code)
 }
@@ -103,8 +105,10 @@ pub fn build(ours: &Ours) -> Result<Left, String> {
 
 pub fn search(ours: &Ours, asked: Asked, places: usize) -> Result<Left, String> {
     let mut lent = Lent::new(ours, places);
+    let parts = asked.label.map(|name| [Guarded::new(name.first), Guarded::new(name.second)]);
+    let label = parts.as_ref().map(|[first, second]| Name { first: first.get(), second: second.get() });
     let store = Store { floats: lent.floats.get(), numbers: lent.numbers.get(), hashes: lent.hashes.get() };
     let filled = Filled { ids: lent.ids.get_mut(), distances: lent.distances.get_mut(), answer: lent.answer.get_mut() };
-    let code = ffi::search(lent.state.get(), store, lent.work.get_mut(), asked, filled);
+    let code = ffi::search(lent.state.get(), store, lent.work.get_mut(), Asked { label, ..asked }, filled);
     lent.left(code)
 }

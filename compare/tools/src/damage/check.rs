@@ -40,7 +40,7 @@ pub fn search_result(ours: &Ours, asked: Asked, places: usize) -> (u32, Option<A
         return (number, None);
     }
     let store = ours.lists.lend();
-    match (View { state, store }).walk(asked.query, asked.label.map(hash_bytes)) {
+    match (View { state, store }).walk(asked.query, asked.label.map(|name| hash_bytes(&name.joined()))) {
         Ok(walk) => (0, Some(answer(&walk, asked.k))),
         Err(_) => (15, None),
     }
@@ -127,7 +127,7 @@ pub fn add(ours: &Ours, added: &Added) -> Checked {
     let (mut numbers, mut lists) = (ours.state, ours.lists.clone());
     if refused.is_none() {
         numbers[8] += 1;
-        numbers[9] += added.lengths.len();
+        numbers[9] += added.labels();
         put_one(&state, &mut lists, added);
     }
     let code = refused.unwrap_or(0);

@@ -2,6 +2,7 @@
 use crate::case::Case;
 use crate::model::refusal::State;
 use crate::ours::{Lists, Ours};
+use crate::parting::{added, place, PART};
 use crate::random::Random;
 
 /// A number for a place: any, near the sizes that are held, or an extreme one.
@@ -88,7 +89,8 @@ pub fn damaged(random: &mut Random, case: &Case) -> Ours {
     let lists = Lists::new(case.shape, random.bits() as u32, random.below(4));
     let mut ours = Ours::new(case.shape, lists).expect("new");
     for doc in &case.docs {
-        ours.add(doc.id, &doc.vector, &doc.labels).expect("add");
+        let cuts: Vec<usize> = doc.labels.iter().map(|label| place(random, label.len(), PART)).collect();
+        ours.give(&added(doc.id, &doc.vector, &doc.labels, &cuts)).expect("add");
     }
     if !random.one_in(3) {
         ours.build().expect("build");

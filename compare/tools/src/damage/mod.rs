@@ -4,6 +4,7 @@ pub mod calls;
 pub mod check;
 pub mod guard;
 pub mod make;
+pub mod names;
 pub mod pool;
 pub mod random_calls;
 pub mod short;

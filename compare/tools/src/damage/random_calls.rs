@@ -5,9 +5,10 @@ use crate::ffi::Added;
 use crate::generate::index::{case, fit, Most};
 use crate::model::tree::Tree;
 use crate::ours::Ours;
+use crate::parting::{places, recut, Name, NAME};
 use crate::random::Random;
 
-const SMALL: Most = Most { dimension: 16, vectors: 60, entries: 120 };
+const SMALL: Most = Most { dimension: 16, vectors: 60, entries: 120, name: NAME };
 
 /// A component: finite in most cases.
 fn component(random: &mut Random) -> f32 {
@@ -23,13 +24,36 @@ pub fn vector(random: &mut Random, dimension: usize) -> Vec<f32> {
     (0..length).map(|_| component(random)).collect()
 }
 
-/// An add with labels of any bytes; one in ten has lengths that do not fit.
+/// A part's length: none, the longest, or any.
+fn length(random: &mut Random) -> u8 {
+    match random.below(6) {
+        0 => 0,
+        1 => u8::MAX,
+        _ => random.below(256) as u8,
+    }
+}
+
+/// An add with labels of any bytes; one in ten has an odd number of lengths, one in ten a sum that does not fit.
 pub fn added(random: &mut Random, dimension: usize) -> Added {
-    let lengths: Vec<u8> = (0..random.below(4)).map(|_| random.below(256) as u8).collect();
+    let labels = random.below(4);
+    let odd = random.one_in(10);
+    let lengths: Vec<u8> = (0..2 * labels + usize::from(odd)).map(|_| length(random)).collect();
     let sum: usize = lengths.iter().map(|&length| usize::from(length)).sum();
     let size = if random.one_in(10) { random.below(300) } else { sum };
     let bytes = (0..size).map(|_| random.bits() as u8).collect();
     Added { id: random.bits() as u32, vector: vector(random, dimension), lengths, bytes }
+}
+
+/// The same add with its names cut anew, where the lengths are right.
+pub fn parted_otherwise(random: &mut Random, given: &Added) -> Option<Added> {
+    let sum: usize = given.lengths.iter().map(|&length| usize::from(length)).sum();
+    let right = given.lengths.len() % 2 == 0 && sum == given.bytes.len();
+    right.then(|| recut(random, given))
+}
+
+/// A label's name, cut anywhere, at two places.
+pub fn cut_twice<'a>(random: &mut Random, label: &'a str) -> [Option<Name<'a>>; 2] {
+    places(random, label.len(), label.len()).map(|at| Some(Name::cut(label.as_bytes(), at)))
 }
 
 /// Makes one list shorter, now and then.

@@ -3,6 +3,7 @@ use super::labels;
 use super::vectors::Maker;
 use crate::case::{Case, Doc, Query};
 use crate::ours::Shape;
+use crate::parting::NAME;
 use crate::random::Random;
 
 /// How large a case may become.
@@ -11,17 +12,19 @@ pub struct Most {
     pub dimension: usize,
     pub vectors: usize,
     pub entries: usize,
+    /// Bytes of a label.
+    pub name: usize,
 }
 
-/// The sizes of document 01.
-pub const WHOLE: Most = Most { dimension: 128, vectors: 4096, entries: 16384 };
+/// The sizes of documents 01 and 02.
+pub const WHOLE: Most = Most { dimension: 128, vectors: 4096, entries: 16384, name: NAME };
 
 /// A case; its capacity of nodes is the largest tree's.
 pub fn case(random: &mut Random, most: Most) -> Case {
     let dimension = dimension(random).min(most.dimension);
     let n = size(random).min(most.vectors);
     let maker = Maker::new(random, dimension);
-    let pool = labels::pool(random);
+    let pool = labels::pool(random, most.name);
     let docs = docs(random, &maker, &pool, n, most.entries);
     let queries = (0..6).map(|_| query(random, &maker, &pool, &docs)).collect();
     let entries: usize = docs.iter().map(|doc: &Doc| doc.labels.len()).sum();

@@ -1,9 +1,16 @@
-//! 'Label hash' and 'Filter' of document 01.
+//! 'Label hash' and 'Filter' of document 01; the hash from any start (K7 of document 02).
 
-/// FNV-1a, 64 bits.
-pub fn hash_bytes(label: &[u8]) -> u64 {
+/// Where the hash of a label starts.
+pub const START: u64 = 0xcbf2_9ce4_8422_2325;
+
+/// FNV-1a, 64 bits: the value after the last byte.
+pub fn hash_from(start: u64, bytes: &[u8]) -> u64 {
     let step = |h: u64, byte: &u8| (h ^ u64::from(*byte)).wrapping_mul(0x100_0000_01b3);
-    label.iter().fold(0xcbf2_9ce4_8422_2325, step)
+    bytes.iter().fold(start, step)
+}
+
+pub fn hash_bytes(label: &[u8]) -> u64 {
+    hash_from(START, label)
 }
 
 pub fn hash(label: &str) -> u64 {

@@ -1,4 +1,4 @@
-//! 'Refusals and what they leave' of document 01, and row 19 of document 02 (K3): the rows of each call, in their order.
+//! 'Refusals and what they leave' of document 01, with rows 9 and 19 of document 02 (K7, K3): the rows of each call, in their order.
 use crate::ffi::{Added, Asked};
 use crate::ours::{Lists, Shape};
 
@@ -73,9 +73,9 @@ pub fn add(state: &State, lent: Lent, added: &Added) -> Option<u32> {
         state.built == 1 => 5,
         added.vector.len() != state.shape.dimension => 7,
         !finite(&added.vector) => 8,
-        sum != added.bytes.len() => 9,
+        added.lengths.len() % 2 == 1 || sum != added.bytes.len() => 9,
         state.vectors == state.shape.vectors => 10,
-        state.entries + added.lengths.len() > state.shape.entries => 11,
+        state.entries + added.labels() > state.shape.entries => 11,
     }
     None
 }
