@@ -1,14 +1,10 @@
 -- Laws of an add: what an accepted call may rely on.
 use Prim.Native.Nat.{ℕ}
 use mathlib.Core.Bool.{true, false}
-use mathlib.Core.List.{List, map}
-use mathlib.Core.Path.{_≡_, refl, sym, ap, _∙_, subst}
+use mathlib.Core.Path.{_≡_, refl, sym, _∙_, subst}
 use native.Mathlib.Omega.{arith}
 use borrow.Author.Tests.{not-false, ltb-false, eqb-true, eqb-false}
-use lib.Ieee.{Float}
 use lib.ListN.{length}
-use Rattle.label.specs.Names.{namesOf, lengthsFit}
-use Rattle.label.specs.NameLaws.{Name, joinedName, partLengths, partBytes, names-parted, parts-fit}
 use Rattle.vector.specs.Vector.{allFinite}
 use Rattle.store.specs.Store.{Store}
 use Rattle.store.specs.LentLaws.{store-long}
@@ -22,7 +18,7 @@ use Rattle.curator.specs.Rows.{addRows}
 use Rattle.store.specs.Lent.{lengthsOf}
 use Rattle.curator.specs.Calls.{grown}
 use Rattle.curator.specs.Changes.{addCheck, Wrote, AddsBy, Adds}
-use Rattle.curator.specs.Arguments.{AddCall, addOf}
+use Rattle.curator.specs.Arguments.{AddCall}
 use Rattle.curator.specs.Lent.{AddRoom}
 use Rattle.curator.specs.RowLaws.{NoneHolds, fine-none, rowsOfAdd, add-check-rows}
 use Rattle.curator.specs.StateLaws.{Sound, sound-facts}
@@ -75,23 +71,3 @@ adds-accepted index store call index′ store′ h = by (addCheck index store ca
         → (addCheck index store call ≡ Fine) × (index′ ≡ grown index (length (call .names))) × Wrote index store call store′
     by Fine e (a, w) = let same = carried-is (grown index (length (call .names))) (Changed′.Index index′) a in (e, (cc), w)
     by (Refused r) e (a, w) = let same = refused-is r (Changed′.Index index′) a in let z : _≡_ {A = ℕ} 0 1 = cc in absurd (omega arith)
-
--- ---- 02, K7: 'However a name is parted, every call answers and writes the same.'
-
--- adds whose lengths fit and whose joined names agree are one call
-pub names-alike : (document : ℕ) (vector : List Float) (lengths bytes lengths′ bytes′ : List ℕ) → lengthsFit lengths (length bytes) ≡ true
-    → lengthsFit lengths′ (length bytes′) ≡ true → namesOf lengths bytes ≡ namesOf lengths′ bytes′
-    → addOf document vector lengths bytes ≡ addOf document vector lengths′ bytes′
-names-alike document vector lengths bytes lengths′ bytes′ fits fits′ e =
-    let same = fits ∙ sym fits′ in
-    λ i. record { document = document; vector = vector; parted = same i; names = e i }
-
--- so names in two parts that are the same joined give the same answers and leave the same lists
-pub adds-parted : (index : CuratorIndex) (store : Store) (document : ℕ) (vector : List Float) (names names′ : List Name)
-    → map joinedName names ≡ map joinedName names′ → (answer : Changed) (store′ : Store)
-    → Adds index store (addOf document vector (partLengths names) (partBytes names)) answer store′
-    ≡ Adds index store (addOf document vector (partLengths names′) (partBytes names′)) answer store′
-adds-parted index store document vector names names′ e answer store′ =
-    ap (λ (call : AddCall). Adds index store call answer store′)
-    (names-alike document vector (partLengths names) (partBytes names) (partLengths names′) (partBytes names′) (parts-fit names) (parts-fit names′)
-    (names-parted names ∙ e ∙ sym (names-parted names′)))

@@ -13,6 +13,7 @@ pub mod BuildRowLaws
 pub mod SearchRowLaws
 pub mod StateLaws
 pub mod AddLaws
+pub mod Parted
 pub mod HeldLaws
 pub mod TakeBackLaws
 pub mod SearchHeldLaws

@@ -12,7 +12,7 @@ use lib.Seq.{drop-cons, drop-drop, take-append-seam, drop-append-seam}
 use Rattle.label.specs.Fnv.{fnv}
 use Rattle.lists.specs.Lists.{part, total, pieces}
 use Rattle.lists.specs.Tests.{and-right}
-use Rattle.label.specs.Names.{joinedPairs, namesOf, lengthsFit, wholeLengths, hashesOfLabels}
+use Rattle.label.specs.Names.{joinedPairs, namesOf, lengthsFit, wholeLengths, hashesOfLabels, Name, joinedName, partLengths, partBytes}
 
 -- ---- sums
 
@@ -93,23 +93,6 @@ whole-fit lengths bytes e =
     ap₂ _&&_ (eq-eqb _ _ even) (eq-eqb _ _ (total-whole lengths ∙ e))
 
 -- ---- names parted somehow
-
--- a name in two parts
-pub record Name : Type 0 where
-  pub first : List ℕ
-  pub second : List ℕ
-
-abbrev pub joinedName : Name → List ℕ
-joinedName name = name .first ++ name .second
-
--- the lengths list and the label bytes of some names
-unfoldable pub partLengths : List Name → List ℕ
-partLengths [] = []
-partLengths (name ∷ names) = length (name .first) ∷ length (name .second) ∷ partLengths names
-
-unfoldable pub partBytes : List Name → List ℕ
-partBytes [] = []
-partBytes (name ∷ names) = name .first ++ (name .second ++ partBytes names)
 
 -- the names that an add sees are the joined ones
 pub names-parted : (names : List Name) → namesOf (partLengths names) (partBytes names) ≡ map joinedName names

@@ -33,3 +33,22 @@ wholeLengths (n ∷ lengths) = n ∷ 0 ∷ wholeLengths lengths
 unfoldable pub hashesOfLabels : List (List ℕ) → List ℕ
 unfolding fnv
 hashesOfLabels names = map fnv names
+
+-- ---- the other way round: names that are parted somehow, and the lists of an add that brings them
+
+-- a name in two parts
+pub record Name : Type 0 where
+  pub first : List ℕ
+  pub second : List ℕ
+
+abbrev pub joinedName : Name → List ℕ
+joinedName name = name .first ++ name .second
+
+-- the lengths list and the label bytes of some names
+unfoldable pub partLengths : List Name → List ℕ
+partLengths [] = []
+partLengths (name ∷ names) = length (name .first) ∷ length (name .second) ∷ partLengths names
+
+unfoldable pub partBytes : List Name → List ℕ
+partBytes [] = []
+partBytes (name ∷ names) = name .first ++ (name .second ++ partBytes names)
