@@ -9,7 +9,6 @@ use settings::Capacities;
 use settings::CuratorParams;
 use settings::refusal::Refusal;
 ghost use Prim.Native.Nat.{_≤_, _<_, _^_, min};
-ghost use lib.ListN.{length};
 
 // How far the input has been read, and the index so far.
 struct Step {
