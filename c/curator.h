@@ -10,7 +10,8 @@
    A label's name comes in two parts, which are joined without anything between them; either may be empty. However a name is parted, every call answers
    and writes the same.
 
-   The contracts are in crates/curator_c/src/lib.rt; the definitions that they cite begin in crates/curator_c/specs/Results.antt. */
+   The contracts are in crates/curator_c/src/lib.rt; the definitions that they cite begin in crates/curator_c/specs/Results.antt,
+   that of the label hash in crates/label/specs/Fnv.antt. */
 #ifndef CURATOR_H
 #define CURATOR_H
 

@@ -23,6 +23,12 @@ impl<'a> From<&'a str> for Name<'a> {
     }
 }
 
+impl<'a> From<&&'a str> for Name<'a> {
+    fn from(name: &&'a str) -> Self {
+        Self::new(name, "")
+    }
+}
+
 impl<'a> From<&'a String> for Name<'a> {
     fn from(name: &'a String) -> Self {
         Self::new(name, "")

@@ -13,8 +13,8 @@ pub mod BuildRowLaws
 pub mod SearchRowLaws
 pub mod StateLaws
 pub mod AddLaws
-pub mod Parted
 pub mod HeldLaws
+pub mod Parted
 pub mod TakeBackLaws
 pub mod SearchHeldLaws
 pub mod BeamLaws

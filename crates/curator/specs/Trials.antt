@@ -7,7 +7,7 @@ use lib.Ieee.{binary32, ofBits, toBits}
 use lib.Dec.{eqb}
 use lib.ListN.{replicate}
 use lib.Seq.{sets}
-use Rattle.label.specs.Names.{namesOf, lengthsFit}
+use Rattle.label.specs.Names.{namesOf, lengthsFit, Name, partLengths, partBytes}
 use Rattle.vector.specs.Vector.{zero32}
 use Rattle.vector.specs.Normalized.{normalized, normalized-is}
 use Rattle.store.specs.Store.{Store}
@@ -21,6 +21,7 @@ use Rattle.settings.specs.Limits.{usual}
 use Rattle.settings.specs.Refusals.{checkNumber}
 use Rattle.curator.specs.Outcome.{changedNumber}
 use Rattle.curator.specs.OutcomeLaws.{refused-is}
+use Rattle.curator.specs.Parted.{adds-parted}
 
 -- D 0 and 129 are 1, also with another setting outside its limits; V 0 and M 0 are 2; D 1 and 128 are accepted
 trial-new :
@@ -91,6 +92,23 @@ trial-nine-eleven :
     × (checkNumber (addCheck (heldIndex 1 3 0) (heldStore (0 ∷ 0 ∷ 0 ∷ 0 ∷ [])) (addOf 7 (zero32 ∷ []) (1 ∷ 0 ∷ 0 ∷ 0 ∷ []) (97 ∷ []))) ≡ 11)
 unfolding addCheck heldIndex heldStore zero32 namesOf lengthsFit
 trial-nine-eleven = (refl, refl, refl)
+
+-- the name `ab` in the parts `a` and `b`, and all in the second part: whatever two such adds answer and leave is the same
+trial-parted : (answer answer′ : Changed) (after after′ : Store)
+    → Adds (heldIndex 1 3 0) (heldStore (0 ∷ 0 ∷ 0 ∷ 0 ∷ [])) (addOf 7 (zero32 ∷ []) (1 ∷ 1 ∷ []) (97 ∷ 98 ∷ [])) answer after
+    → Adds (heldIndex 1 3 0) (heldStore (0 ∷ 0 ∷ 0 ∷ 0 ∷ [])) (addOf 7 (zero32 ∷ []) (0 ∷ 2 ∷ []) (97 ∷ 98 ∷ [])) answer′ after′
+    → (answer ≡ answer′) × (after ≡ after′)
+unfolding partLengths partBytes
+trial-parted answer answer′ after after′ h h′ =
+    adds-parted (heldIndex 1 3 0) (heldStore (0 ∷ 0 ∷ 0 ∷ 0 ∷ [])) 7 (zero32 ∷ []) (record { first = 97 ∷ []; second = 98 ∷ [] } ∷ [])
+    (record { first = []; second = 97 ∷ 98 ∷ [] } ∷ [])
+    answer
+    answer′
+    after
+    after′
+    refl
+    h
+    h′
 
 -- two vectors held: the owner is 1, not 2, and of the fourth entry, which is not held, nothing is asked
 trial-last-entries :

@@ -82,7 +82,7 @@ fn floats_at(file: &[u8], at: usize, count: usize) -> [f32; 16]
     values
 }
 
-// The lengths of the labels from a place to another, as names whose second part is empty, in front.
+// The lengths of the labels from a place to another, at most 255, as names whose second part is empty, in front.
 fn name_lengths(file: &[u8], from: usize, to: usize) -> [u8; 510]
     requires { ⌜ (from ≤ to) × (to ≤ from + 255) × (to ≤ length (now file)) ⌝ }
     ensures room { λ r. ⌜ 2 * (to - from) ≤ length r ⌝ }

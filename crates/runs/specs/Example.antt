@@ -158,13 +158,20 @@ abbrev pub named : List ℕ → List ℕ → Call
 named lengths bytes = change fronts [] (add (addOf 7 (map (ofBits binary32) (0x3F800000 ∷ 0 ∷ [])) lengths bytes))
 
 -- one length and three are odd lists, and 9; `a` and `b` are the name `ab`, which is found joined
-pub expects-parted : expectations (sample 5 5) emptyModel
-    (named (1 ∷ []) (97 ∷ []) ∷ named (1 ∷ 0 ∷ 0 ∷ []) (97 ∷ []) ∷ named (1 ∷ 1 ∷ []) (97 ∷ 98 ∷ []) ∷ second ∷ change fronts (replicate 30 0) build
+abbrev pub callsParted : List Call
+callsParted =
+    named (1 ∷ []) (97 ∷ []) ∷ named (1 ∷ 0 ∷ 0 ∷ []) (97 ∷ []) ∷ named (1 ∷ 1 ∷ []) (97 ∷ 98 ∷ []) ∷ second ∷ change fronts (replicate 30 0) build
     ∷ searches 0 nan 4 (labelled (97 ∷ 98 ∷ []))
-    ∷ [])
+    ∷ []
+
+pub expects-parted : expectations (sample 5 5) emptyModel callsParted
     ≡ returns 9 ∷ returns 9 ∷ returns 0 ∷ returns 0 ∷ returns 0 ∷ hits (7 ∷ []) (0 ∷ []) 3 true ∷ []
 unfolding expectations ofBits fnvFrom fnvStep distance namesOf lengthsFit
 expects-parted = refl
+
+-- it has a run
+pub parted-run : (ends : List Ended) × Run (sample 5 5) callsParted ends
+parted-run = run-of callsParted (omega arith, (omega arith, (omega arith, (omega arith, (tt, (tt, tt))))))
 
 -- ---- the premise, the types and a run
 

@@ -1,6 +1,6 @@
 // Document 01's worked example: three echoes are added, the index is built, and the nearest are looked up, at budgets below, at and above the node count,
 // with a label that no echo has and with one of 300 bytes. Then the same after numbers of the store were overwritten: each kind of damage at the first and at
-// the last place where it can stand, and garbage that no search reads. Those lines are reasoned from 01's list of damage.
+// the last place where it can stand, and garbage that no search reads. Those lines are reasoned from 01's list of damage. Last, names in other parts.
 use curator::Changed;
 use curator::CuratorIndex;
 use curator::Found;
@@ -85,7 +85,7 @@ fn fresh_index(ef_search: usize) -> Changed {
     CuratorIndex::new(2, params, capacities)
 }
 
-// The index with one echo more, which has a label of one byte.
+// The index with one echo more, which has a label in two parts.
 fn added(
     index: CuratorIndex,
     floats: &mut [f32; 22],
@@ -93,11 +93,12 @@ fn added(
     hashes: &mut [u64; 24],
     doc_id: u32,
     vector: &[f32],
+    lengths: &[u8],
     label: &[u8],
 ) -> CuratorIndex {
     kept(
         index,
-        index.add(floats, numbers, hashes, doc_id, vector, &[1, 0], label),
+        index.add(floats, numbers, hashes, doc_id, vector, lengths, label),
     )
 }
 
@@ -109,9 +110,36 @@ fn example_index(
     hashes: &mut [u64; 24],
     work: &mut [u32; 27],
 ) -> CuratorIndex {
-    let index = added(fresh, floats, numbers, hashes, 7, &[1.0, 0.0], b"a");
-    let index = added(index, floats, numbers, hashes, 8, &[0.0, 2.0], b"b");
-    let index = added(index, floats, numbers, hashes, 9, &[3.0, 4.0], b"a");
+    let index = added(
+        fresh,
+        floats,
+        numbers,
+        hashes,
+        7,
+        &[1.0, 0.0],
+        &[1, 0],
+        b"a",
+    );
+    let index = added(
+        index,
+        floats,
+        numbers,
+        hashes,
+        8,
+        &[0.0, 2.0],
+        &[1, 0],
+        b"b",
+    );
+    let index = added(
+        index,
+        floats,
+        numbers,
+        hashes,
+        9,
+        &[3.0, 4.0],
+        &[1, 0],
+        b"a",
+    );
     kept(index, build::build(index, floats, numbers, hashes, work))
 }
 
@@ -288,13 +316,71 @@ fn budgets() {
     unharmed(5, &long, b"");
 }
 
-// The name in other parts: the first empty; two that are no echo's label joined, in either place; each of 300 bytes.
+// Two echoes of the names `ab` and `ba`, each in two parts, built.
+fn named_index(
+    fresh: CuratorIndex,
+    floats: &mut [f32; 22],
+    numbers: &mut [u32; 51],
+    hashes: &mut [u64; 24],
+    work: &mut [u32; 27],
+) -> CuratorIndex {
+    let index = added(
+        fresh,
+        floats,
+        numbers,
+        hashes,
+        7,
+        &[1.0, 0.0],
+        &[1, 1],
+        b"ab",
+    );
+    let index = added(
+        index,
+        floats,
+        numbers,
+        hashes,
+        8,
+        &[0.0, 2.0],
+        &[1, 1],
+        b"ba",
+    );
+    kept(index, build::build(index, floats, numbers, hashes, work))
+}
+
+fn named(first: &[u8], second: &[u8]) {
+    let made = fresh_index(5);
+    let Changed::Index(fresh) = made else {
+        io::write_all(STDOUT_FILENO, b"refused by new\n");
+        return;
+    };
+    let mut floats = [0.0f32; 22];
+    let mut numbers = [0u32; 51];
+    let mut hashes = [0u64; 24];
+    let mut work = [0u32; 27];
+    let index = named_index(fresh, &mut floats, &mut numbers, &mut hashes, &mut work);
+    look_up(
+        index,
+        &floats,
+        &numbers,
+        &hashes,
+        &mut work,
+        true,
+        first,
+        second,
+    );
+}
+
+// Names in other parts: the first empty; each part of 300 bytes; `ab` and `ba`, parted in every way.
 fn parts() {
     unharmed(5, b"", b"a");
-    unharmed(5, b"a", b"a");
-    unharmed(5, b"a", b"b");
     let long = [97u8; 300];
     unharmed(5, &long, &long);
+    named(b"a", b"b");
+    named(b"ab", b"");
+    named(b"", b"ab");
+    named(b"b", b"a");
+    named(b"ba", b"");
+    named(b"", b"ba");
 }
 
 fn main() {
