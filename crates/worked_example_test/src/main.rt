@@ -102,14 +102,36 @@ fn added(
     )
 }
 
-// The three echoes of the example, built.
-fn example_index(
+// The three echoes of the example; or two with the names `ab` and `ba`, each in two parts.
+fn filled(
     fresh: CuratorIndex,
     floats: &mut [f32; 22],
     numbers: &mut [u32; 51],
     hashes: &mut [u64; 24],
-    work: &mut [u32; 27],
+    two_parts: bool,
 ) -> CuratorIndex {
+    if two_parts {
+        let index = added(
+            fresh,
+            floats,
+            numbers,
+            hashes,
+            7,
+            &[1.0, 0.0],
+            &[1, 1],
+            b"ab",
+        );
+        return added(
+            index,
+            floats,
+            numbers,
+            hashes,
+            8,
+            &[0.0, 2.0],
+            &[1, 1],
+            b"ba",
+        );
+    }
     let index = added(
         fresh,
         floats,
@@ -130,7 +152,7 @@ fn example_index(
         &[1, 0],
         b"b",
     );
-    let index = added(
+    added(
         index,
         floats,
         numbers,
@@ -139,7 +161,19 @@ fn example_index(
         &[3.0, 4.0],
         &[1, 0],
         b"a",
-    );
+    )
+}
+
+// Those echoes, built.
+fn example_index(
+    fresh: CuratorIndex,
+    floats: &mut [f32; 22],
+    numbers: &mut [u32; 51],
+    hashes: &mut [u64; 24],
+    work: &mut [u32; 27],
+    two_parts: bool,
+) -> CuratorIndex {
+    let index = filled(fresh, floats, numbers, hashes, two_parts);
     kept(index, build::build(index, floats, numbers, hashes, work))
 }
 
@@ -190,7 +224,14 @@ fn look_up(
 
 // The worked example with damage: V 4, E 4, M 5, so owners stand at 4, the leaf order of vectors at 8, six numbers per node at 12, child links at 42 and the
 // leaf order of entries at 47. Nodes 0 and 2 are inner, 1, 3 and 4 hold the vectors 0, 1 and 2.
-fn example(ef_search: usize, filtered: bool, first: &[u8], second: &[u8], damage: Damage) {
+fn example(
+    ef_search: usize,
+    two_parts: bool,
+    filtered: bool,
+    first: &[u8],
+    second: &[u8],
+    damage: Damage,
+) {
     let made = fresh_index(ef_search);
     let Changed::Index(fresh) = made else {
         io::write_all(STDOUT_FILENO, b"refused by new\n");
@@ -200,7 +241,14 @@ fn example(ef_search: usize, filtered: bool, first: &[u8], second: &[u8], damage
     let mut numbers = [0u32; 51];
     let mut hashes = [0u64; 24];
     let mut work = [0u32; 27];
-    let index = example_index(fresh, &mut floats, &mut numbers, &mut hashes, &mut work);
+    let index = example_index(
+        fresh,
+        &mut floats,
+        &mut numbers,
+        &mut hashes,
+        &mut work,
+        two_parts,
+    );
     overwrite(&mut numbers, damage.first, damage.first_value);
     overwrite(&mut numbers, damage.second, damage.second_value);
     look_up(
@@ -218,6 +266,7 @@ fn example(ef_search: usize, filtered: bool, first: &[u8], second: &[u8], damage
 fn one_place(filtered: bool, place: usize, value: u32) {
     example(
         5,
+        false,
         filtered,
         b"a",
         b"",
@@ -260,6 +309,7 @@ fn leaves() {
 fn other() {
     example(
         5,
+        false,
         true,
         b"a",
         b"",
@@ -276,6 +326,7 @@ fn other() {
     one_place(true, 18, 4294967295);
     example(
         0,
+        false,
         true,
         b"a",
         b"",
@@ -288,19 +339,17 @@ fn other() {
     );
 }
 
+fn undamaged() -> Damage {
+    Damage {
+        first: 51,
+        first_value: 0,
+        second: 51,
+        second_value: 0,
+    }
+}
+
 fn unharmed(ef_search: usize, first: &[u8], second: &[u8]) {
-    example(
-        ef_search,
-        true,
-        first,
-        second,
-        Damage {
-            first: 51,
-            first_value: 0,
-            second: 51,
-            second_value: 0,
-        },
-    );
+    example(ef_search, false, true, first, second, undamaged());
 }
 
 fn budgets() {
@@ -316,58 +365,8 @@ fn budgets() {
     unharmed(5, &long, b"");
 }
 
-// Two echoes of the names `ab` and `ba`, each in two parts, built.
-fn named_index(
-    fresh: CuratorIndex,
-    floats: &mut [f32; 22],
-    numbers: &mut [u32; 51],
-    hashes: &mut [u64; 24],
-    work: &mut [u32; 27],
-) -> CuratorIndex {
-    let index = added(
-        fresh,
-        floats,
-        numbers,
-        hashes,
-        7,
-        &[1.0, 0.0],
-        &[1, 1],
-        b"ab",
-    );
-    let index = added(
-        index,
-        floats,
-        numbers,
-        hashes,
-        8,
-        &[0.0, 2.0],
-        &[1, 1],
-        b"ba",
-    );
-    kept(index, build::build(index, floats, numbers, hashes, work))
-}
-
 fn named(first: &[u8], second: &[u8]) {
-    let made = fresh_index(5);
-    let Changed::Index(fresh) = made else {
-        io::write_all(STDOUT_FILENO, b"refused by new\n");
-        return;
-    };
-    let mut floats = [0.0f32; 22];
-    let mut numbers = [0u32; 51];
-    let mut hashes = [0u64; 24];
-    let mut work = [0u32; 27];
-    let index = named_index(fresh, &mut floats, &mut numbers, &mut hashes, &mut work);
-    look_up(
-        index,
-        &floats,
-        &numbers,
-        &hashes,
-        &mut work,
-        true,
-        first,
-        second,
-    );
+    example(5, true, true, first, second, undamaged());
 }
 
 // Names in other parts: the first empty; each part of 300 bytes; `ab` and `ba`, parted in every way.
