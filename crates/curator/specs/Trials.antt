@@ -1,4 +1,4 @@
--- The definitions on small values: `new` at the limits, the labels of an add, an add whose squares overflow, and a taking back.
+-- The definitions on small values: `new` at the limits, an add whose squares overflow, names of an add in two parts, and a taking back.
 use Prim.Native.Nat.{ℕ}
 use mathlib.Core.Bool.{true}
 use mathlib.Core.List.{List, [], _∷_, _++_, map}
@@ -67,7 +67,7 @@ trial-infinite : (answer : Changed) (store′ : Store) → Adds trialIndex trial
 unfolding Adds AddsBy addCheck trialIndex trialStore trialAdd
 trial-infinite answer store′ (refused, same) = (ap changedNumber (refused-is _ _ refused), same)
 
--- ---- taking back
+-- ---- an index and its store, for names and for taking back
 
 -- an index of one component with room for three vectors and four entries, so many of them held; it is built where it has a node
 heldIndex : ℕ → ℕ → ℕ → CuratorIndex
@@ -85,7 +85,9 @@ heldStore : List ℕ → Store
 unfolding zero32
 heldStore owners = record { floats = replicate 5 zero32; numbers = 7 ∷ 8 ∷ 9 ∷ (owners ++ replicate 14 0); hashes = replicate 8 0 }
 
--- 9 reads that, and 11 counts names, here two where one has room
+-- ---- names in two parts
+
+-- one length is an odd list, and 9, though its sum is the bytes'; two lengths are one name, which has room; four are two names, for which there is none, and 11
 trial-nine-eleven :
     (checkNumber (addCheck (heldIndex 1 3 0) (heldStore (0 ∷ 0 ∷ 0 ∷ 0 ∷ [])) (addOf 7 (zero32 ∷ []) (1 ∷ []) (97 ∷ []))) ≡ 9)
     × (checkNumber (addCheck (heldIndex 1 3 0) (heldStore (0 ∷ 0 ∷ 0 ∷ 0 ∷ [])) (addOf 7 (zero32 ∷ []) (1 ∷ 0 ∷ []) (97 ∷ []))) ≡ 0)
@@ -109,6 +111,8 @@ trial-parted answer answer′ after after′ h h′ =
     refl
     h
     h′
+
+-- ---- taking back
 
 -- two vectors held: the owner is 1, not 2, and of the fourth entry, which is not held, nothing is asked
 trial-last-entries :
