@@ -1,6 +1,6 @@
 #!/usr/bin/env python3
 """Writes the expected output of the program index_test to standard output: a model of `new`, `add` and `take_back`
-written from document 01's table and 'The store' and from K3 of document 02, put to the calls that the program makes.
+written from document 01's table and 'The store' and from K3 and K7 of document 02, put to the calls that the program makes.
 
     python3 tools/index_test.py | diff - crates/index_test/stdout
 """

@@ -10,13 +10,13 @@ use Rattle.label.specs.Names.{namesOf, lengthsFit}
 pub record AddCall : Type 0 where
   pub document : ℕ
   pub vector : List Float
-  pub parted : Bool
+  pub lengths-fit : Bool
   pub names : List (List ℕ)
 
 -- as it is called, with label lengths and label bytes
 abbrev pub addOf : ℕ → List Float → List ℕ → List ℕ → AddCall
 addOf document vector lengths bytes =
-    record { document = document; vector = vector; parted = lengthsFit lengths (length bytes); names = namesOf lengths bytes }
+    record { document = document; vector = vector; lengths-fit = lengthsFit lengths (length bytes); names = namesOf lengths bytes }
 
 -- what a search asks for: every vector, or those with a label, which is any bytes, joined from its two parts
 pub data Asked : Type 0 where

@@ -48,7 +48,7 @@ pub record AddRoom (index : CuratorIndex) (store : Store) (call : AddCall) : Typ
   pub limits : Limits (indexShape index)
   pub long : Long (indexShape index) (lengthsOf store)
   pub dimension : length (call .vector) ≡ index .dimension
-  pub labels : call .parted ≡ true
+  pub labels : call .lengths-fit ≡ true
   pub vectors : index .counts .vectors < index .capacities .vectors
   pub entries : index .counts .entries + length (call .names) ≤ index .capacities .entries
 

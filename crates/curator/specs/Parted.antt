@@ -20,7 +20,7 @@ pub names-alike : (document : ℕ) (vector : List Float) (lengths bytes lengths�
     → addOf document vector lengths bytes ≡ addOf document vector lengths′ bytes′
 names-alike document vector lengths bytes lengths′ bytes′ fits fits′ e =
     let same = fits ∙ sym fits′ in
-    λ i. record { document = document; vector = vector; parted = same i; names = e i }
+    λ i. record { document = document; vector = vector; lengths-fit = same i; names = e i }
 
 -- so names in two parts that are the same joined give the same answer and leave the same lists
 pub adds-parted : (index : CuratorIndex) (store : Store) (document : ℕ) (vector : List Float) (names names′ : List Name) (answer answer′ : Changed)

@@ -66,7 +66,7 @@ addRows f lent call =
     unbuiltRows f lent
     ++ (row (not (eqb (length (call .vector)) (f .shape .dimension))) (Input DimensionMismatch)
     ∷ row (not (allFinite (call .vector))) (Input NonFiniteInput)
-    ∷ row (not (call .parted)) (Input LabelLengths)
+    ∷ row (not (call .lengths-fit)) (Input LabelLengths)
     ∷ row (eqb (f .vectors) (f .shape .vectors)) (Store VectorsFull)
     ∷ row (ltb (f .shape .entries) (f .entries + length (call .names))) (Store EntriesFull)
     ∷ [])

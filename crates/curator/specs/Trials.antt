@@ -48,7 +48,7 @@ trialStore = record { floats = replicate 6 zero32; numbers = replicate 9 0; hash
 trialAdd : ℕ → ℕ → AddCall
 unfolding ofBits
 trialAdd first second =
-    record { document = 7; vector = ofBits binary32 first ∷ ofBits binary32 second ∷ []; parted = true; names = [] }
+    record { document = 7; vector = ofBits binary32 first ∷ ofBits binary32 second ∷ []; lengths-fit = true; names = [] }
 
 -- (1e30, -1e30) is accepted, and whatever an add leaves begins with 0.0 and -0.0
 trial-overflow-fine : addCheck trialIndex trialStore (trialAdd 0x7149F2CA 0xF149F2CA) ≡ Fine

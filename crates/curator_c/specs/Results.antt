@@ -1,4 +1,5 @@
--- What each exported function returns and leaves: by the result of the index's own call on the state that the list holds, or of the pooling of two filters.
+-- What each exported function returns and leaves: by the result of the index's own call on the state that the list holds, or of the pooling of two filters. The
+-- label hash has no state and no refusal: its promise is the definition's value.
 use Prim.Native.Nat.{ℕ, _+_}
 use mathlib.Core.Bool.{Bool, true, false, cond, _||_}
 use mathlib.Core.List.{List}

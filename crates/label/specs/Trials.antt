@@ -20,10 +20,12 @@ trial-names :
 unfolding namesOf
 trial-names = (refl, refl)
 
--- the lengths are read by their sum, and an odd list fits nothing; no lengths fit no bytes
+-- the lengths are read by their sum, and an odd list fits nothing, no bytes either; no lengths fit no bytes
 trial-lengths :
     (lengthsFit (1 ∷ 2 ∷ []) 3 ≡ true) × (lengthsFit (3 ∷ 0 ∷ []) 3 ≡ true) × (lengthsFit (1 ∷ 2 ∷ []) 2 ≡ false) × (lengthsFit (3 ∷ []) 3 ≡ false)
     × (lengthsFit (1 ∷ 2 ∷ 0 ∷ []) 3 ≡ false)
+    × (lengthsFit (0 ∷ []) 0 ≡ false)
+    × (lengthsFit (0 ∷ 0 ∷ 0 ∷ []) 0 ≡ false)
     × (lengthsFit [] 0 ≡ true)
 unfolding lengthsFit
-trial-lengths = (refl, refl, refl, refl, refl, refl)
+trial-lengths = (refl, refl, refl, refl, refl, refl, refl, refl)

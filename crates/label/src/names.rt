@@ -74,14 +74,14 @@ pub fn write_hashes(hashes: &mut [u64], place: usize, lengths: &[u8], bytes: &[u
 }
 
 // Writes the lengths of names whose second part is empty: each length, and a 0 after it.
-pub fn whole_lengths(lengths: &[u8], parts: &mut [u8])
-    requires { ⌜ 2 * length (now lengths) ≡ length (now parts) ⌝ }
-    ensures { λ _. ⌜ now (parts .exit) ≡ wholeLengths (now (lengths .entry)) ⌝ }
+pub fn whole_lengths(lengths: &[u8], pairs: &mut [u8])
+    requires { ⌜ 2 * length (now lengths) ≡ length (now pairs) ⌝ }
+    ensures { λ _. ⌜ now (pairs .exit) ≡ wholeLengths (now (lengths .entry)) ⌝ }
 {
     let mut i = 0;
     while i < lengths.len() {
-        parts[2 * i] = lengths[i];
-        parts[2 * i + 1] = 0;
+        pairs[2 * i] = lengths[i];
+        pairs[2 * i + 1] = 0;
         i += 1;
     }
 }

@@ -109,28 +109,33 @@ build-searched index call next lent lent′ answer ready work reply carried b e 
 
 -- ---- what a record asks for
 
--- floats that were read stand in front
+-- what was written into the first n places stands in front
+written-front : {A : Type 0} (out rest written : List A) {n : ℕ} → out ≡ written → length written ≡ n
+    → (n ≤ length (out ++ rest)) × (take n (out ++ rest) ≡ written)
+written-front out rest written {n} h e =
+    let size : length out ≡ n = ap length h ∙ e in
+    (omega (arith, size, length-append out rest), take-at out rest n size ∙ h)
+
+-- floats that were read
 pub floats-front : (out rest : List Float) (file : List ℕ) (at : ℕ) {m n : ℕ} → m ≡ n → out ≡ floats (numbers m (drop at file))
     → (n ≤ length (out ++ rest)) × (take n (out ++ rest) ≡ floatsAt n file at)
 floats-front out rest file at {m} {n} e h =
-    let size : length out ≡ n = ap length h ∙ length-map (numbers m (drop at file)) (ofBits binary32) ∙ length-numbers m (drop at file) ∙ e in
-    (omega (arith, size, length-append out rest), take-at out rest n size ∙ h ∙ ap (λ (k : ℕ). floats (numbers k (drop at file))) e)
+    written-front out rest (floatsAt n file at) (h ∙ ap (λ (k : ℕ). floats (numbers k (drop at file))) e)
+    (length-map (numbers n (drop at file)) (ofBits binary32) ∙ length-numbers n (drop at file))
 
--- lengths that were made of those read stand in front
+-- lengths that were made of those read
 pub lengths-front : (out rest lengths : List ℕ) {n : ℕ} → 2 * length lengths ≡ n → out ≡ wholeLengths lengths
     → (n ≤ length (out ++ rest)) × (take n (out ++ rest) ≡ wholeLengths lengths)
-lengths-front out rest lengths {n} e h =
-    let size : length out ≡ n = ap length h ∙ length-whole lengths ∙ e in
-    (omega (arith, size, length-append out rest), take-at out rest n size ∙ h)
+lengths-front out rest lengths e h = written-front out rest (wholeLengths lengths) h (length-whole lengths ∙ e)
 
 -- the names of an add are the labels that were read
 read-names : (document : ℕ) (vector : List Float) (labels : List (List ℕ)) {lengths bytes : List ℕ} → lengths ≡ map length labels → bytes ≡ format.labelBytes labels
-    → addOf document vector (wholeLengths lengths) bytes ≡ record { document = document; vector = vector; parted = true; names = labels }
+    → addOf document vector (wholeLengths lengths) bytes ≡ record { document = document; vector = vector; lengths-fit = true; names = labels }
 read-names document vector labels {lengths} {bytes} e f =
     let sum : total lengths ≡ length bytes = ap total e ∙ sym (length-labelBytes labels) ∙ ap length (sym f) in
     let fit = whole-fit lengths (length bytes) sum in
     let names = names-whole lengths bytes ∙ ap₂ pieces e f ∙ pieces-labelBytes labels in
-    λ i. record { document = document; vector = vector; parted = fit i; names = names i }
+    λ i. record { document = document; vector = vector; lengths-fit = fit i; names = names i }
 
 -- after the settings
 pub task-asks : (index : CuratorIndex) (file : List ℕ) (at : ℕ) (located : Located) → index .dimension ≤ 16

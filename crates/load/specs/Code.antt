@@ -72,7 +72,7 @@ CarriesNext index file at lent carried lent′ =
 abbrev pub floatsAt : ℕ → List ℕ → ℕ → List Float
 floatsAt dimension file place = floats (patternsAt (record { dimension = dimension }) file place)
 
--- a vector's parts stand in the file, and there is room for its floats
+-- a vector's parts stand in the file, its labels are at most 255, and there is room for its floats
 pub record VectorIn (file : List ℕ) (dimension : ℕ) (v : Vector) : Type 0 where
   pub narrow : dimension ≤ 16
   pub lengths-order : v .«lengths_at» ≤ v .«labels_at»

@@ -56,7 +56,7 @@ abbrev pub floats : List ℕ → List Float
 floats patterns = map (ofBits binary32) patterns
 
 abbrev pub addCall : ℕ → List (List ℕ) → List ℕ → AddCall
-addCall document labels patterns = record { document = document; vector = floats patterns; parted = true; names = labels }
+addCall document labels patterns = record { document = document; vector = floats patterns; lengths-fit = true; names = labels }
 
 -- The contents of work and answer lists do not matter (crates/runs/specs/Contents.antt): here they are zeros.
 abbrev pub searchCall : ℕ → Asked → List ℕ → SearchCall

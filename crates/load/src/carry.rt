@@ -89,9 +89,9 @@ fn name_lengths(file: &[u8], from: usize, to: usize) -> [u8; 510]
     ensures front { λ r. ⌜ take (2 * (to - from)) r ≡ wholeLengths (bytesBetween from to (now (file .entry))) ⌝ }
 {
     let count = 2 * (to - from);
-    let mut parts: [u8; 510] = [0; 510];
-    label::names::whole_lengths(&file[from..to], &mut parts[..count]);
-    parts
+    let mut pairs: [u8; 510] = [0; 510];
+    label::names::whole_lengths(&file[from..to], &mut pairs[..count]);
+    pairs
 }
 
 // Adds the vector. The file keeps one length a label.

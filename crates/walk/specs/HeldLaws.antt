@@ -3,7 +3,7 @@
 use Prim.Native.Nat.{ℕ, suc, _+_, _*_, _^_, _≤_, _<_}
 use native.Mathlib.Nat.{zero-add, mul-le-mul-right, suc-mul, mul-comm, add-mul, add-assoc}
 use native.Mathlib.Omega.{arith}
-use mathlib.Core.Path.{_≡_, sym, ap, _∙_, subst}
+use mathlib.Core.Path.{_≡_, refl, sym, ap, _∙_, subst}
 use mathlib.Core.Bool.{true}
 use mathlib.Core.List.{List}
 use lib.Ieee.{Float}
@@ -36,6 +36,22 @@ pub record SameHeld (s : Shape) (c : Counts) (a b : Store) : Type 0 where
   pub entry-order : part (entryOrderAt s) (c .entries) (a .numbers) ≡ part (entryOrderAt s) (c .entries) (b .numbers)
   pub hashes : part 0 (c .entries) (a .hashes) ≡ part 0 (c .entries) (b .hashes)
   pub filters : part (filtersAt s) (c .nodes * 4) (a .hashes) ≡ part (filtersAt s) (c .nodes * 4) (b .hashes)
+
+-- a store with itself
+pub held-itself : (s : Shape) (c : Counts) (a : Store) → SameHeld s c a a
+held-itself s c a =
+    record {
+      vectors = refl;
+      centroids = refl;
+      documents = refl;
+      owners = refl;
+      order = refl;
+      nodes = refl;
+      links = refl;
+      entry-order = refl;
+      hashes = refl;
+      filters = refl;
+    }
 
 module _ {A : Type 0} where
   -- what stands at a place of equal parts, and a part of equal parts

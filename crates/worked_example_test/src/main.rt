@@ -102,36 +102,42 @@ fn added(
     )
 }
 
-// The three echoes of the example; or two with the names `ab` and `ba`, each in two parts.
-fn filled(
+// Two echoes with the names `ab` and `ba`, each in two parts.
+fn parted_echoes(
     fresh: CuratorIndex,
     floats: &mut [f32; 22],
     numbers: &mut [u32; 51],
     hashes: &mut [u64; 24],
-    two_parts: bool,
 ) -> CuratorIndex {
-    if two_parts {
-        let index = added(
-            fresh,
-            floats,
-            numbers,
-            hashes,
-            7,
-            &[1.0, 0.0],
-            &[1, 1],
-            b"ab",
-        );
-        return added(
-            index,
-            floats,
-            numbers,
-            hashes,
-            8,
-            &[0.0, 2.0],
-            &[1, 1],
-            b"ba",
-        );
-    }
+    let index = added(
+        fresh,
+        floats,
+        numbers,
+        hashes,
+        7,
+        &[1.0, 0.0],
+        &[1, 1],
+        b"ab",
+    );
+    added(
+        index,
+        floats,
+        numbers,
+        hashes,
+        8,
+        &[0.0, 2.0],
+        &[1, 1],
+        b"ba",
+    )
+}
+
+// The three echoes of the example.
+fn example_echoes(
+    fresh: CuratorIndex,
+    floats: &mut [f32; 22],
+    numbers: &mut [u32; 51],
+    hashes: &mut [u64; 24],
+) -> CuratorIndex {
     let index = added(
         fresh,
         floats,
@@ -164,7 +170,7 @@ fn filled(
     )
 }
 
-// Those echoes, built.
+// Those echoes, or the others, built.
 fn example_index(
     fresh: CuratorIndex,
     floats: &mut [f32; 22],
@@ -173,7 +179,12 @@ fn example_index(
     work: &mut [u32; 27],
     two_parts: bool,
 ) -> CuratorIndex {
-    let index = filled(fresh, floats, numbers, hashes, two_parts);
+    let index: CuratorIndex;
+    if two_parts {
+        index = parted_echoes(fresh, floats, numbers, hashes);
+    } else {
+        index = example_echoes(fresh, floats, numbers, hashes);
+    }
     kept(index, build::build(index, floats, numbers, hashes, work))
 }
 
@@ -348,21 +359,21 @@ fn undamaged() -> Damage {
     }
 }
 
-fn unharmed(ef_search: usize, first: &[u8], second: &[u8]) {
+fn labelled(ef_search: usize, first: &[u8], second: &[u8]) {
     example(ef_search, false, true, first, second, undamaged());
 }
 
 fn budgets() {
-    unharmed(5, b"a", b"");
-    unharmed(0, b"a", b"");
-    unharmed(2, b"a", b"");
-    unharmed(4, b"a", b"");
-    unharmed(6, b"a", b"");
-    unharmed(65537, b"a", b"");
-    unharmed(65538, b"a", b"");
-    unharmed(5, b"c", b"");
+    labelled(5, b"a", b"");
+    labelled(0, b"a", b"");
+    labelled(2, b"a", b"");
+    labelled(4, b"a", b"");
+    labelled(6, b"a", b"");
+    labelled(65537, b"a", b"");
+    labelled(65538, b"a", b"");
+    labelled(5, b"c", b"");
     let long = [97u8; 300];
-    unharmed(5, &long, b"");
+    labelled(5, &long, b"");
 }
 
 fn named(first: &[u8], second: &[u8]) {
@@ -371,9 +382,9 @@ fn named(first: &[u8], second: &[u8]) {
 
 // Names in other parts: the first empty; each part of 300 bytes; `ab` and `ba`, parted in every way.
 fn parts() {
-    unharmed(5, b"", b"a");
+    labelled(5, b"", b"a");
     let long = [97u8; 300];
-    unharmed(5, &long, &long);
+    labelled(5, &long, &long);
     named(b"a", b"b");
     named(b"ab", b"");
     named(b"", b"ab");

@@ -11,35 +11,35 @@ use Rattle.label.proofs.names.whole_lengths.Statement.{statement}
 use Rattle.label.proofs.names.whole_lengths.Tie as tie
 
 abbrev Inv-loop : tie.InvT-loop
-Inv-loop lengths parts₀ i₀ parts i =
-    (i ≤ length lengths) × (length parts ≡ length parts₀) × (sets parts (2 * i) (wholeLengths (drop i lengths)) ≡ wholeLengths lengths)
+Inv-loop lengths pairs₀ i₀ pairs i =
+    (i ≤ length lengths) × (length pairs ≡ length pairs₀) × (sets pairs (2 * i) (wholeLengths (drop i lengths)) ≡ wholeLengths lengths)
 
 abbrev μ-loop : tie.MeasureT-loop
-μ-loop lengths parts₀ i₀ parts i = length lengths - i
+μ-loop lengths pairs₀ i₀ pairs i = length lengths - i
 
 loop-holds : tie.Need-loop-holds Inv-loop μ-loop
-loop-holds c = (omega arith, refl, whole-all (c .args .parts .now) (c .args .lengths .now) (c .pre))
+loop-holds c = (omega arith, refl, whole-all (c .args .pairs .now) (c .args .lengths .now) (c .pre))
 
-shared-slice-read-parts : tie.Need-shared-slice-read-parts Inv-loop μ-loop
-shared-slice-read-parts c = search needs
+shared-slice-read-pairs : tie.Need-shared-slice-read-pairs Inv-loop μ-loop
+shared-slice-read-pairs c = search needs
 
-mul-parts : tie.Need-mul-parts Inv-loop μ-loop
-mul-parts c = omega arith
+mul-pairs : tie.Need-mul-pairs Inv-loop μ-loop
+mul-pairs c = omega arith
 
-slice-write-parts : tie.Need-slice-write-parts Inv-loop μ-loop
-slice-write-parts c = omega arith
+slice-write-pairs : tie.Need-slice-write-pairs Inv-loop μ-loop
+slice-write-pairs c = omega arith
 
-mul-parts-2 : tie.Need-mul-parts-2 Inv-loop μ-loop
-mul-parts-2 c = omega arith
+mul-pairs-2 : tie.Need-mul-pairs-2 Inv-loop μ-loop
+mul-pairs-2 c = omega arith
 
-add-parts : tie.Need-add-parts Inv-loop μ-loop
-add-parts c = omega arith
+add-pairs : tie.Need-add-pairs Inv-loop μ-loop
+add-pairs c = omega arith
 
-slice-write-parts-2 : tie.Need-slice-write-parts-2 Inv-loop μ-loop
-slice-write-parts-2 c =
+slice-write-pairs-2 : tie.Need-slice-write-pairs-2 Inv-loop μ-loop
+slice-write-pairs-2 c =
     let turn = c .before .before .loop in
     let args = c .before .before .before .args in
-    let wide = length-set (turn .parts) (2 * turn .i) (getD (args .lengths .now) (turn .i) 0) in
+    let wide = length-set (turn .pairs) (2 * turn .i) (getD (args .lengths .now) (turn .i) 0) in
     omega arith
 
 add-i : tie.Need-add-i Inv-loop μ-loop
@@ -68,12 +68,12 @@ whole-lengths-spec =
     Inv-loop
     μ-loop
     loop-holds
-    shared-slice-read-parts
-    mul-parts
-    slice-write-parts
-    mul-parts-2
-    add-parts
-    slice-write-parts-2
+    shared-slice-read-pairs
+    mul-pairs
+    slice-write-pairs
+    mul-pairs-2
+    add-pairs
+    slice-write-pairs-2
     add-i
     loop-less
     loop-again

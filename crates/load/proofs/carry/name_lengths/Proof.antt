@@ -18,10 +18,10 @@ zeros = replicate 510 0
 
 -- ---- the places that needs go back to (primed: the same place, from another one)
 
-abbrev start : tie.After-parts → tie.Start
+abbrev start : tie.After-pairs → tie.Start
 start c = c .before .before .before
 
-abbrev start′ : tie.After-parts2 → tie.Start
+abbrev start′ : tie.After-pairs2 → tie.Start
 start′ c = c .before .before .before .before .before
 
 -- the front has room for them
@@ -43,8 +43,8 @@ part-whole-lengths-start c = search needs
 part-whole-lengths-end : tie.Need-part-whole-lengths-end
 part-whole-lengths-end c = search needs
 
-array-borrow-prefix-parts : tie.Need-array-borrow-prefix-parts
-array-borrow-prefix-parts c = search needs
+array-borrow-prefix-pairs : tie.Need-array-borrow-prefix-pairs
+array-borrow-prefix-pairs c = search needs
 
 slice-aggregate-whole-lengths : tie.Need-slice-aggregate-whole-lengths
 slice-aggregate-whole-lengths c = sym (front (start c))
@@ -73,7 +73,7 @@ name-lengths-spec =
     sub-whole-lengths
     part-whole-lengths-start
     part-whole-lengths-end
-    array-borrow-prefix-parts
+    array-borrow-prefix-pairs
     slice-aggregate-whole-lengths
     whole-lengths-requires
     returns)
