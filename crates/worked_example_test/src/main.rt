@@ -102,12 +102,15 @@ fn added(
     )
 }
 
-// Two echoes with the names `ab` and `ba`, each in two parts.
-fn parted_echoes(
+// Two echoes, 7 and 8, with a label each, both parted alike.
+fn two_echoes(
     fresh: CuratorIndex,
     floats: &mut [f32; 22],
     numbers: &mut [u32; 51],
     hashes: &mut [u64; 24],
+    lengths: &[u8],
+    label: &[u8],
+    other: &[u8],
 ) -> CuratorIndex {
     let index = added(
         fresh,
@@ -116,8 +119,8 @@ fn parted_echoes(
         hashes,
         7,
         &[1.0, 0.0],
-        &[1, 1],
-        b"ab",
+        lengths,
+        label,
     );
     added(
         index,
@@ -126,8 +129,8 @@ fn parted_echoes(
         hashes,
         8,
         &[0.0, 2.0],
-        &[1, 1],
-        b"ba",
+        lengths,
+        other,
     )
 }
 
@@ -138,26 +141,7 @@ fn example_echoes(
     numbers: &mut [u32; 51],
     hashes: &mut [u64; 24],
 ) -> CuratorIndex {
-    let index = added(
-        fresh,
-        floats,
-        numbers,
-        hashes,
-        7,
-        &[1.0, 0.0],
-        &[1, 0],
-        b"a",
-    );
-    let index = added(
-        index,
-        floats,
-        numbers,
-        hashes,
-        8,
-        &[0.0, 2.0],
-        &[1, 0],
-        b"b",
-    );
+    let index = two_echoes(fresh, floats, numbers, hashes, &[1, 0], b"a", b"b");
     added(
         index,
         floats,
@@ -170,7 +154,7 @@ fn example_echoes(
     )
 }
 
-// Those echoes, or the others, built.
+// Those echoes, or two with the names `ab` and `ba`, each in two parts, built.
 fn example_index(
     fresh: CuratorIndex,
     floats: &mut [f32; 22],
@@ -181,7 +165,7 @@ fn example_index(
 ) -> CuratorIndex {
     let index: CuratorIndex;
     if two_parts {
-        index = parted_echoes(fresh, floats, numbers, hashes);
+        index = two_echoes(fresh, floats, numbers, hashes, &[1, 1], b"ab", b"ba");
     } else {
         index = example_echoes(fresh, floats, numbers, hashes);
     }
