@@ -83,7 +83,8 @@ fn write_numbers(numbers: &mut [u32], vector: usize, doc_id: u32, place: usize, 
     write_all(numbers, place, count, owner);
 }
 
-// Writes what an accepted add writes, after what is held; `squares` is the sum of the vector's squares.
+// Writes what an accepted add writes, after what is held; `squares` is the sum of the vector's squares. The vector comes last: nothing else waits for the
+// sum, so that hashing goes on while it is made.
 pub fn write_add(
     index: CuratorIndex,
     floats: &mut [f32],
@@ -103,7 +104,6 @@ pub fn write_add(
 {
     let held = index.counts;
     let owners = limits::shape_of(index).owners_at() + held.entries;
-    write_vector(floats, held.vectors * index.dimension, vector, squares);
     write_numbers(
         numbers,
         held.vectors,
@@ -112,6 +112,7 @@ pub fn write_add(
         label::names::label_count(lengths),
     );
     label::names::write_hashes(hashes, held.entries, lengths, bytes);
+    write_vector(floats, held.vectors * index.dimension, vector, squares);
 }
 
 // The state after an accepted add.

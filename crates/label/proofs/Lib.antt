@@ -1,3 +1,2 @@
--- What the functions' proofs use: plain numbers, and the steps of the loops over names.
-pub mod Halves
+-- What the functions' proofs use: the steps of the loops over names.
 pub mod Steps

@@ -10,6 +10,7 @@ use lib.Dec.{eqb}
 use lib.ListN.{length, getD, drop, set, length-drop, drop-of-length-le}
 use lib.Seq.{sets, sets-eq, drop-cons}
 use Rattle.lists.specs.Lists.{part}
+use Rattle.lists.specs.Parts.{part-append-parts}
 use Rattle.label.specs.Fnv.{fnv}
 use Rattle.label.specs.Names.{namesOf, wholeLengths, hashesOfLabels}
 use Rattle.label.specs.NameLaws.{names-drop, length-names, length-whole}
@@ -22,6 +23,15 @@ same-test false false f g = refl
 
 pub same-eqb : (a b c d : ℕ) → (a ≡ b → c ≡ d) → (c ≡ d → a ≡ b) → eqb a b ≡ eqb c d
 same-eqb a b c d f g = same-test (eqb a b) (eqb c d) (λ h. eq-eqb c d (f (eqb-true a b h))) (λ h. eq-eqb a b (g (eqb-true c d h)))
+
+-- a name's hash, its parts standing one behind the other
+pub joined-hash : (bytes : List ℕ) (start middle end hash : ℕ) → start ≤ middle → middle ≤ end → hash ≡ fnv (part start (end - start) bytes)
+    → hash ≡ fnv (part start (middle - start) bytes ++ part middle (end - middle) bytes)
+joined-hash bytes start middle end hash a b e =
+    let to-middle : start + (middle - start) ≡ middle = omega arith in
+    let to-end : (middle - start) + (end - middle) ≡ end - start = omega arith in
+    e ∙ ap fnv (sym (ap (λ (n : ℕ). part start (middle - start) bytes ++ part n (end - middle) bytes) (sym to-middle)
+    ∙ part-append-parts start (middle - start) (end - middle) bytes ∙ ap (λ (n : ℕ). part start n bytes) to-end))
 
 -- one place more of the hashes
 pub hash-step : (l lengths bytes : List ℕ) (place i start middle end hash : ℕ) → i < length lengths / 2 → middle ≡ start + getD lengths (2 * i) 0

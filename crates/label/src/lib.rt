@@ -2,26 +2,24 @@
 ghost use mathlib.Core.List.{_++_};
 ghost use mathlib.Core.Path.{_≡_};
 ghost use Prim.Native.Nat.{_*_, _%_, _^_};
-ghost use Rattle.label.specs.Fnv.{fnvFrom, fnv};
+ghost use Rattle.label.specs.Fnv.{prime, fnvFrom, fnv};
 
 pub mod names;
 
-// FNV-1a's constants for 64 bits: where the hash of a name starts, and the factor.
+// FNV-1a's constant for 64 bits: where the hash of a name starts.
 pub const OFFSET_BASIS: u64 = 0xcbf2_9ce4_8422_2325;
 
-const PRIME: u64 = 0x100_0000_01b3;
-
-// a * b, modulo 2^64. Each number is cut into halves of 32 bits, so that a product of two halves
-// fits. The product of the upper halves falls out whole, and of the cross products the upper half.
-pub fn wrapping_mul(a: u64, b: u64) -> u64
-    ensures { λ r. ⌜ r ≡ (a * b) % 2 ^ 64 ⌝ }
+// a times FNV-1a's prime 100000001b3 for 64 bits, modulo 2^64. The prime is 2^40 + 2^8 + 2^7 + 2^5 + 2^4 + 2 + 1, so the product is a sum of shifted a;
+// shifts and sums drop what is past 64 bits. The compiler makes one product of it.
+fn times_prime(a: u64) -> u64
+    ensures { λ r. ⌜ r ≡ (a * prime) % 2 ^ 64 ⌝ }
 {
-    let a0 = a & 0xffff_ffff;
-    let a1 = a >> 32;
-    let b0 = b & 0xffff_ffff;
-    let b1 = b >> 32;
-    let cross = std::num::wrapping_add_u64(a1 * b0, a0 * b1);
-    std::num::wrapping_add_u64(a0 * b0, cross << 32)
+    let three = std::num::wrapping_add_u64(a, a << 1);
+    let with_16 = std::num::wrapping_add_u64(three, a << 4);
+    let with_32 = std::num::wrapping_add_u64(with_16, a << 5);
+    let with_128 = std::num::wrapping_add_u64(with_32, a << 7);
+    let with_256 = std::num::wrapping_add_u64(with_128, a << 8);
+    std::num::wrapping_add_u64(with_256, a << 40)
 }
 
 // A byte as a word.
@@ -38,7 +36,7 @@ pub fn hash_label(start: u64, bytes: &[u8]) -> u64
     let mut hash = start;
     let mut i = 0;
     while i < bytes.len() {
-        hash = wrapping_mul(hash ^ wide(bytes[i]), PRIME);
+        hash = times_prime(hash ^ wide(bytes[i]));
         i += 1;
     }
     hash

@@ -1,5 +1,4 @@
 // The names of an add, each in two parts: two lengths a name cut them from the label bytes.
-ghost use mathlib.Core.List.{_++_};
 ghost use mathlib.Core.Path.{_≡_};
 ghost use Prim.Native.Nat.{_+_, _-_, _*_, _/_, _≤_};
 ghost use lib.Dec.{eqb};
@@ -8,7 +7,8 @@ ghost use lib.Seq.{sets};
 ghost use Rattle.lists.specs.Lists.{part, total};
 ghost use Rattle.label.specs.Fnv.{fnv};
 ghost use Rattle.label.specs.Names.{namesOf, lengthsFit, hashesOfLabels, wholeLengths};
-use crate::hash_name;
+use crate::OFFSET_BASIS;
+use crate::hash_label;
 
 // A byte as a size.
 fn wide(byte: u8) -> usize
@@ -48,12 +48,12 @@ pub fn label_count(lengths: &[u8]) -> usize
     lengths.len() / 2
 }
 
-// The hash of the name whose first part goes from a start to a middle and whose second part from there to an end.
-fn name_hash(bytes: &[u8], start: usize, middle: usize, end: usize) -> u64
-    requires { ⌜ (start ≤ middle) × (middle ≤ end) × (end ≤ length (now bytes)) ⌝ }
-    ensures { λ r. ⌜ r ≡ fnv (part start (middle - start) (now (bytes .entry)) ++ part middle (end - middle) (now (bytes .entry))) ⌝ }
+// The hash of the name that goes from a start to an end: its second part stands right behind its first.
+fn name_hash(bytes: &[u8], start: usize, end: usize) -> u64
+    requires { ⌜ (start ≤ end) × (end ≤ length (now bytes)) ⌝ }
+    ensures { λ r. ⌜ r ≡ fnv (part start (end - start) (now (bytes .entry))) ⌝ }
 {
-    hash_name(&bytes[start..middle], &bytes[middle..end])
+    hash_label(OFFSET_BASIS, &bytes[start..end])
 }
 
 // Writes each name's hash. A part starts where the one before it ended.
@@ -67,7 +67,7 @@ pub fn write_hashes(hashes: &mut [u64], place: usize, lengths: &[u8], bytes: &[u
     while i < labels {
         let middle = start + wide(lengths[2 * i]);
         let end = middle + wide(lengths[2 * i + 1]);
-        hashes[place + i] = name_hash(bytes, start, middle, end);
+        hashes[place + i] = name_hash(bytes, start, end);
         start = end;
         i += 1;
     }

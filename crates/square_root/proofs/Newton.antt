@@ -1,7 +1,7 @@
 -- Newton's step for an integer root: from above it leads down, since n / s is below s there, and never below the root, since the mean of s and n / s is
 -- not below the root of their product. Assumes nothing.
 use Prim.Native.Nat.{ℕ, zero, suc, _+_, _-_, _*_, _/_, _<_, _≤_}
-use native.Mathlib.Nat.{div-mul-le-self, div-add-mod', mod-lt, mul-le-mul-right}
+use native.Mathlib.Nat.{mul-le-mul, div-mul-le-self, div-add-mod', mod-lt, mul-le-mul-right}
 use native.Mathlib.Omega.{arith}
 use mathlib.Core.Logic.{_⊎_, inl, inr}
 use mathlib.Core.Path.{_≡_, subst}
@@ -10,6 +10,16 @@ use Rattle.square_root.specs.RootLaws.{below-or-not, square-le}
 -- a quotient from above
 quotient-above : (n s : ℕ) → 0 < s → n < s * (n / s + 1)
 quotient-above n s h = omega (arith, div-add-mod' n s, mod-lt n h)
+
+-- a quotient by no less than d is below q, if the number is below d * q
+pub quotient-below : (n s d q : ℕ) → d ≤ s → n < d * q → n / s < q
+quotient-below n s d q h l = go (below-or-not (n / s) q)
+  where
+    go : (n / s < q) ⊎ (q ≤ n / s) → n / s < q
+    go (inl less) = less
+    go (inr more) =
+        let le : d * q ≤ s * (n / s) = mul-le-mul h more in
+        absurd (omega (arith, l, le, div-mul-le-self n s))
 
 -- four times a product is at most the square of the sum
 product-below : (a b : ℕ) → 4 * (a * b) ≤ (a + b) * (a + b)

@@ -1,6 +1,7 @@
 // Vectors: one pass over an incoming one, the sum of products, the norm, and what is stored of a vector.
 use square_root::sqrt;
 ghost use mathlib.Core.Path.{_≡_};
+ghost use mathlib.Core.Bool.{_&&_};
 ghost use mathlib.Core.List.{map};
 ghost use lib.ListN.{length};
 ghost use lib.Ieee.{binary32, div};
@@ -21,7 +22,14 @@ pub struct Scanned {
     pub squares: f32,
 }
 
-// Goes once over the components, to the end whatever they are; the squares are summed from left to right.
+// Whether four numbers are all finite.
+fn all_finite(a: f32, b: f32, c: f32, d: f32) -> bool
+    ensures { λ r. ⌜ r ≡ (finite a && (finite b && (finite c && finite d))) ⌝ }
+{
+    is_finite(a) & (is_finite(b) & (is_finite(c) & is_finite(d)))
+}
+
+// Goes once over the components, to the end whatever they are, four a turn while there are four; the squares are summed from left to right.
 pub fn scan(v: &[f32]) -> Scanned
     ensures { λ r. ⌜ r .finite ≡ allFinite (now (v .entry)) ⌝ }
     ensures { λ r. ⌜ r .squares ≡ dot (now (v .entry)) (now (v .entry)) ⌝ }
@@ -30,10 +38,19 @@ pub fn scan(v: &[f32]) -> Scanned
     let mut squares = 0.0;
     let mut seen = 0;
     while seen < v.len() {
-        let x = v[seen];
-        finite = finite & is_finite(x);
-        squares = squares + x * x;
-        seen += 1;
+        let a = v[seen];
+        if 4 <= v.len() - seen {
+            let b = v[seen + 1];
+            let c = v[seen + 2];
+            let d = v[seen + 3];
+            finite = finite & all_finite(a, b, c, d);
+            squares = squares + a * a + b * b + c * c + d * d;
+            seen += 4;
+        } else {
+            finite = finite & is_finite(a);
+            squares = squares + a * a;
+            seen += 1;
+        }
     }
     Scanned { finite, squares }
 }

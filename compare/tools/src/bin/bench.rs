@@ -5,22 +5,24 @@ use tools::bench::page::{table, Row};
 use tools::bench::plot::{svg, Diagram, Line};
 
 const USUAL_EF: usize = 256;
+/// Above the number of nodes at n 4,096.
+const UNCUT_EF: usize = 1024;
 const GROWTH: &str = "Up to n 128 the root is the only leaf. A search opens at most `ef_search` nodes; at n 4,096 the tree has fewer than 300, so from there on \
 nothing grows with `ef_search`. A filtered search of ours checks every entry of a leaf that it opens, as 01 has it; the Rust looks one hash up in the leaf's map. \
 The Rust's build looks for the leaf of every label entry anew.";
 const CALLS: [Call; 4] = [Call::Add, Call::Build, Call::Filtered, Call::Search];
 
-/// The rows that document the speed.
+/// The rows that document the speed: every call at two sizes, filtered searches of an index that is one leaf, and searches that no `ef_search` cuts.
 fn main_rows(rounds: usize) -> Vec<Row> {
-    let mut rows = Vec::new();
-    for (n, each) in [(4096, 1), (4096, 4), (256, 1), (256, 4)] {
-        let case = case(n, each, USUAL_EF);
-        for call in CALLS {
-            let words = vec![call.name().into(), n.to_string(), each.to_string()];
-            rows.push(Row { words, times: measure(&case, call, rounds) });
-        }
-    }
-    rows
+    let sizes = [(4096, 1), (4096, 4), (256, 1), (256, 4)];
+    let mut rows: Vec<_> = sizes.iter().flat_map(|&(n, each)| CALLS.map(|call| (call, n, each, USUAL_EF))).collect();
+    rows.extend([(Call::Filtered, 128, 1, USUAL_EF), (Call::Filtered, 64, 1, USUAL_EF)]);
+    rows.extend([(Call::Filtered, 4096, 1, UNCUT_EF), (Call::Search, 4096, 1, UNCUT_EF)]);
+    let row = |(call, n, each, ef): (Call, usize, usize, usize)| Row {
+        words: vec![call.name().into(), n.to_string(), each.to_string(), ef.to_string()],
+        times: measure(&case(n, each, ef), call, rounds),
+    };
+    rows.into_iter().map(row).collect()
 }
 
 /// One call at each of some sizes.
@@ -67,7 +69,7 @@ fn main() {
     let words: Vec<String> = std::env::args().collect();
     let rounds: usize = words.get(1).map_or(21, |word| word.parse().expect("a number of rounds"));
     let path = words.get(2).map_or("benchmarks.svg", |word| word);
-    println!("## Times\n\n{}", table(&["call", "n", "labels a vector"], &main_rows(rounds)));
+    println!("## Times\n\n{}", table(&["call", "n", "labels a vector", "ef_search"], &main_rows(rounds)));
     let sizes = [64, 128, 256, 512, 1024, 2048, 4096];
     let (by_n, first) = grown(&CALLS[1..], rounds / 2 + 1, &sizes, |n| (n, USUAL_EF), "n");
     println!("## How cost grows\n\n![Times by n and by ef_search](benchmarks.svg)\n");

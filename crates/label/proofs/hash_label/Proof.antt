@@ -33,7 +33,7 @@ finish bytes hash i h = rw drop-of-length-le
 abbrev entry : tie.At-loop Inv-loop μ-loop → tie.Start Inv-loop μ-loop
 entry c = c .before .before
 
-abbrev at-loop : tie.After-wrapping-mul Inv-loop μ-loop → tie.At-loop Inv-loop μ-loop
+abbrev at-loop : tie.After-times-prime Inv-loop μ-loop → tie.At-loop Inv-loop μ-loop
 at-loop c = c .before .before .before .before
 
 loop-holds : tie.Need-loop-holds Inv-loop μ-loop
@@ -45,8 +45,8 @@ shared-slice-read-wide c = omega arith
 wide-requires : tie.Need-wide-requires Inv-loop μ-loop
 wide-requires c κs = tt
 
-wrapping-mul-requires : tie.Need-wrapping-mul-requires Inv-loop μ-loop
-wrapping-mul-requires c κs = tt
+times-prime-requires : tie.Need-times-prime-requires Inv-loop μ-loop
+times-prime-requires c κs = tt
 
 add-i : tie.Need-add-i Inv-loop μ-loop
 add-i c = omega arith
@@ -60,7 +60,7 @@ loop-again c =
     let bytes = entry (at-loop c) .args .bytes .now in
     let hash = at-loop c .loop .hash in
     let i = at-loop c .loop .i in
-    let stepped : c .wrapping-mul .result ≡ fnvStep hash (getD bytes i 0) = c .wrapping-mul .ensures ∙ ap (λ (b : ℕ). bitXor hash b * prime % 2 ^ 64) (c .before .wide .ensures) in (
+    let stepped : c .times-prime .result ≡ fnvStep hash (getD bytes i 0) = c .times-prime .ensures ∙ ap (λ (b : ℕ). bitXor hash b * prime % 2 ^ 64) (c .before .wide .ensures) in (
       omega arith,
       ap (λ (h : ℕ). fnvFrom h (drop (i + 1) bytes)) stepped ∙ advance bytes hash i (omega arith)
           ∙ at-loop c .loop .inv .1,
@@ -80,7 +80,7 @@ hash-label-spec =
     loop-holds
     shared-slice-read-wide
     wide-requires
-    wrapping-mul-requires
+    times-prime-requires
     add-i
     loop-less
     loop-again

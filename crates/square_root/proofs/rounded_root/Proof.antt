@@ -14,7 +14,7 @@ mul-result c = search needs
 
 -- the integer root has at most 25 digits
 small : (c : tie.After-integer-root) → c .integer-root .result < 2 ^ 25
-small c = root-under (c .before .args .n) (c .integer-root .result) (c .before .pre .1) (c .integer-root .ensures .0)
+small c = root-under (c .before .args .n) (c .integer-root .result) (c .before .pre .0 .1) (c .integer-root .ensures .0)
 
 add-result : tie.Need-add-result
 add-result c = omega (arith, small c)
@@ -27,7 +27,7 @@ add-result-2 c = omega (arith, small c)
 
 returns : tie.Need-returns
 returns c =
-    let h = c .before .pre in
+    let h = c .before .pre .0 in
     rounds-root (c .before .args .n) (c .integer-root .result) (c .before .args .k) (h .0) (h .1) (h .2) (h .3) (c .integer-root .ensures .0) (c .integer-root .ensures .1)
 
 pub rounded-root-spec : {M : Type 1} → statement M

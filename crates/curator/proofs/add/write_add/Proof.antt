@@ -32,32 +32,32 @@ started numbers vector document held h e f = h ∙ ap₂ (λ (o count : ℕ). se
 abbrev at-start : tie.After-shape-of → tie.Start
 at-start c = c .before .before .before .before .before .before .before .before
 
-abbrev after-owners-at : tie.After-struct-known3 → tie.After-owners-at
-after-owners-at c = c .before .before .before .before
-
-abbrev after-owners-at′ : tie.After-write-vector → tie.After-owners-at
-after-owners-at′ c = c .before .before .before .before .before
+abbrev after-owners-at : tie.After-label-count → tie.After-owners-at
+after-owners-at c = c .before .before .before
 
 abbrev counted : tie.After-write-numbers → tie.After-label-count
 counted c = c .before
 
-abbrev after-write-vector : tie.After-label-count → tie.After-write-vector
-after-write-vector c = c .before .before .before .before
-
-abbrev after-write-vector′ : tie.After-write-numbers → tie.After-write-vector
-after-write-vector′ c = c .before .before .before .before .before
-
 abbrev after-write-numbers : tie.After-write-hashes-arg → tie.After-write-numbers
 after-write-numbers c = c .before .before .before
 
-abbrev after-write-numbers′ : tie.After-slice-known6 → tie.After-write-numbers
-after-write-numbers′ c = c .before .before .before .before .before .before
+abbrev after-write-numbers′ : tie.After-write-hashes → tie.After-write-numbers
+after-write-numbers′ c = c .before .before .before .before
+
+abbrev after-write-hashes : tie.After-struct-known3 → tie.After-write-hashes
+after-write-hashes c = c .before .before .before .before .before
+
+abbrev after-write-hashes′ : tie.After-write-vector → tie.After-write-hashes
+after-write-hashes′ c = c .before .before .before .before .before .before
+
+abbrev after-write-vector : tie.After-slice-known6 → tie.After-write-vector
+after-write-vector c = c .before .before
 
 -- the labels counted are the names
 labels : (c : tie.After-label-count)
-    → let args = entry (after-owners-at′ (after-write-vector c)) .args in c .label-count .result ≡ length (namesOf (args .lengths .now) (args .bytes .now))
+    → let args = entry (after-owners-at c) .args in c .label-count .result ≡ length (namesOf (args .lengths .now) (args .bytes .now))
 labels c =
-    let args = entry (after-owners-at′ (after-write-vector c)) .args in
+    let args = entry (after-owners-at c) .args in
     c .label-count .ensures ∙ sym (length-names (args .lengths .now) (args .bytes .now))
 
 shape-of-requires : tie.Need-shape-of-requires
@@ -71,35 +71,37 @@ owners-at-requires c κs =
 add-owners : tie.Need-add-owners
 add-owners c = let start = owners (c .before) in omega arith
 
-mul-write-vector : tie.Need-mul-write-vector
-mul-write-vector c = place-fits _ _ (omega arith) (omega arith)
-
-write-vector-requires : tie.Need-write-vector-requires
-write-vector-requires c κs =
-    let start = entry (after-owners-at c) in
-    let index = start .args .index in
-    let fits =
-    place-room (index .counts .vectors) (index .dimension) (index .capacities .vectors) (index .capacities .nodes)
-    (index .params .«branching_factor»)
-    (start .pre .0 .vectors) in
-    (omega arith, start .pre .1)
-
 label-count-requires : tie.Need-label-count-requires
 label-count-requires c κs = search needs
 
 write-numbers-requires : tie.Need-write-numbers-requires
 write-numbers-requires c κs =
-    let known = after-owners-at′ (after-write-vector c) in
+    let known = after-owners-at c in
     let start = owners known in
     let many = labels c in
     (omega (arith, entry known .pre .0), omega (arith, entry known .pre .0), omega (arith, entry known .pre .0, many))
 
 write-hashes-requires : tie.Need-write-hashes-requires
 write-hashes-requires c κs =
-    let known = after-owners-at′ (after-write-vector′ (after-write-numbers c)) in
+    let known = after-owners-at (counted (after-write-numbers c)) in
     let args = entry known .args in
     let many = length-names (args .lengths .now) (args .bytes .now) in
     (omega (arith, entry known .pre .0, many), fit-total (args .lengths .now) (length (args .bytes .now)) (entry known .pre .0 .labels))
+
+mul-write-vector : tie.Need-mul-write-vector
+mul-write-vector c =
+    let start = entry (after-owners-at (counted (after-write-numbers′ (after-write-hashes c)))) in
+    place-fits _ _ (omega (arith, start .pre .0)) (omega (arith, start .pre .0))
+
+write-vector-requires : tie.Need-write-vector-requires
+write-vector-requires c κs =
+    let start = entry (after-owners-at (counted (after-write-numbers′ (after-write-hashes c)))) in
+    let index = start .args .index in
+    let fits =
+    place-room (index .counts .vectors) (index .dimension) (index .capacities .vectors) (index .capacities .nodes)
+    (index .params .«branching_factor»)
+    (start .pre .0 .vectors) in
+    (omega arith, start .pre .1)
 
 same-length : tie.Need-same-length
 same-length c = search needs
@@ -112,9 +114,10 @@ same-length-3 c = search needs
 
 returns : tie.Need-returns
 returns c =
-    let numbered = after-write-numbers′ c in
-    let stored = after-write-vector′ numbered in
-    let known = after-owners-at′ stored in
+    let stored = after-write-vector c in
+    let hashed = after-write-hashes′ stored in
+    let numbered = after-write-numbers′ hashed in
+    let known = after-owners-at (counted numbered) in
     let args = entry known .args in
     record {
       stored = stored .write-vector .ensures .stored;
@@ -125,7 +128,7 @@ returns c =
           (numbered .write-numbers .ensures)
           (owners known)
           (labels (counted numbered));
-      hashes = c .before .before .write-hashes .ensures;
+      hashes = hashed .write-hashes .ensures;
     }
 
 pub write-add-spec : {M : Type 1} → statement M
@@ -135,11 +138,11 @@ write-add-spec =
     shape-of-requires
     owners-at-requires
     add-owners
-    mul-write-vector
-    write-vector-requires
     label-count-requires
     write-numbers-requires
     write-hashes-requires
+    mul-write-vector
+    write-vector-requires
     same-length
     same-length-2
     same-length-3

@@ -7,7 +7,7 @@ use lib.Seq.{sets}
 use Rattle.label.specs.Names.{namesOf, hashesOfLabels}
 use Rattle.lists.specs.Lists.{total}
 use Rattle.label.specs.NameLaws.{total-drop-two}
-use Rattle.label.proofs.Steps.{hash-step, hash-end}
+use Rattle.label.proofs.Steps.{joined-hash, hash-step, hash-end}
 use borrow.Author.Needs.{needs}
 use Rattle.label.proofs.names.write_hashes.Statement.{statement}
 use Rattle.label.proofs.names.write_hashes.Tie as tie
@@ -81,7 +81,7 @@ add-end c = let left = names-left (in-loop (after-wide c)) in omega arith
 name-hash-requires : tie.Need-name-hash-requires Inv-loop μ-loop
 name-hash-requires c κs =
     let left = names-left (in-loop (after-wide c)) in
-    (omega arith, omega arith, omega arith)
+    (omega arith, omega arith)
 
 add-hashes : tie.Need-add-hashes Inv-loop μ-loop
 add-hashes c = omega arith
@@ -105,12 +105,13 @@ loop-again c =
     let state = turn .before .loop in
     let left = names-left turn in
     let middle = ap (λ (n : ℕ). state .start + n) (first .wide .ensures) in
-    let end = ap (λ (n : ℕ). state .start + first .wide .result + n) (c .before .wide2 .ensures) in (
+    let end = ap (λ (n : ℕ). state .start + first .wide .result + n) (c .before .wide2 .ensures) in
+    let hash = joined-hash _ (state .start) (state .start + first .wide .result) (state .start + first .wide .result + c .before .wide2 .result) _ (omega arith) (omega arith) (c .name-hash .ensures) in (
       state .inv .0,
       omega arith,
       simp length-set (state .inv .2),
       omega arith,
-      sym (hash-step _ _ _ _ _ _ _ _ _ (below turn) middle end (c .name-hash .ensures)) ∙ state .inv .4,
+      sym (hash-step _ _ _ _ _ _ _ _ _ (below turn) middle end hash) ∙ state .inv .4,
     )
 
 same-length : tie.Need-same-length Inv-loop μ-loop
