@@ -9,9 +9,42 @@ use store::Counts;
 use store::Shape;
 use walk::Searched;
 use walk::Wanted;
+use whole_walk::whole_walk;
 ghost use Rattle.store.specs.Lent.{lent};
-ghost use Rattle.walk.specs.Contracts.{SearchGives};
+ghost use Rattle.walk.specs.Contracts.{StoreLent, SearchGives};
+ghost use Rattle.best_first_walk.specs.Walks.{Walks};
 ghost use Rattle.best_first_search.specs.Ranks.{SearchLent};
+
+// The walk over the store. Where `ef_search` is at least the node count it cannot be cut, and needs no queue and no distances.
+fn walk_store(
+    shape: Shape,
+    counts: Counts,
+    ef_search: usize,
+    floats: &[f32],
+    numbers: &[u32],
+    hashes: &[u64],
+    work: &mut [u32],
+    query: &[f32],
+    wanted: Wanted,
+) -> Walked
+    requires { ⌜ StoreLent shape counts (lent floats numbers hashes) (now work) ⌝ }
+    ensures { λ r. ⌜ Walks shape counts «ef_search» (lent (floats .entry) (numbers .entry) (hashes .entry)) (now (query .entry)) wanted (now (work .entry)) r (now (work .exit)) ⌝ }
+{
+    if counts.nodes <= ef_search {
+        return whole_walk(shape, counts, numbers, hashes, work, wanted);
+    }
+    best_first_walk(
+        shape,
+        counts,
+        ef_search,
+        floats,
+        numbers,
+        hashes,
+        work,
+        query,
+        wanted,
+    )
+}
 
 // The walk, and the first k of its hits.
 pub fn best_first_search(
@@ -34,7 +67,7 @@ pub fn best_first_search(
     let hits_at = shape.hits_at();
     let hits_end = shape.work_size();
     let from = found_at(shape) - hits_at;
-    let walked = best_first_walk(
+    let walked = walk_store(
         shape,
         counts,
         ef_search,

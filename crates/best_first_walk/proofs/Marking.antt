@@ -2,71 +2,33 @@
 use Prim.Native.Nat.{ℕ, _+_, _-_, _^_, _≤_, _<_}
 use native.Mathlib.Numerals.{add-one}
 use native.Mathlib.Omega.{arith}
-use mathlib.Core.Path.{_≡_, refl, sym, ap, ap₂, _∙_}
+use mathlib.Core.Path.{_≡_, sym, ap, ap₂, _∙_}
 use mathlib.Core.Logic.{_⊎_, inl, inr}
-use mathlib.Core.Bool.{Bool, true, false, not, _&&_, cond}
+use mathlib.Core.Bool.{Bool, true, false, _&&_, cond}
 use mathlib.Core.List.{List, [], _∷_, _++_, map, map-append}
 use lib.Dec.{ltb, eqb}
-use lib.Ieee.{Float}
 use lib.ListN.{length, getD, take, drop, set, length-map, drop-of-length-le}
 use lib.Seq.{take-suc, take-all, drop-cons}
-use borrow.Author.Tests.{lt-ltb, ltb-true, eqb-true, eqb-false}
-use Rattle.lists.specs.Lists.{part, isIn}
+use borrow.Author.Tests.{lt-ltb, ltb-true}
+use Rattle.lists.specs.Lists.{isIn}
 use Rattle.lists.specs.Tests.{which, allPass, and-left, and-right, allPass-nil, allPass-cons, allPass-append, allPass-weaken}
-use Rattle.lists.specs.Parts.{getD-part, length-part}
 use Rattle.record_queue.specs.Sorted.{insert}
 use Rattle.store.specs.declared.Shape.{Shape}
 use Rattle.store.specs.Store.{Limits, marksAt}
 use Rattle.store.specs.declared.Counts.{Counts}
-use Rattle.walk.specs.Walk.{View, waitingNode, Progress, State, damaged, going, walk, walkFrom, Shown, shown, give, pushAll, children, damage}
-use Rattle.walk.specs.WalkLaws.{pushedOne, give-damage, give-children, pushAll-nil, pushAll-fresh, pushAll-again}
+use Rattle.walk.specs.Walk.{View, waitingNode, Progress, damaged, going, walk, walkFrom, Shown, shown, give, children, damage}
+use Rattle.walk.specs.WalkLaws.{pushedOne}
 use Rattle.walk.specs.DifferentLaws.{Once, ChildrenBelow, once-push, different-below}
-use Rattle.walk.specs.StoreView.{childrenShown}
 use Rattle.walk.specs.Contracts.{Works}
-use Rattle.store.specs.Lent.{storeOf}
 use Rattle.waiting_nodes.specs.Contracts.{insertEach, PushedNodes}
 use Rattle.waiting_nodes.specs.PushLaws.{insertEach-nil, insertEach-one, insertEach-append, length-insertEach}
 use Rattle.best_first_walk.specs.Walks.{Represents}
-use Rattle.best_first_walk.proofs.Steps.{waiting-length, represents-length, represents-marked, represents-pushed, withWaiting, works-marked, works-pushed}
+use Rattle.best_first_walk.specs.MarkLaws.{mark-tells, works-marked}
+use Rattle.best_first_walk.specs.ChildLaws.{childTest, pushChecked, checked-give, checked-nil, checked-fails, checked-again, checked-fresh}
+use Rattle.walk.specs.KeysLaws.{waiting-length}
+use Rattle.best_first_walk.proofs.Steps.{represents-length, represents-marked, represents-pushed, withWaiting, works-pushed}
 use Rattle.walk.specs.LentLaws.{works-refl, works-trans}
 use Rattle.best_first_walk.proofs.Walking.{Waits, Opens, nodes-fit, damage-ends}
-
--- ---- children are pushed, if all of them pass
-
--- what a child has to pass
-abbrev pub childTest : Counts → ℕ → ℕ → Bool
-childTest c parent child = ltb parent child && ltb child (c .nodes)
-
-pub children-shown : (s : Shape) (c : Counts) (floats : List Float) (numbers hashes : List ℕ) (parent : ℕ) (l : List ℕ)
-    → childrenShown s c (storeOf floats numbers hashes) parent l ≡ cond (allPass (childTest c parent) l) (children l) damage
-unfolding childrenShown
-children-shown s c floats numbers hashes parent l = refl
-
-abbrev pub pushChecked : View → (ℕ → Bool) → List ℕ → State → State
-pushChecked view test l st = cond (allPass test l) (pushAll view l st) damaged
-
-module _ (view : View) (test : ℕ → Bool) where
-  checked-give : (b : Bool) (l : List ℕ) (p : Progress) → give view (cond b (children l) damage) p ≡ cond b (pushAll view l (going p)) damaged
-  checked-give true l p = give-children view l p
-  checked-give false l p = give-damage view p
-
-  checked-nil : (st : State) → pushChecked view test [] st ≡ st
-  checked-nil st = ap (λ (b : Bool). cond b (pushAll view [] st) damaged) (allPass-nil test) ∙ pushAll-nil view st
-
-  checked-fails : (c : ℕ) (cs : List ℕ) (st : State) → test c ≡ false → pushChecked view test (c ∷ cs) st ≡ damaged
-  checked-fails c cs st e = ap (λ (b : Bool). cond b (pushAll view (c ∷ cs) st) damaged) (allPass-cons test c cs ∙ ap (λ (b : Bool). b && allPass test cs) e)
-
-  checked-again : (c : ℕ) (cs : List ℕ) (p : Progress) → isIn c (p .pushed) ≡ true → pushChecked view test (c ∷ cs) (going p) ≡ damaged
-  checked-again c cs p e = ap (λ (st : State). cond (allPass test (c ∷ cs)) st damaged) (pushAll-again view c cs p e) ∙ go (allPass test (c ∷ cs))
-    where
-      go : (b : Bool) → cond b damaged damaged ≡ damaged
-      go true = refl
-      go false = refl
-
-  checked-fresh : (c : ℕ) (cs : List ℕ) (p : Progress) → test c ≡ true → isIn c (p .pushed) ≡ false
-      → pushChecked view test (c ∷ cs) (going p) ≡ pushChecked view test cs (going (pushedOne view c p))
-  checked-fresh c cs p t e =
-      ap₂ (λ (b : Bool) (st : State). cond b st damaged) (allPass-cons test c cs ∙ ap (λ (b : Bool). b && allPass test cs) t) (pushAll-fresh view c cs p e)
 
 -- ---- the loop
 
@@ -86,18 +48,6 @@ abbrev pub Marks : Shape → Counts → (ℕ → ℕ) → View → ℕ → List 
 Marks s c hit view ef work₀ node l j work waiting found opened =
     (p : Progress) × (waits : List ℕ) × Marking s c hit view ef work₀ p waits l j work waiting found opened
     × (walk view ef ≡ walkFrom view (ef - opened) (pushChecked view (childTest c node) (drop j l) (going p)))
-
--- the next child of a block
-pub next-child : (numbers : List ℕ) (start count j x : ℕ) → j < count → start + count ≤ length numbers → x ≡ getD numbers (start + j) 0
-    → (j < length (part start count numbers)) × (getD (part start count numbers) j 0 ≡ x)
-next-child numbers start count j x h room e = (rw (length-part start count numbers room) h, getD-part start count numbers j 0 h ∙ sym e)
-
--- whether a child is fresh, by a test whose marks begin at a place
-pub fresh-is : (s : Shape) (c : Counts) (work : List ℕ) (node child at : ℕ) (r b : Bool) → at ≡ marksAt s
-    → r ≡ ((ltb node child && ltb child (c .nodes)) && eqb (getD work (at + child) 0) 0) → r ≡ b
-    → (childTest c node child && eqb (getD work (marksAt s + child) 0) 0) ≡ b
-fresh-is s c work node child at r b p e f =
-    ap (λ (n : ℕ). childTest c node child && eqb (getD work (n + child) 0) 0) (sym p) ∙ sym e ∙ f
 
 module _ (s : Shape) (c : Counts) (hit : ℕ → ℕ) (view : View) (ef : ℕ) (work₀ : List ℕ) (limits : Limits s) (within : c .nodes ≤ s .nodes) (some : 1 ≤ c .nodes)
     (below : ChildrenBelow view (c .nodes)) where
@@ -123,19 +73,6 @@ module _ (s : Shape) (c : Counts) (hit : ℕ → ℕ) (view : View) (ef : ℕ) (
     e ∙ ap (walkFrom view (ef - opened)) (ap (λ (x : Shown). give view x p) sh ∙ checked-give view (childTest c node) (allPass (childTest c node) l) l p),
   )
 
-  -- a mark is set exactly if the node was pushed
-  marked : (i : ℕ) (pushed : List ℕ) (mark : ℕ) → mark ≡ cond (isIn i pushed) 1 0 → (b : Bool) → eqb mark 0 ≡ b → isIn i pushed ≡ not b
-  marked i pushed mark e true z = go (which (isIn i pushed))
-    where
-      go : (isIn i pushed ≡ true) ⊎ (isIn i pushed ≡ false) → isIn i pushed ≡ false
-      go (inl t) = absurd (let one : mark ≡ 1 = e ∙ ap {B = ℕ} (λ (b : Bool). cond b 1 0) t in let none′ : mark ≡ 0 = eqb-true mark 0 z in omega arith)
-      go (inr f) = f
-  marked i pushed mark e false z = go (which (isIn i pushed))
-    where
-      go : (isIn i pushed ≡ true) ⊎ (isIn i pushed ≡ false) → isIn i pushed ≡ true
-      go (inl t) = t
-      go (inr f) = absurd (eqb-false mark 0 z (e ∙ ap {B = ℕ} (λ (b : Bool). cond b 1 0) f))
-
   -- The next child of the list
   module _ (node : ℕ) (l : List ℕ) (j child : ℕ) (work : List ℕ) (waiting found opened : ℕ) (k : Marks s c hit view ef work₀ node l j work waiting found opened)
       (more : (j < length l) × (getD l j 0 ≡ child)) where
@@ -159,7 +96,7 @@ module _ (s : Shape) (c : Counts) (hit : ℕ → ℕ) (view : View) (ef : ℕ) (
             let low : child < c .nodes = ltb-true child (c .nodes) (and-right (ltb node child) (ltb child (c .nodes)) t) in
             let mark : eqb (getD work (marksAt s + child) 0) 0 ≡ false = sym (ap (λ (b : Bool). b && eqb (getD work (marksAt s + child) 0) 0) t) ∙ f in
             damage-ends view ef (ef - opened) (pushChecked view (childTest c node) (child ∷ drop (j + 1) l) (going (k .0)))
-            (checked-again view (childTest c node) child (drop (j + 1) l) (k .0) (marked child (k .0 .pushed) (getD work (marksAt s + child) 0) (k .2 .holds .marks child low) false mark)) due
+            (checked-again view (childTest c node) child (drop (j + 1) l) (k .0) (mark-tells child (k .0 .pushed) (getD work (marksAt s + child) 0) (k .2 .holds .marks child low) false mark)) due
 
     -- that is fresh is marked
     module _ (fresh : (childTest c node child && eqb (getD work (marksAt s + child) 0) 0) ≡ true) where
@@ -174,7 +111,7 @@ module _ (s : Shape) (c : Counts) (hit : ℕ → ℕ) (view : View) (ef : ℕ) (
 
       unpushed : isIn child (k .0 .pushed) ≡ false
       unpushed =
-          marked child (k .0 .pushed) (getD work (marksAt s + child) 0) (k .2 .holds .marks child child-low) true
+          mark-tells child (k .0 .pushed) (getD work (marksAt s + child) 0) (k .2 .holds .marks child child-low) true
           (and-right (childTest c node child) (eqb (getD work (marksAt s + child) 0) 0) fresh)
 
       grown : take (j + 1) l ≡ take j l ++ (child ∷ [])

@@ -2,30 +2,27 @@
 use Prim.Native.Nat.{ℕ, _+_, _-_, _*_, _%_, _^_, _≤_, _<_, max}
 use native.Mathlib.Nat.{le-refl}
 use native.Mathlib.Omega.{arith}
-use mathlib.Core.Path.{_≡_, refl, sym, ap, ap₂, _∙_, subst}
-use mathlib.Core.Logic.{_⊎_, inl, inr, _≢_}
-use mathlib.Core.Bool.{Bool, true, _&&_, cond}
+use mathlib.Core.Path.{_≡_, refl, sym, ap, _∙_, subst}
+use mathlib.Core.Bool.{true}
 use lib.Dec.{ltb}
-use mathlib.Core.List.{List, [], _∷_, _++_, map, map-append}
+use mathlib.Core.List.{List, [], _∷_, _++_, map}
 use lib.Ieee.{Float}
-use lib.ListN.{length, getD, take, drop, set, replicate, length-set, length-append, length-replicate, getD-replicate, length-map}
-use lib.Seq.{take-set-le, getD-set-same, getD-set-other, sets, length-sets}
-use Rattle.lists.specs.Lists.{part, isIn}
-use Rattle.lists.specs.Counting.{isIn-nil, isIn-here, isIn-later}
-use Rattle.lists.specs.Parts.{length-part, getD-sets-before, getD-sets-in, take-sets, part-sets-same, part-set-before, lent-part, getD-behind, part-behind}
-use Rattle.lists.specs.Partition.{count, hit, hit-same, count-cons, count-Memᴰ, perm-length, count-perm, count-append}
+use lib.ListN.{length, take, set, replicate, length-set}
+use lib.Seq.{take-set-le, sets, length-sets}
+use Rattle.lists.specs.Parts.{take-sets, getD-behind, part-behind}
+use Rattle.lists.specs.Partition.{count, hit, hit-same, count-cons, count-Memᴰ}
 use Rattle.record_queue.specs.declared.Record.{Record}
 use Rattle.record_queue.specs.Sorted.{sort}
-use Rattle.record_queue.specs.SortedLaws.{length-sort, insert-nil, sort-nil, sort-append-comm, sort-append-cong}
+use Rattle.record_queue.specs.SortedLaws.{length-sort, insert-nil, sort-nil}
 use Rattle.record_queue.specs.Records.{value, records, Heap}
-use Rattle.record_queue.specs.RecordsLaws.{value-is, records-zero, records-same, length-records, heap-none, same-or-not}
+use Rattle.record_queue.specs.RecordsLaws.{value-is, records-zero, records-same, length-records, heap-none}
 use Rattle.record_queue.specs.Queue.{Popped}
 use Rattle.store.specs.declared.Shape.{Shape}
 use Rattle.store.specs.Store.{Limits, vectorAt, marksAt, workSize}
 use Rattle.distance.specs.Distance.{distance}
 use Rattle.total_order.specs.TotalOrder.{keyOf}
 use Rattle.walk.specs.StoreView.{storeView}
-use Rattle.lists.specs.Tests.{allPass, allPass-nil, allPass-append}
+use Rattle.lists.specs.Tests.{allPass, allPass-nil}
 use Rattle.walk.specs.declared.Wanted.{Wanted}
 use Rattle.store.specs.declared.Counts.{Counts}
 use Rattle.walk.specs.Walk.{View, waitingNode, nodeNumber, Progress}
@@ -35,23 +32,11 @@ use Rattle.store.specs.Lent.{storeOf}
 use Rattle.walk.specs.Contracts.{Works}
 use Rattle.waiting_nodes.specs.Contracts.{insertEach, PushedNodes}
 use Rattle.waiting_nodes.specs.PushLaws.{insertEach-one}
-use Rattle.best_first_walk.specs.Walks.{foundAt, foundPart, FindsVectors, Represents, BeginsWalk}
-use Rattle.walk.specs.LentLaws.{works-trans, works-sets, works-front}
+use Rattle.best_first_walk.specs.MarkLaws.{marked-one, marked-none, found-unmarked, works-root, finds-same, marked-found, finds-more}
+use Rattle.best_first_walk.specs.Walks.{foundAt, foundPart, Represents, BeginsWalk}
+use Rattle.walk.specs.LentLaws.{works-trans, works-front}
 
 -- ---- a node is marked, and nodes are pushed
-
--- the mark of each node after one more
-mark-one : (i c : ℕ) (l : List ℕ) → i ≡ c → _≡_ {A = ℕ} (cond (isIn i (c ∷ l)) 1 0) 1
-mark-one i c l e = ap {B = ℕ} (λ (b : Bool). cond b 1 0) (ap (λ (j : ℕ). isIn j (c ∷ l)) e ∙ isIn-here c l)
-
--- the vectors found stand where they stood
-finds-same : (s : Shape) (c : Counts) (hit : ℕ → ℕ) (new work work′ : List ℕ) (found : ℕ) → foundPart s work′ ≡ foundPart s work → FindsVectors s c hit new work found
-    → FindsVectors s c hit new work′ found
-finds-same s c hit new work work′ found e f = record {
-  count = f .count;
-  held = ap (λ (l : List ℕ). allPass (λ x. ltb x (c .vectors)) (take found l)) e ∙ f .held;
-  are = ap (λ (l : List ℕ). sort (map hit (take found l))) e ∙ f .are;
-}
 
 -- a progress with a child marked, and with other nodes waiting
 abbrev pub markedOne : ℕ → Progress → Progress
@@ -71,18 +56,9 @@ module _ (s : Shape) (c : Counts) (hit : ℕ → ℕ) (nodes : c .nodes ≤ s .n
         size = omega (arith, length-set work (marksAt s + child) 1, r .size);
         queue = subst Heap (sym front) (r .queue);
         waits = ap sort front ∙ r .waits;
-        marks = λ i h. one i h (same-or-not i child);
-        finds = finds-same s c hit (p .found) work w found
-            (part-set-before (foundAt s) (max (s .vectors) (s .entries) + 1) work (marksAt s + child) 1 (let t : marksAt s + child < foundAt s = omega arith in t)) (r .finds);
+        marks = marked-one s c (p .pushed) work child nodes (r .size) below (r .marks);
+        finds = finds-same s c hit (p .found) work w found (found-unmarked s work child (omega arith)) (r .finds);
       }
-    where
-      one : (i : ℕ) → i < c .nodes → (i ≡ child) ⊎ (i ≢ child) → getD (set work (marksAt s + child) 1) (marksAt s + i) 0 ≡ cond (isIn i (child ∷ p .pushed)) 1 0
-      one i h (inl e) =
-          ap (λ (j : ℕ). getD (set work (marksAt s + child) 1) (marksAt s + j) 0) e
-          ∙ getD-set-same work (marksAt s + child) 1 0 (omega (arith, r .size)) ∙ sym (mark-one i child (p .pushed) e)
-      one i h (inr n) =
-          getD-set-other work (marksAt s + child) (marksAt s + i) 1 0 (λ e. n (omega arith)) ∙ r .marks i h
-          ∙ ap {B = ℕ} (λ (b : Bool). cond b 1 0) (sym (isIn-later i child (p .pushed) n))
 
   pub represents-pushed : (p : Progress) (work work′ new : List ℕ) (waiting found total : ℕ) → total ≡ waiting + length new → Represents s c hit p work waiting found
       → PushedNodes s work waiting new work′ → Represents s c hit (withWaiting (insertEach new (p .waiting)) p) work′ total found
@@ -96,12 +72,6 @@ module _ (s : Shape) (c : Counts) (hit : ℕ → ℕ) (nodes : c .nodes ≤ s .n
   }
 
 -- ---- the least node is taken
-
--- as many wait as there are nodes at most, and one fewer where another can be pushed
-pub waiting-length : (p : Progress) (n : ℕ) → Once n p → length (p .waiting) + length (p .opened) ≡ length (p .pushed)
-waiting-length p n o =
-    let all = perm-length (count-perm (p .opened ++ nodeNumbers (p .waiting)) (p .pushed) (λ x. count-append x (p .opened) (nodeNumbers (p .waiting)) ∙ o .counted x)) in
-    omega (arith, all, length-append (p .opened) (nodeNumbers (p .waiting)), length-map (p .waiting) nodeNumber)
 
 module _ (s : Shape) (c : Counts) (hit : ℕ → ℕ) (p : Progress) (work : List ℕ) (waiting found : ℕ) (r : Represents s c hit p work waiting found) where
   pub represents-length : length (p .waiting) ≡ waiting
@@ -140,37 +110,21 @@ least-below p n least rest o e =
 -- the work list with other numbers of vectors
 module _ (s : Shape) (c : Counts) (hit : ℕ → ℕ) (p : Progress) (work ys : List ℕ) (waiting found : ℕ) (r : Represents s c hit p work waiting found)
     (limits : Limits s) (long : length ys ≡ max (s .vectors) (s .entries) + 1) where
-  room : foundAt s + length ys ≤ length work
-  room = omega (arith, r .size, long, limits .vectors-low)
-
-  pub found-in : foundPart s (sets work (foundAt s) ys) ≡ ys
-  found-in = ap (λ (n : ℕ). part (foundAt s) n (sets work (foundAt s) ys)) (sym long) ∙ part-sets-same work (foundAt s) ys room
-
   pub represents-hits : (new : List ℕ) (total : ℕ) → c .nodes ≤ s .nodes → waiting ≤ s .nodes → allPass (λ x. ltb x (c .vectors)) new ≡ true
       → total ≡ length new + found → take total ys ≡ take found (foundPart s work) ++ new
       → Represents s c hit (addedHits (map hit new) p) (sets work (foundAt s) ys) waiting total
   represents-hits new total nodes few held count is =
       let front : records 2 waiting (sets work (foundAt s) ys) ≡ records 2 waiting work =
       records-same 2 waiting (sets work (foundAt s) ys) work (le-refl 2) (take-sets (waiting * 2) work (foundAt s) ys (let t : waiting * 2 ≤ foundAt s = omega arith in t)) in
-      let old : List ℕ = take found (foundPart s work) in
-      let all : take total (foundPart s (sets work (foundAt s) ys)) ≡ old ++ new = ap (take total) found-in ∙ is in
       record {
         size = omega (arith, length-sets work (foundAt s) ys, r .size);
         queue = subst Heap (sym front) (r .queue);
         waits = ap sort front ∙ r .waits;
-        marks = λ i h. getD-sets-before work (foundAt s) ys (marksAt s + i) 0 (let t : marksAt s + i < foundAt s = omega arith in t) ∙ r .marks i h;
-        finds = record {
-          count = omega (arith, count, r .finds .count, length-append (map hit new) (p .found), length-map new hit);
-          held = ap (allPass (λ x. ltb x (c .vectors))) all ∙ allPass-append (λ x. ltb x (c .vectors)) old new ∙ ap₂ _&&_ (r .finds .held) held;
-          are = ap (λ (l : List ℕ). sort (map hit l)) all ∙ ap sort (map-append hit old new)
-              ∙ sort-append-comm (map hit old) (map hit new) ∙ sort-append-cong (map hit new) (map hit new) (map hit old) (p .found) refl (r .finds .are);
-        };
+        marks = marked-found s c hit work ys limits (r .size) long nodes (p .pushed) (r .marks);
+        finds = finds-more s c hit work ys limits (r .size) long (p .found) new found total held count is (r .finds);
       }
 
 -- ---- what the work list keeps
-
-pub works-marked : (s : Shape) (work : List ℕ) (child : ℕ) → child < s .nodes → Works s work (set work (marksAt s + child) 1)
-works-marked s work child below = works-sets s work (1 ∷ []) (marksAt s + child) (omega arith)
 
 pub works-pushed : (s : Shape) (work work′ new : List ℕ) (waiting : ℕ) → PushedNodes s work waiting new work′ → Works s work work′
 works-pushed s work work′ new waiting q = works-front s work work′ (marksAt s) (omega arith) (q .behind) (q .size)
@@ -185,14 +139,11 @@ pub cleared : (s : Shape) (c : Counts) (hit : ℕ → ℕ) (work : List ℕ) →
     → Represents s c hit (record { waiting = []; pushed = []; opened = []; found = [] }) (sets work (marksAt s) (replicate (c .nodes) 0)) 0 0
 cleared s c hit work nodes size =
     let w : List ℕ = sets work (marksAt s) (replicate (c .nodes) 0) in
-    let n : length {A = ℕ} (replicate (c .nodes) 0) ≡ c .nodes = length-replicate (c .nodes) 0 in
     record {
       size = omega (arith, length-sets work (marksAt s) (replicate (c .nodes) 0), size);
       queue = heap-none 2 w;
       waits = ap sort (records-zero 2 w) ∙ sort-nil;
-      marks = λ i h.
-          getD-sets-in work (marksAt s) (replicate (c .nodes) 0) i 0 (subst (λ (k : ℕ). i < k) (sym n) h) (omega (arith, n, size))
-          ∙ getD-replicate (c .nodes) i 0 0 h ∙ ap {B = ℕ} (λ (b : Bool). cond b 1 0) (sym (isIn-nil i));
+      marks = marked-none s c work nodes size;
       finds = record { count = refl; held = allPass-nil (λ x. ltb x (c .vectors)); are = refl };
     }
 
@@ -200,7 +151,6 @@ pub begins : (s : Shape) (c : Counts) (hit : ℕ → ℕ) (view : View) (work wo
     → PushedNodes s (set (sets work (marksAt s) (replicate (c .nodes) 0)) (marksAt s) 1) 0 (waitingNode view 0 ∷ []) work′ → BeginsWalk s c hit view work work′
 begins s c hit view work work′ nodes some size q =
     let w : List ℕ = sets work (marksAt s) (replicate (c .nodes) 0) in
-    let n : length {A = ℕ} (replicate (c .nodes) 0) ≡ c .nodes = length-replicate (c .nodes) 0 in
     let at : marksAt s + 0 ≡ marksAt s = omega arith in
     let empty : Progress = record { waiting = []; pushed = []; opened = []; found = [] } in
     let marked = subst (λ (i : ℕ). Represents s c hit (markedOne 0 empty) (set w i 1) 0 0) at (represents-marked s c hit nodes empty w 0 0 0 some (omega arith) (cleared s c hit work nodes size)) in
@@ -213,20 +163,8 @@ begins s c hit view work work′ nodes some size q =
         marks = first .marks;
         finds = first .finds;
       };
-      works = works-trans s work w work′ (works-sets s work (replicate (c .nodes) 0) (marksAt s) (omega (arith, n)))
-          (works-trans s w (set w (marksAt s) 1) work′ (subst (λ (i : ℕ). Works s w (set w i 1)) at (works-marked s w 0 (omega arith))) (works-pushed s (set w (marksAt s) 1) work′ (waitingNode view 0 ∷ []) 0 q));
+      works = works-trans s work (set w (marksAt s) 1) work′ (works-root s c work nodes some) (works-pushed s (set w (marksAt s) 1) work′ (waitingNode view 0 ∷ []) 0 q);
     }
-
--- the work list once its marks came back cleared
-pub cleared-is : (s : Shape) (c : Counts) (work ys : List ℕ) (a e : ℕ) → c .nodes ≤ s .nodes → workSize s ≤ length work → a ≡ marksAt s → e ≡ a + c .nodes
-    → ys ≡ replicate (length (take (e - a) (drop a work))) 0 → take a work ++ (ys ++ drop (e - a) (drop a work)) ≡ sets work (marksAt s) (replicate (c .nodes) 0)
-cleared-is s c work ys a e nodes size p q is =
-    let n : e - a ≡ c .nodes = omega arith in
-    let long : length (take (e - a) (drop a work)) ≡ c .nodes =
-    ap (λ (k : ℕ). length (take k (drop a work))) n ∙ length-part a (c .nodes) work (let t : a + c .nodes ≤ length work = omega arith in t) in
-    let zeros : ys ≡ replicate (c .nodes) 0 = is ∙ ap {B = List ℕ} (λ (k : ℕ). replicate k 0) long in
-    let count : length ys ≡ e - a = ap length zeros ∙ length-replicate (c .nodes) 0 ∙ sym n in
-    lent-part work a e ys (omega arith) (omega arith) count ∙ ap₂ (sets work) p zeros
 
 -- the key of a node's centroid
 pub view-key : (s : Shape) (c : Counts) (floats : List Float) (numbers hashes : List ℕ) (query : List Float) (wanted : Wanted) (i at key : ℕ) → at ≡ s .vectors + i

@@ -3,14 +3,13 @@ use Prim.Native.Nat.{ℕ, suc, _+_, _-_, _^_, _≤_, _<_, max}
 use native.Mathlib.Numerals.{add-one}
 use native.Mathlib.Omega.{arith}
 use mathlib.Core.Path.{_≡_, refl, sym, ap, _∙_, subst}
-use mathlib.Core.Logic.{_⊎_, inl, inr}
-use mathlib.Core.Bool.{Bool, true, false, cond, false≢true}
+use mathlib.Core.Bool.{Bool, true, false, cond}
 use mathlib.Core.List.{List, [], _∷_, map}
 use lib.Dec.{ltb}
-use lib.ListN.{length, length-append, length-map}
+use lib.ListN.{length, length-append}
 use lib.Arith.{lt-of-le-ne}
 use lib.Seq.{sets}
-use Rattle.lists.specs.Tests.{which, allPass}
+use Rattle.lists.specs.Tests.{allPass}
 use Rattle.record_queue.specs.declared.Record.{Record}
 use Rattle.record_queue.specs.Sorted.{sort}
 use Rattle.record_queue.specs.Records.{value, records}
@@ -19,14 +18,17 @@ use Rattle.store.specs.declared.Shape.{Shape}
 use Rattle.store.specs.Store.{Limits}
 use Rattle.store.specs.declared.Counts.{Counts}
 use Rattle.walk.specs.Walk.{View, Progress, State, damaged, going, walk, walkFrom, Shown, shown, give, hits, damage, none, whole}
-use Rattle.walk.specs.WalkLaws.{openedOne, addedHits, startProgress, walk-is, walk-suc, walk-zero, step-open, some-waiting, nil-waiting, give-damage, give-hits, give-over}
+use Rattle.walk.specs.WalkLaws.{openedOne, addedHits, startProgress, walk-is, walk-suc, walk-zero, step-open, some-waiting, nil-waiting, give-damage}
 use Rattle.walk.specs.BudgetLaws.{none-stays, damaged-stays}
 use Rattle.walk.specs.DifferentLaws.{Once, ChildrenBelow, once-kept, once-start, different-below}
 use Rattle.walk.specs.Contracts.{Works}
 use Rattle.leaf_hits.specs.Contracts.{Gathered, GatherDamage}
 use Rattle.best_first_walk.specs.Walks.{foundAt, foundPart, Represents, BeginsWalk, WalkEnds}
-use Rattle.best_first_walk.proofs.Steps.{waiting-length, represents-length, popped-waits, represents-opened, represents-hits, popped-number, least-below, works-popped}
-use Rattle.walk.specs.LentLaws.{works-refl, works-trans, works-sets}
+use Rattle.walk.specs.KeysLaws.{waiting-length}
+use Rattle.best_first_walk.specs.MarkLaws.{works-found}
+use Rattle.best_first_walk.specs.GatherLaws.{gather-damages, gather-room, gather-adds}
+use Rattle.best_first_walk.proofs.Steps.{represents-length, popped-waits, represents-opened, represents-hits, popped-number, least-below, works-popped}
+use Rattle.walk.specs.LentLaws.{works-refl, works-trans}
 use Rattle.best_first_walk.specs.declared.Walked.the-variants as walked
 
 pub record Walking (s : Shape) (c : Counts) (hit : ℕ → ℕ) (view : View) (ef : ℕ) (work₀ : List ℕ) (p : Progress) (work : List ℕ) (waiting found opened : ℕ) : Type 0 where
@@ -125,18 +127,8 @@ module _ (s : Shape) (c : Counts) (hit : ℕ → ℕ) (view : View) (ef : ℕ) (
       → Opens s c hit view ef work₀ node work waiting found opened → shown view node ≡ cond sound (hits (map hit vectors)) damage
       → GatherDamage sound vectors (view .most) found → walk view ef ≡ damaged
   leaf-damage node work waiting found opened sound vectors (p, w, e) sh g =
-      damage-ends view ef (ef - opened) (give view (shown view node) p) (ap (λ (x : Shown). give view x p) sh ∙ go (which sound) g) e
-    where
-      new : List ℕ
-      new = map hit vectors
-
-      over : view .most < length vectors + found → view .most < length new + length (p .found)
-      over h = omega (arith, h, w .holds .finds .count, length-map vectors hit)
-
-      go : (sound ≡ true) ⊎ (sound ≡ false) → GatherDamage sound vectors (view .most) found → give view (cond sound (hits new) damage) p ≡ damaged
-      go (inl t) (inl f) = absurd (false≢true (sym f ∙ t))
-      go (inl t) (inr h) = ap (λ (b : Bool). give view (cond b (hits new) damage) p) t ∙ give-over view new p (over h)
-      go (inr f) g = ap (λ (b : Bool). give view (cond b (hits new) damage) p) f ∙ give-damage view p
+      damage-ends view ef (ef - opened) (give view (shown view node) p)
+      (ap (λ (x : Shown). give view x p) sh ∙ gather-damages view hit p sound vectors found (w .holds .finds .count) g) e
 
   -- A leaf whose vectors were added
   pub leaf-hits : (node : ℕ) (work ys : List ℕ) (waiting found opened total : ℕ) (sound : Bool) (vectors : List ℕ) → waiting ≤ s .nodes
@@ -146,7 +138,7 @@ module _ (s : Shape) (c : Counts) (hit : ℕ → ℕ) (view : View) (ef : ℕ) (
       → Waits s c hit view ef work₀ (sets work (foundAt s) ys) waiting total opened
   leaf-hits node work ys waiting found opened total sound vectors few held (p, w, e) sh long g =
       let new : List ℕ = map hit vectors in
-      let room : length new + length (p .found) ≤ view .most = omega (arith, w .holds .finds .count, g .count, g .few, length-map vectors hit) in (
+      let room : length new + length (p .found) ≤ view .most = gather-room view hit p sound vectors found (w .holds .finds .count) (foundPart s work) total ys g in (
         addedHits new p,
         record {
           holds = represents-hits s c hit p work ys waiting found (w .holds) limits long vectors total within few (held (g .pass)) (g .count) (g .vectors);
@@ -154,10 +146,10 @@ module _ (s : Shape) (c : Counts) (hit : ℕ → ℕ) (view : View) (ef : ℕ) (
           few = omega (arith, length-append new (p .found), room);
           nodes = w .nodes;
           budget = w .budget;
-          works = works-trans s work₀ work (sets work (foundAt s) ys) (w .works) (works-sets s work ys (foundAt s) (omega (arith, long, limits .vectors-low)));
+          works = works-trans s work₀ work (sets work (foundAt s) ys) (w .works) (works-found s c hit work ys limits (w .holds .size) long);
         },
         e ∙ ap (walkFrom view (ef - opened))
-            (ap (λ (x : Shown). give view x p) sh ∙ ap (λ (b : Bool). give view (cond b (hits new) damage) p) (g .pass) ∙ give-hits view new p room),
+            (ap (λ (x : Shown). give view x p) sh ∙ gather-adds view hit p sound vectors found (w .holds .finds .count) (foundPart s work) total ys g),
       )
 
   -- ---- how the walk ends

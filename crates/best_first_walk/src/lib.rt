@@ -42,7 +42,7 @@ pub fn found_at(shape: Shape) -> usize
 }
 
 // Clears a list.
-fn clear(marks: &mut [u32])
+pub fn clear(marks: &mut [u32])
     ensures { λ _. ⌜ now (marks .exit) ≡ replicate (length (now (marks .entry))) 0 ⌝ }
 {
     let mut i = 0;
@@ -53,7 +53,7 @@ fn clear(marks: &mut [u32])
 }
 
 // Whether a child is above its parent, below the node count and not pushed before.
-fn fresh_child(work: &[u32], marks_at: usize, nodes: usize, parent: usize, child: usize) -> bool
+pub fn fresh_child(work: &[u32], marks_at: usize, nodes: usize, parent: usize, child: usize) -> bool
     requires { ⌜ «marks_at» + nodes ≤ length (now work) ⌝ }
     ensures { λ r. ⌜ r ≡ ((ltb parent child && ltb child nodes) && eqb (getD (now (work .entry)) («marks_at» + child) 0) 0) ⌝ }
 {

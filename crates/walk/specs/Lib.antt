@@ -12,6 +12,7 @@ pub mod BudgetLaws
 pub mod DifferentLaws
 pub mod SameWalkLaws
 pub mod SoundWalk
+pub mod KeysLaws
 pub mod AnswerLaws
 pub mod PackedLaws
 pub mod WantedLaws

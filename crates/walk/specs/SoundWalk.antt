@@ -70,15 +70,15 @@ pub record SoundView (view : View) (below : ℕ → List ℕ) (size : ℕ → �
   pub shows : (i : ℕ) → Valid i → Local below size Valid i (shown view i)
   pub room : length (below 0) ≤ view .most
 
-sumOf-nil : (f : ℕ → ℕ) → sumOf f [] ≡ 0
+pub sumOf-nil : (f : ℕ → ℕ) → sumOf f [] ≡ 0
 unfolding sumOf
 sumOf-nil f = refl
 
-sumOf-cons : (f : ℕ → ℕ) (x : ℕ) (xs : List ℕ) → sumOf f (x ∷ xs) ≡ f x + sumOf f xs
+pub sumOf-cons : (f : ℕ → ℕ) (x : ℕ) (xs : List ℕ) → sumOf f (x ∷ xs) ≡ f x + sumOf f xs
 unfolding sumOf
 sumOf-cons f x xs = refl
 
-sumOf-ones : (l : List ℕ) → sumOf (λ x. 1) l ≡ length l
+pub sumOf-ones : (l : List ℕ) → sumOf (λ x. 1) l ≡ length l
 sumOf-ones [] = sumOf-nil (λ x. 1)
 sumOf-ones (x ∷ xs) = omega (arith, sumOf-cons (λ x. 1) x xs, sumOf-ones xs)
 

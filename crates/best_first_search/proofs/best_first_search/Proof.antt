@@ -26,10 +26,10 @@ use Rattle.best_first_search.proofs.best_first_search.Tie as tie
 -- ---- the places that needs go back to (primed: the same place, from another one)
 
 -- the places: entry, the walk ended, it ended with hits, and the first k are taken
-abbrev entry : tie.After-best-first-walk → tie.Start
+abbrev entry : tie.After-walk-store → tie.Start
 entry w = w .before .before .before .before .before .before .before .before .before .before .before .before
 
-abbrev from : tie.After-walked → tie.After-best-first-walk
+abbrev from : tie.After-walked → tie.After-walk-store
 from h = h .before .before .before .before
 
 abbrev hits : tie.After-first-hits → tie.After-walked
@@ -46,25 +46,25 @@ unfolding storeView
 most-is e = refl
 
 -- the work list after the walk, and the hits' part of it
-abbrev work : tie.After-best-first-walk → List ℕ
-work w = w .best-first-walk .last .1 .1 .1 .1 .1 .1 .0
+abbrev work : tie.After-walk-store → List ℕ
+work w = w .walk-store .last .1 .1 .1 .1 .1 .1 .0
 
-ends : (w : tie.After-best-first-walk) (r : Walked) → w .best-first-walk .result ≡ r
+ends : (w : tie.After-walk-store) (r : Walked) → w .walk-store .result ≡ r
     → WalkEnds (entry w .args .shape) (entry w .args .counts) (hit (entry w)) (walk (view (entry w)) (entry w .args .ef-search)) r (work w)
 ends w r is =
-    subst (λ (r : Walked). WalkEnds (entry w .args .shape) (entry w .args .counts) (hit (entry w)) (walk (view (entry w)) (entry w .args .ef-search)) r (work w)) is (w .best-first-walk .ensures .ends)
+    subst (λ (r : Walked). WalkEnds (entry w .args .shape) (entry w .args .counts) (hit (entry w)) (walk (view (entry w)) (entry w .args .ef-search)) r (work w)) is (w .walk-store .ensures .ends)
 
-size : (w : tie.After-best-first-walk) → workSize (entry w .args .shape) ≤ length (work w)
-size w = omega (arith, entry w .pre .lent .work-size, w .best-first-walk .ensures .works .size)
+size : (w : tie.After-walk-store) → workSize (entry w .args .shape) ≤ length (work w)
+size w = omega (arith, entry w .pre .lent .work-size, w .walk-store .ensures .works .size)
 
 abbrev after-hits-at : tie.After-work-size → tie.After-hits-at
 after-hits-at c = c .before
 
-abbrev after-work-size : tie.After-best-first-walk → tie.After-work-size
+abbrev after-work-size : tie.After-walk-store → tie.After-work-size
 after-work-size c = c .before .before .before
 
-abbrev after-best-first-walk : tie.After-enum-told → tie.After-best-first-walk
-after-best-first-walk c = c .before .before .before .before
+abbrev after-walk-store : tie.After-enum-told → tie.After-walk-store
+after-walk-store c = c .before .before .before .before
 
 abbrev after-walked : tie.After-first-hits-arg3 → tie.After-walked
 after-walked c = c .before .before .before .before
@@ -72,25 +72,25 @@ after-walked c = c .before .before .before .before
 abbrev after-first-hits : tie.After-slice-known7 → tie.After-first-hits
 after-first-hits c = c .before .before .before .before .before .before
 
-hits-start : (w : tie.After-best-first-walk) → after-hits-at (after-work-size w) .hits-at .result ≡ hitsAt (entry w .args .shape)
+hits-start : (w : tie.After-walk-store) → after-hits-at (after-work-size w) .hits-at .result ≡ hitsAt (entry w .args .shape)
 hits-start w = after-hits-at (after-work-size w) .hits-at .ensures
 
-hits-end : (w : tie.After-best-first-walk) → after-work-size w .work-size .result ≡ workSize (entry w .args .shape)
+hits-end : (w : tie.After-walk-store) → after-work-size w .work-size .result ≡ workSize (entry w .args .shape)
 hits-end w = after-work-size w .work-size .ensures
 
-abbrev lentHits : tie.After-best-first-walk → List ℕ
+abbrev lentHits : tie.After-walk-store → List ℕ
 lentHits w =
     let work-size = after-work-size w in
     let hits-at = after-hits-at work-size in
     take (work-size .work-size .result - hits-at .hits-at .result) (drop (hits-at .hits-at .result) (work w))
 
-lent-hits : (w : tie.After-best-first-walk) → lentHits w ≡ hitsPart (entry w .args .shape) (work w)
+lent-hits : (w : tie.After-walk-store) → lentHits w ≡ hitsPart (entry w .args .shape) (work w)
 lent-hits w =
     let s = entry w .args .shape in
     lent-is (work w) (after-hits-at (after-work-size w) .hits-at .result) (after-work-size w .work-size .result) (hitsAt s) (3 * max (s .vectors) (s .entries)) (hits-start w) (hits-end w)
 
 -- where the numbers of the vectors found stand in it
-from-is : (w : tie.After-best-first-walk) → w .before .before .found-at .result - after-hits-at (after-work-size w) .hits-at .result ≡ foundIn (entry w .args .shape)
+from-is : (w : tie.After-walk-store) → w .before .before .found-at .result - after-hits-at (after-work-size w) .hits-at .result ≡ foundIn (entry w .args .shape)
 from-is w = omega (arith, w .before .before .found-at .ensures, hits-start w)
 
 -- how the walk ended: hits, opened nodes, whole or cut
@@ -142,8 +142,8 @@ found-at-requires c κs = search needs
 sub-from : tie.Need-sub-from
 sub-from c = omega (arith, c .found-at .ensures, c .before .before .hits-at .ensures)
 
-best-first-walk-requires : tie.Need-best-first-walk-requires
-best-first-walk-requires c κs = search needs
+walk-store-requires : tie.Need-walk-store-requires
+walk-store-requires c κs = search needs
 
 enum-told : tie.Need-enum-told
 enum-told c = search needs
@@ -180,11 +180,11 @@ same-length c = search needs
 
 returns : tie.Need-returns
 returns c =
-    let w = after-best-first-walk c in
+    let w = after-walk-store c in
     let a = entry w .args in
     record {
       ends = damaged-search (a .shape) (a .counts) (hit (entry w)) (walk (view (entry w)) (a .ef-search)) (a .k) (work w) (a .ids .now) (a .distances .now) (ends w walked.Damaged (c .enum-told .given .1));
-      works = w .best-first-walk .ensures .works;
+      works = w .walk-store .ensures .works;
     }
 
 same-length-2 : tie.Need-same-length-2
@@ -210,7 +210,7 @@ returns-2 c =
           (ended-numbers (a .shape) (a .counts) (hit (entry w)) (a .wanted) (view (entry w)) (a .ef-search) (a .k) (found h) (opened h) (whole h) (work w) (lentHits w) _ (pre .lent .within .limits)
           (most-is (entry w)) (pre .lent .within .vectors) (pre .lent .within .entries) (size w) (lent-hits w) (from-is w) (ended h))
           (t .first-hits .ensures));
-      works = works-trans (a .shape) (a .work .now) (work w) (after t) (w .best-first-walk .ensures .works)
+      works = works-trans (a .shape) (a .work .now) (work w) (after t) (w .walk-store .ensures .works)
           (subst (Works (a .shape) (work w)) (sym (after-is t)) (works-sets (a .shape) (work w) (back t) (hitsAt (a .shape)) (omega (arith, back-length t))));
     }
 
@@ -222,7 +222,7 @@ best-first-search-spec =
     work-size-requires
     found-at-requires
     sub-from
-    best-first-walk-requires
+    walk-store-requires
     enum-told
     enum-known-walked
     mul-first-hits

@@ -1,5 +1,6 @@
 -- `begin` meets its contract: cleared marks, the root marked, and the root pushed. Assumes nothing.
-use Rattle.best_first_walk.proofs.Steps.{cleared-is, view-key, begins}
+use Rattle.best_first_walk.specs.MarkLaws.{root-is}
+use Rattle.best_first_walk.proofs.Steps.{view-key, begins}
 use Rattle.walk.specs.LentLaws.{vector-within}
 use Rattle.store.specs.Lent.{storeOf}
 use Rattle.waiting_nodes.specs.Contracts.{PushedNodes}
@@ -36,13 +37,6 @@ start d = d .before .before .before .marks-at .result
 abbrev end : tie.After-clear → ℕ
 end d = start d + entry d .args .counts .nodes
 
-cleared : (d : tie.After-clear)
-    → take (start d) (entry d .args .work .now) ++ (d .clear .last .0 ++ drop (end d - start d) (drop (start d) (entry d .args .work .now)))
-    ≡ sets (entry d .args .work .now) (marksAt (entry d .args .shape)) (replicate (entry d .args .counts .nodes) 0)
-cleared d =
-    let e = entry d in
-    cleared-is (e .args .shape) (e .args .counts) (e .args .work .now) (d .clear .last .0) (start d) (end d) (e .pre .within .nodes) (e .pre .work-size) (d .before .before .before .marks-at .ensures) refl (d .clear .ensures)
-
 -- the root is marked
 abbrev marked : tie.After-clear → List ℕ
 marked d = set (sets (entry d .args .work .now) (marksAt (entry d .args .shape)) (replicate (entry d .args .counts .nodes) 0)) (marksAt (entry d .args .shape)) 1
@@ -50,8 +44,8 @@ marked d = set (sets (entry d .args .work .now) (marksAt (entry d .args .shape))
 marked-is : (d : tie.After-clear)
     → set (take (start d) (entry d .args .work .now) ++ (d .clear .last .0 ++ drop (end d - start d) (drop (start d) (entry d .args .work .now)))) (start d) 1 ≡ marked d
 marked-is d =
-    ap (λ (w : List ℕ). set w (start d) 1) (cleared d)
-    ∙ ap (λ (i : ℕ). set (sets (entry d .args .work .now) (marksAt (entry d .args .shape)) (replicate (entry d .args .counts .nodes) 0)) i 1) (d .before .before .before .marks-at .ensures)
+    let e = entry d in
+    root-is (e .args .shape) (e .args .counts) (e .args .work .now) (d .clear .last .0) (start d) (end d) (e .pre .within .nodes) (e .pre .work-size) (d .before .before .before .marks-at .ensures) refl (d .clear .ensures)
 
 marked-size : (d : tie.After-clear) → length (marked d) ≡ length (entry d .args .work .now)
 marked-size d =

@@ -4,10 +4,12 @@ mod Places
 mod AtLeaf
 mod AtChildren
 use Rattle.best_first_walk.proofs.best_first_walk.Proof.Places.{Inv-loop, μ-loop, Inv-walk, μ-walk, entry, begun, turn, least, leaf-opened, from, added-hits, inner-opened, parent, child, read, last, all-marked, hit, view, below, lends, first, marks, found-start, found-end, few, ended-works, node, work, node-low, opened, opened-works, shows}
-use Rattle.best_first_walk.proofs.best_first_walk.Proof.AtLeaf.{at-leaf, passed, vectors, vectors-held, most-is, list, list-room, list-is, lent-found, work-room, back, at-hits, back-length, after-is, after-works, gave}
+use Rattle.best_first_walk.proofs.best_first_walk.Proof.AtLeaf.{at-leaf, passed, vectors, held, few-found, list, list-room, list-is, lent-found, work-room, back, at-hits, back-length, after-is, after-works, gave}
 use Rattle.best_first_walk.proofs.best_first_walk.Proof.AtChildren.{at-inner, children, child-works, number, next, fresh, low, total, many, all, room}
 use Rattle.best_first_walk.proofs.Walking.{Waits, waits-from, waits-start, opens-damage, leaf-damage, leaf-hits, ends-damaged, ends-whole, ends-cut}
-use Rattle.best_first_walk.proofs.Marking.{Marks, children-shown, marks-start, child-damage, child-marked, children-held, children-pushed}
+use Rattle.best_first_walk.proofs.Marking.{Marks, marks-start, child-damage, child-marked, children-held, children-pushed}
+use Rattle.best_first_walk.specs.ChildLaws.{children-shown}
+use Rattle.store.specs.Lent.{storeOf}
 use Rattle.best_first_walk.specs.WalksLaws.{few-hits, length-found}
 use Rattle.waiting_nodes.specs.Contracts.{waitingRecords}
 use Rattle.waiting_nodes.specs.PushLaws.{nodes-wait}
@@ -114,7 +116,7 @@ add-hits-requires c κs =
           subst (λ (found : List ℕ). AddHits (e .args .numbers .now) found (turn p .walk .hits) (most (e .args .wanted) (e .args .counts)) (block .start) (block .count)) (sym (lent-found p))
           (record {
             block = list-room l;
-            few = omega (arith, opened p .1 .few, opened p .1 .holds .finds .count, most-is e);
+            few = omega (arith, opened p .1 .few, opened p .1 .holds .finds .count, few-found e);
             room = omega (arith, few-hits (e .args .shape) (e .args .counts) (e .args .wanted) (w .within .vectors) (w .within .entries), length-found (e .args .shape) (work p) (w .within .limits) (work-room p));
           });
     }
@@ -137,7 +139,7 @@ walk-again c =
     let given = c .before .added .given in
     subst (λ (now : List ℕ). Waits (e .args .shape) (e .args .counts) (hit e) (view e) (e .args .ef-search) (first (begun (turn p))) now (turn p .walk .waiting - 1) (given .0 .0) (turn p .walk .opened + 1)) (sym (after-is h))
     (leaf-hits (e .args .shape) (e .args .counts) (hit e) (view e) (e .args .ef-search) (first (begun (turn p))) (w .within .limits) (w .within .nodes) (w .some) (below e) (node p) (work p) (back h) (turn p .walk .waiting - 1) (turn p .walk .hits) (turn p .walk .opened + 1) (given .0 .0)
-    (passed e (list (from h))) (vectors e (list (from h))) (omega (arith, few (turn p))) (vectors-held e (list (from h))) (opened p) (list-is (from h)) (back-length h) (gave h (added.Hits (given .0 .0)) (given .1)))
+    (passed e (list (from h))) (vectors e (list (from h))) (omega (arith, few (turn p))) (held e (list (from h))) (opened p) (list-is (from h)) (back-length h) (gave h (added.Hits (given .0 .0)) (given .1)))
 
 enum-known-shown-2 : tie.Need-enum-known-shown-2 Inv-loop μ-loop Inv-walk μ-walk
 enum-known-shown-2 c = search needs
@@ -152,7 +154,7 @@ loop-holds c =
       omega arith,
       shown .0,
       marks-start (e .args .shape) (e .args .counts) (hit e) (view e) (e .args .ef-search) (first (begun (turn p))) (w .within .limits) (w .within .nodes) (w .some) (below e) (node p) (work p) (turn p .walk .waiting - 1) (turn p .walk .hits) (turn p .walk .opened + 1) (children i)
-          (opened p) (shown .1 (e .args .floats .now) (e .args .query .now) ∙ children-shown (e .args .shape) (e .args .counts) (e .args .floats .now) (e .args .numbers .now) (e .args .hashes .now) (node p) (children i)),
+          (opened p) (shown .1 (e .args .floats .now) (e .args .query .now) ∙ children-shown (e .args .shape) (e .args .counts) (storeOf (e .args .floats .now) (e .args .numbers .now) (e .args .hashes .now)) (node p) (children i)),
     )
 
 add-wide : tie.Need-add-wide Inv-loop μ-loop Inv-walk μ-walk

@@ -1,5 +1,6 @@
 -- `best_first_walk` at an inner node: its children, the next of them, whether it is fresh, and all of them marked. Assumes nothing.
-use Rattle.best_first_walk.proofs.Marking.{childTest, next-child, fresh-is, child-low, children-room}
+use Rattle.best_first_walk.specs.ChildLaws.{childTest, next-child, fresh-is}
+use Rattle.best_first_walk.proofs.Marking.{child-low, children-room}
 use Rattle.walk.specs.LentLaws.{works-trans}
 use Rattle.walk.specs.Contracts.{Works}
 use Rattle.store.specs.Store.{marksAt}

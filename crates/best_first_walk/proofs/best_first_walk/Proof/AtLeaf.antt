@@ -1,28 +1,27 @@
 -- `best_first_walk` at a leaf: the list that it shows, the hits' part of the work list as it is lent and comes back, and what was added. Assumes nothing.
 use Rattle.best_first_walk.specs.Walks.{foundAt, foundPart}
+use Rattle.best_first_walk.specs.MarkLaws.{works-found, found-lent, found-back}
+use Rattle.best_first_walk.specs.GatherLaws.{most-is, vectors-held}
+use Rattle.store.specs.Lent.{storeOf}
 use Rattle.best_first_walk.specs.WalksLaws.{length-found}
 use Rattle.leaf_hits.specs.Contracts.{Gathers}
 use Rattle.walk.specs.Wanted.{EntryRead, passes, given, most}
-use Rattle.walk.specs.WantedLaws.{given-held}
 use Rattle.leaf_hits.specs.LeafLaws.{list-shown}
 use Rattle.leaf_hits.specs.declared.Added.{Added}
 use Rattle.walk.specs.declared.look.Look.the-variants as look
-use Rattle.walk.specs.LentLaws.{works-trans, works-sets}
+use Rattle.walk.specs.LentLaws.{works-trans}
 use Rattle.walk.specs.Contracts.{Works}
-use Rattle.walk.specs.StoreView.{storeView, entriesIn}
-use Rattle.lists.specs.Tests.{allPass, all-pass}
+use Rattle.walk.specs.StoreView.{entriesIn}
+use Rattle.lists.specs.Tests.{allPass}
 use Rattle.walk.specs.Walk.{hits, damage, shown}
 use Rattle.store.specs.Store.{workSize}
 use Rattle.lists.specs.Lists.{part}
-use Rattle.lists.specs.Parts.{lent-part, lent-is}
-use borrow.Author.Tests.{lt-ltb}
 use lib.Dec.{ltb}
 use lib.ListN.{length, take, drop}
 use lib.Seq.{sets}
 use mathlib.Core.Bool.{Bool, true, cond}
 use mathlib.Core.List.{List, _++_, map}
-use mathlib.Core.Path.{_≡_, refl, sym, ap, subst, _∙_}
-use native.Mathlib.Omega.{arith}
+use mathlib.Core.Path.{_≡_, sym, ap, subst, _∙_}
 use Prim.Native.Nat.{ℕ, _+_, _-_, _≤_, max}
 use Rattle.best_first_walk.proofs.best_first_walk.Proof.Places.{Entry, entry, begun, Least, turn, least, Leaf, leaf-opened, Hits, from, hit, view, lends, foundStart, foundEnd, found-start, found-end, node, work, opened, opened-works, shows}
 
@@ -39,14 +38,11 @@ passed e l = allPass (passes (e .args .wanted) (e .args .counts) (read-entries e
 abbrev pub vectors : Entry → List ℕ → List ℕ
 vectors e l = given (e .args .wanted) (read-entries e) l
 
-pub vectors-held : (e : Entry) (l : List ℕ) → passed e l ≡ true → allPass (λ x. ltb x (e .args .counts .vectors)) (vectors e l) ≡ true
-vectors-held e l t =
-    all-pass (λ x. ltb x (e .args .counts .vectors)) (vectors e l)
-    (λ v m. lt-ltb v (e .args .counts .vectors) (given-held (e .args .wanted) (e .args .counts) (read-entries e) l t v m))
+pub held : (e : Entry) (l : List ℕ) → passed e l ≡ true → allPass (λ x. ltb x (e .args .counts .vectors)) (vectors e l) ≡ true
+held e l t = vectors-held (e .args .wanted) (e .args .counts) (read-entries e) l t
 
-pub most-is : (e : Entry) → view e .most ≡ most (e .args .wanted) (e .args .counts)
-unfolding storeView
-most-is e = refl
+pub few-found : (e : Entry) → view e .most ≡ most (e .args .wanted) (e .args .counts)
+few-found e = most-is (e .args .shape) (e .args .counts) (storeOf (e .args .floats .now) (e .args .numbers .now) (e .args .hashes .now)) (e .args .query .now) (e .args .wanted)
 
 abbrev pub list : Leaf → List ℕ
 list l = part (l .shown .given .0 .0 .start) (l .shown .given .0 .0 .count) (at-leaf l .args .numbers .now)
@@ -68,9 +64,7 @@ lentFound p = let b = begun (turn p) in take (foundEnd b - foundStart b) (drop (
 pub lent-found : (p : Least) → lentFound p ≡ foundPart (entry (begun (turn p)) .args .shape) (work p)
 lent-found p =
     let b = begun (turn p) in
-    let s = entry b .args .shape in
-    lent-is (work p) (foundStart b) (foundEnd b) (foundAt s) (max (s .vectors) (s .entries) + 1) (found-start b)
-    (omega (arith, found-end b, lends (entry b) .within .limits .vectors-low))
+    found-lent (entry b .args .shape) (work p) (foundStart b) (foundEnd b) (lends (entry b) .within .limits) (found-start b) (found-end b)
 
 pub work-room : (p : Least) → workSize (entry (begun (turn p)) .args .shape) ≤ length (work p)
 work-room p = opened p .1 .holds .size
@@ -98,17 +92,14 @@ pub after-is : (h : Hits) → after h ≡ sets (work (at-hits h)) (foundAt (at-l
 after-is h =
     let p = at-hits h in
     let b = begun (turn p) in
-    lent-part (work p) (foundStart b) (foundEnd b) (back h)
-    (omega (arith, found-start b, found-end b, lends (entry b) .within .limits .vectors-low)) (omega (arith, found-end b, work-room p))
-    (omega (arith, back-length h, found-start b, found-end b, lends (entry b) .within .limits .vectors-low))
-    ∙ ap (λ (at : ℕ). sets (work p) at (back h)) (found-start b)
+    found-back (entry b .args .shape) (work p) (foundStart b) (foundEnd b) (lends (entry b) .within .limits) (found-start b) (found-end b) (back h) (work-room p) (back-length h)
 
 pub after-works : (h : Hits) → Works (at-leaf (from h) .args .shape) (at-leaf (from h) .args .work .now) (after h)
 after-works h =
     let p = at-hits h in
     let e = at-leaf (from h) in
     works-trans (e .args .shape) (e .args .work .now) (work p) (after h) (opened-works p)
-    (subst (Works (e .args .shape) (work p)) (sym (after-is h)) (works-sets (e .args .shape) (work p) (back h) (foundAt (e .args .shape)) (omega (arith, back-length h, lends e .within .limits .vectors-low))))
+    (subst (Works (e .args .shape) (work p)) (sym (after-is h)) (works-found (e .args .shape) (e .args .counts) (hit e) (work p) (back h) (lends e .within .limits) (work-room p) (back-length h)))
 
 -- what the leaf gave
 abbrev pub Gave : Hits → ℕ → List ℕ → Added → Type 0
@@ -119,5 +110,5 @@ gave h r is =
     let e = at-leaf (from h) in
     let p = at-hits h in
     subst (λ (heap : List ℕ). Gave h (view e .most) heap r) (lent-found p)
-    (subst (λ (n : ℕ). Gave h n (lentFound p) r) (sym (most-is e))
+    (subst (λ (n : ℕ). Gave h n (lentFound p) r) (sym (few-found e))
     (subst (Gave h (most (e .args .wanted) (e .args .counts)) (lentFound p)) is (h .add-hits .ensures)))

@@ -1,0 +1,264 @@
+-- `open_node` meets its contract: what the node shows was looked at, and a leaf's vectors were gathered or an inner node's children marked. Assumes
+-- nothing.
+use Rattle.whole_walk.proofs.Opening.{leaf-gives}
+use Rattle.whole_walk.specs.Contracts.{OpensNode, NotesState}
+use Rattle.best_first_walk.specs.Walks.{foundAt, foundPart}
+use Rattle.best_first_walk.specs.WalksLaws.{few-hits, length-found}
+use Rattle.best_first_walk.specs.GatherLaws.{most-is, vectors-held}
+use Rattle.best_first_walk.specs.MarkLaws.{works-found, found-lent, found-back}
+use Rattle.leaf_hits.specs.Contracts.{AddHits, Gathers}
+use Rattle.leaf_hits.specs.LeafLaws.{list-shown}
+use Rattle.leaf_hits.specs.declared.Added.the-variants as added
+use Rattle.walk.specs.Wanted.{EntryRead, passes, given, most}
+use Rattle.walk.specs.declared.look.Look.{Look}
+use Rattle.walk.specs.declared.look.Look.the-variants as look
+use Rattle.walk.specs.LentLaws.{works-refl}
+use Rattle.walk.specs.Contracts.{Looks}
+use Rattle.walk.specs.StoreView.{hitAt, storeView, entriesIn}
+use Rattle.walk.specs.Walk.{View, Shown, State, damage, hits, shown, give}
+use Rattle.walk.specs.WalkLaws.{give-damage}
+use Rattle.walk.specs.KeysLaws.{keyed}
+use Rattle.store.specs.Lent.{storeOf}
+use Rattle.lists.specs.Lists.{part}
+use Rattle.lists.specs.Tests.{allPass}
+use lib.Ieee.{Float}
+use lib.ListN.{length, take, drop}
+use lib.Seq.{sets}
+use mathlib.Core.Bool.{Bool, cond}
+use mathlib.Core.List.{List, _++_, map}
+use mathlib.Core.Path.{_≡_, sym, ap, subst, _∙_}
+use native.Mathlib.Omega.{arith}
+use Prim.Native.Nat.{ℕ, _+_, _-_, max}
+use borrow.Author.Needs.{needs}
+use Rattle.whole_walk.proofs.open_node.Statement.{statement}
+use Rattle.whole_walk.proofs.open_node.Tie as tie
+
+-- ---- the places, each with the way back to the one before: the node is looked at, it is a leaf, its hits are added, it is an inner node, its children
+-- are marked
+
+abbrev entry : tie.After-look-at → tie.Start
+entry o = o .before .before .before .before .before .before
+
+abbrev leaf-looked : tie.After-shown → tie.After-look-at
+leaf-looked l = l .before .before
+
+abbrev leaf : tie.After-add-hits → tie.After-shown
+leaf h = h .before .before .before
+
+abbrev inner-looked : tie.After-shown2 → tie.After-look-at
+inner-looked i = i .before .before
+
+abbrev inner : tie.After-mark-children → tie.After-shown2
+inner m = m .before .before .before
+
+-- ---- what is known at each
+
+-- what the node shows
+abbrev Shows : tie.Start → Look → Type 0
+Shows e r = Looks (e .args .shape) (e .args .counts) (e .args .numbers .now) (e .args .hashes .now) (e .args .wanted) (e .args .i) r
+
+shows : (o : tie.After-look-at) (r : Look) → o .look-at .result ≡ r → Shows (entry o) r
+shows o r is = subst (Shows (entry o)) is (o .look-at .ensures)
+
+-- a query, vectors and keys that were not lent
+abbrev hit : tie.Start → List Float → List Float → ℕ → ℕ
+hit e floats query = hitAt (e .args .shape) floats (e .args .numbers .now) query
+
+abbrev view : tie.Start → List Float → List Float → View
+view e floats query = storeView (e .args .shape) (e .args .counts) (storeOf floats (e .args .numbers .now) (e .args .hashes .now)) query (e .args .wanted)
+
+-- a leaf's list, whether all its numbers pass, and the vectors that it gives
+abbrev list : tie.After-shown → List ℕ
+list l = part (l .shown .given .0 .0 .start) (l .shown .given .0 .0 .count) (entry (leaf-looked l) .args .numbers .now)
+
+abbrev read-entries : tie.Start → EntryRead
+read-entries e = entriesIn (e .args .shape) (e .args .numbers .now) (e .args .hashes .now)
+
+abbrev passed : tie.After-shown → Bool
+passed l = let e = entry (leaf-looked l) in allPass (passes (e .args .wanted) (e .args .counts) (read-entries e)) (list l)
+
+abbrev vectors : tie.After-shown → List ℕ
+vectors l = let e = entry (leaf-looked l) in given (e .args .wanted) (read-entries e) (list l)
+
+list-is : (l : tie.After-shown) (floats query : List Float) → shown (view (entry (leaf-looked l)) floats query) (entry (leaf-looked l) .args .i)
+    ≡ cond (passed l) (hits (map (hit (entry (leaf-looked l)) floats query) (vectors l))) damage
+list-is l floats query =
+    let e = entry (leaf-looked l) in
+    shows (leaf-looked l) (look.Leaf (l .shown .given .0 .0)) (l .shown .given .1) .1 floats query
+    ∙ list-shown (e .args .shape) (e .args .counts) floats (e .args .numbers .now) (e .args .hashes .now) query (e .args .wanted) (list l)
+
+-- the hits' part, as it is lent and as it came back
+abbrev foundStart : tie.After-look-at → ℕ
+foundStart o = o .before .before .found-at .result
+
+abbrev foundEnd : tie.After-look-at → ℕ
+foundEnd o = o .before .work-size .result
+
+abbrev lentFound : tie.After-look-at → List ℕ
+lentFound o = take (foundEnd o - foundStart o) (drop (foundStart o) (entry o .args .work .now))
+
+lent-found : (o : tie.After-look-at) → lentFound o ≡ foundPart (entry o .args .shape) (entry o .args .work .now)
+lent-found o =
+    let e = entry o in
+    found-lent (e .args .shape) (e .args .work .now) (foundStart o) (foundEnd o) (e .pre .within .limits) (o .before .before .found-at .ensures) (o .before .work-size .ensures)
+
+abbrev back : tie.After-add-hits → List ℕ
+back h = h .add-hits .last .1 .1 .1 .1 .0
+
+back-length : (h : tie.After-add-hits) → length (back h) ≡ max (entry (leaf-looked (leaf h)) .args .shape .vectors) (entry (leaf-looked (leaf h)) .args .shape .entries) + 1
+back-length h =
+    let o = leaf-looked (leaf h) in
+    let e = entry o in
+    h .add-hits .kept .1 .1 .1 .1 .0 ∙ ap length (lent-found o) ∙ length-found (e .args .shape) (e .args .work .now) (e .pre .within .limits) (e .pre .work-size)
+
+abbrev after : tie.After-add-hits → List ℕ
+after h =
+    let o = leaf-looked (leaf h) in
+    take (foundStart o) (entry o .args .work .now) ++ (back h ++ drop (foundEnd o - foundStart o) (drop (foundStart o) (entry o .args .work .now)))
+
+after-is : (h : tie.After-add-hits) → after h ≡ sets (entry (leaf-looked (leaf h)) .args .work .now) (foundAt (entry (leaf-looked (leaf h)) .args .shape)) (back h)
+after-is h =
+    let o = leaf-looked (leaf h) in
+    let e = entry o in
+    found-back (e .args .shape) (e .args .work .now) (foundStart o) (foundEnd o) (e .pre .within .limits) (o .before .before .found-at .ensures) (o .before .work-size .ensures) (back h) (e .pre .work-size) (back-length h)
+
+-- what the leaf gave
+gathers : (h : tie.After-add-hits) (floats query : List Float)
+    → Gathers (passed (leaf h)) (vectors (leaf h)) (view (entry (leaf-looked (leaf h))) floats query .most) (entry (leaf-looked (leaf h)) .args .hits)
+    (foundPart (entry (leaf-looked (leaf h)) .args .shape) (entry (leaf-looked (leaf h)) .args .work .now)) (h .add-hits .result) (back h)
+gathers h floats query =
+    let o = leaf-looked (leaf h) in
+    let e = entry o in
+    subst (λ (n : ℕ). Gathers (passed (leaf h)) (vectors (leaf h)) n (e .args .hits) (foundPart (e .args .shape) (e .args .work .now)) (h .add-hits .result) (back h)) (sym (most-is (e .args .shape) (e .args .counts) (storeOf floats (e .args .numbers .now) (e .args .hashes .now)) query (e .args .wanted)))
+    (subst (λ (heap : List ℕ). Gathers (passed (leaf h)) (vectors (leaf h)) (most (e .args .wanted) (e .args .counts)) (e .args .hits) heap (h .add-hits .result) (back h)) (lent-found o) (h .add-hits .ensures))
+
+-- an inner node's children
+abbrev children : tie.After-shown2 → List ℕ
+children i = part (i .shown2 .given .0 .0 .start) (i .shown2 .given .0 .0 .count) (entry (inner-looked i) .args .numbers .now)
+
+-- ---- the needs
+
+found-at-requires : tie.Need-found-at-requires
+found-at-requires c κs = search needs
+
+work-size-requires : tie.Need-work-size-requires
+work-size-requires c κs = search needs
+
+look-at-requires : tie.Need-look-at-requires
+look-at-requires c κs = search needs
+
+enum-told : tie.Need-enum-told
+enum-told c = search needs
+
+enum-known-shown : tie.Need-enum-known-shown
+enum-known-shown c = search needs
+
+mul-add-hits : tie.Need-mul-add-hits
+mul-add-hits c = search needs
+
+sub-add-hits : tie.Need-sub-add-hits
+sub-add-hits c = search needs
+
+part-add-hits-start : tie.Need-part-add-hits-start
+part-add-hits-start c = search needs
+
+part-add-hits-end : tie.Need-part-add-hits-end
+part-add-hits-end c = search needs
+
+add-hits-requires : tie.Need-add-hits-requires
+add-hits-requires c κs =
+    let l = c .before .before in
+    let o = leaf-looked l in
+    let e = entry o in
+    let block = l .shown .given .0 .0 in
+    record {
+      within = e .pre .within;
+      numbers-size = e .pre .numbers-size;
+      hashes-size = e .pre .hashes-size;
+      hits =
+          subst (λ (found : List ℕ). AddHits (e .args .numbers .now) found (e .args .hits) (most (e .args .wanted) (e .args .counts)) (block .start) (block .count)) (sym (lent-found o))
+          (record {
+            block = shows o (look.Leaf block) (l .shown .given .1) .0;
+            few = e .pre .few;
+            room = omega (arith, few-hits (e .args .shape) (e .args .counts) (e .args .wanted) (e .pre .within .vectors) (e .pre .within .entries), length-found (e .args .shape) (e .args .work .now) (e .pre .within .limits) (e .pre .work-size));
+          });
+    }
+
+enum-known-shown-2 : tie.Need-enum-known-shown-2
+enum-known-shown-2 c = search needs
+
+mark-children-requires : tie.Need-mark-children-requires
+mark-children-requires c κs =
+    let i = c .before .before in
+    let e = entry (inner-looked i) in
+    record { within = e .pre .within; work-size = e .pre .work-size; block = shows (inner-looked i) (look.Inner (i .shown2 .given .0 .0)) (i .shown2 .given .1) .0 }
+
+returns : tie.Need-returns
+returns c =
+    let o = c .before .before in
+    let e = entry o in
+    record {
+      gives = λ floats query key p n.
+          subst (λ (st : State). NotesState (e .args .shape) (e .args .counts) (hit e floats query) st added.Damaged (e .args .work .now))
+          (sym (ap (λ (sh : Shown). give (keyed key (view e floats query)) sh p) (shows o look.Damaged (c .enum-told .given .1) floats query) ∙ give-damage (keyed key (view e floats query)) p)) tt;
+      works = works-refl (e .args .shape) (e .args .work .now);
+    }
+
+same-length : tie.Need-same-length
+same-length c = search needs
+
+returns-2 : tie.Need-returns-2
+returns-2 c =
+    let h = c .before .before in
+    let l = leaf h in
+    let e = entry (leaf-looked l) in
+    subst (OpensNode (e .args .shape) (e .args .counts) (e .args .numbers .now) (e .args .hashes .now) (e .args .hits) (e .args .wanted) (e .args .i) (e .args .work .now) (h .add-hits .result)) (sym (after-is h))
+    (record {
+      gives = λ floats query key p n.
+          subst (λ (sh : Shown). NotesState (e .args .shape) (e .args .counts) (hit e floats query) (give (keyed key (view e floats query)) sh p) (h .add-hits .result) (sets (e .args .work .now) (foundAt (e .args .shape)) (back h)))
+          (sym (list-is l floats query))
+          (leaf-gives (e .args .shape) (e .args .counts) (hit e floats query) (keyed key (view e floats query)) p (e .args .work .now) (back h) (e .args .hits) (passed l) (vectors l) (h .add-hits .result)
+          (e .pre .within) (vectors-held (e .args .wanted) (e .args .counts) (read-entries e) (list l)) (back-length h) (gathers h floats query) n);
+      works = works-found (e .args .shape) (e .args .counts) (λ x. x) (e .args .work .now) (back h) (e .pre .within .limits) (e .pre .work-size) (back-length h);
+    })
+
+same-length-2 : tie.Need-same-length-2
+same-length-2 c = search needs
+
+returns-3 : tie.Need-returns-3
+returns-3 c =
+    let m = c .before .before in
+    let i = inner m in
+    let o = inner-looked i in
+    let e = entry o in
+    let marked = m .mark-children .ensures in
+    record {
+      gives = λ floats query key p n.
+          let store = storeOf floats (e .args .numbers .now) (e .args .hashes .now) in
+          subst (λ (sh : Shown). NotesState (e .args .shape) (e .args .counts) (hit e floats query) (give (keyed key (view e floats query)) sh p) (m .mark-children .result) (m .mark-children .last .1 .1 .1 .0))
+          (sym (shows o (look.Inner (i .shown2 .given .0 .0)) (i .shown2 .given .1) .1 floats query))
+          (marked .gives (hit e floats query) (keyed key (view e floats query)) store p n);
+      works = marked .works;
+    }
+
+pub open-node-spec : {M : Type 1} → statement M
+open-node-spec =
+    tie.close
+    (tie.spec
+    found-at-requires
+    work-size-requires
+    look-at-requires
+    enum-told
+    enum-known-shown
+    mul-add-hits
+    sub-add-hits
+    part-add-hits-start
+    part-add-hits-end
+    add-hits-requires
+    enum-known-shown-2
+    mark-children-requires
+    returns
+    same-length
+    returns-2
+    same-length-2
+    returns-3)

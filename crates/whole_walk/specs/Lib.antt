@@ -1,0 +1,2 @@
+-- The contracts of the pass.
+pub mod Contracts

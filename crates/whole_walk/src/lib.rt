@@ -1,0 +1,145 @@
+// The walk over a lent store that cannot be cut, whatever numbers stand in the store: where `ef_search` is at least the node count, one pass over the
+// nodes by rising number opens the nodes that the best-first walk opens, finds its hits and is damaged exactly where it is, with no queue and no
+// distances (document 01, 'Search').
+use best_first_walk::Walked;
+use best_first_walk::clear;
+use best_first_walk::found_at;
+use best_first_walk::fresh_child;
+use leaf_hits::Added;
+use leaf_hits::add_hits;
+use store::Counts;
+use store::Shape;
+use store::wide;
+use walk::Wanted;
+use walk::look::Block;
+use walk::look::Look;
+use walk::look::look_at;
+ghost use Rattle.lists.specs.Lists.{part};
+ghost use Rattle.whole_walk.specs.Contracts.{RootLent, MarksRoot, ChildrenLent, MarksChildren, OpenLent, OpensNode, PassLent, WalksAny};
+
+// Marks the root alone.
+fn mark_root(shape: Shape, counts: Counts, work: &mut [u32])
+    requires { ⌜ RootLent shape counts (now work) ⌝ }
+    ensures { λ _. ⌜ MarksRoot shape counts (now (work .entry)) (now (work .exit)) ⌝ }
+{
+    let start = shape.marks_at();
+    let end = start + counts.nodes;
+    clear(&mut work[start..end]);
+    work[start] = 1;
+}
+
+// Marks the children of an inner node; the hits stay. A child that is not fresh is damage.
+fn mark_children(
+    shape: Shape,
+    counts: Counts,
+    numbers: &[u32],
+    work: &mut [u32],
+    hits: usize,
+    parent: usize,
+    children: Block,
+) -> Added
+    requires { ⌜ ChildrenLent shape counts (now numbers) (now work) (children .start) (children .count) ⌝ }
+    ensures { λ r. ⌜ MarksChildren shape counts hits parent (part (children .start) (children .count) (now (numbers .entry))) (now (work .entry)) r (now (work .exit)) ⌝ }
+{
+    let nodes = counts.nodes;
+    let marks_at = shape.marks_at();
+    let start = children.start;
+    let count = children.count;
+    let mut j = 0;
+    let end: Added;
+    loop {
+        if j == count {
+            end = Added::Hits(hits);
+            break;
+        }
+        let child = wide(numbers[start + j]);
+        if !fresh_child(work, marks_at, nodes, parent, child) {
+            end = Added::Damaged;
+            break;
+        }
+        let at = marks_at + child;
+        work[at] = 1;
+        j += 1;
+    }
+    end
+}
+
+// Opens node i: the hits after those of a leaf, or the children of an inner node are marked, or damage.
+fn open_node(
+    shape: Shape,
+    counts: Counts,
+    numbers: &[u32],
+    hashes: &[u64],
+    work: &mut [u32],
+    hits: usize,
+    wanted: Wanted,
+    i: usize,
+) -> Added
+    requires { ⌜ OpenLent shape counts (now numbers) (now hashes) (now work) hits wanted i ⌝ }
+    ensures { λ r. ⌜ OpensNode shape counts (now (numbers .entry)) (now (hashes .entry)) hits wanted i (now (work .entry)) r (now (work .exit)) ⌝ }
+{
+    let found_at = found_at(shape);
+    let found_end = shape.work_size();
+    let shown = look_at(shape, counts, numbers, hashes, wanted, i);
+    match shown {
+        Look::Damaged => Added::Damaged,
+        Look::Leaf(list) => add_hits(
+            shape,
+            counts,
+            numbers,
+            hashes,
+            &mut work[found_at..found_end],
+            hits,
+            wanted,
+            list,
+        ),
+        Look::Inner(children) => mark_children(shape, counts, numbers, work, hits, i, children),
+    }
+}
+
+// The walk: every marked node is opened, by rising number. A child is above its parent, so that it is marked before the pass comes to it.
+pub fn whole_walk(
+    shape: Shape,
+    counts: Counts,
+    numbers: &[u32],
+    hashes: &[u64],
+    work: &mut [u32],
+    wanted: Wanted,
+) -> Walked
+    requires { ⌜ PassLent shape counts (now numbers) (now hashes) (now work) ⌝ }
+    ensures { λ r. ⌜ WalksAny shape counts (now (numbers .entry)) (now (hashes .entry)) wanted (now (work .entry)) r (now (work .exit)) ⌝ }
+{
+    let nodes = counts.nodes;
+    let marks_at = shape.marks_at();
+    mark_root(shape, counts, work);
+    let mut i = 0;
+    let mut opened = 0;
+    let mut hits = 0;
+    let end: Walked;
+    'walk: loop {
+        if i == nodes {
+            end = Walked::Ended {
+                hits,
+                opened,
+                whole: true,
+            };
+            break 'walk;
+        }
+        if work[marks_at + i] == 0 {
+            i += 1;
+        } else {
+            opened += 1;
+            match open_node(shape, counts, numbers, hashes, work, hits, wanted, i) {
+                Added::Damaged => {
+                    end = Walked::Damaged;
+                    break 'walk;
+                }
+                Added::Hits(total) => {
+                    hits = total;
+                    i += 1;
+                }
+            }
+        }
+    }
+    end
+}
