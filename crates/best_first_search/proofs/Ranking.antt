@@ -1,38 +1,41 @@
--- From the vectors found to the first k of their hits: a bound from a sample, the hits within it, and the first k of those. Assumes nothing.
-use Prim.Native.Nat.{ℕ, _+_, _-_, _*_, _/_, _^_, _≤_, _<_}
+-- From the vectors found to the first k of their hits: hits are measured, those that come after k documents are left out, and more are measured. Assumes
+-- nothing.
+use Prim.Native.Nat.{ℕ, _+_, _-_, _*_, _/_, _^_, _≤_, _<_, min}
 use native.Mathlib.Omega.{arith}
-use mathlib.Core.Path.{_≡_, refl, sym, ap, _∙_, subst}
+use mathlib.Core.Path.{_≡_, refl, sym, ap, ap₂, _∙_, subst}
 use mathlib.Core.Logic.{_⊎_, inl, inr}
-use mathlib.Core.Bool.{Bool}
-use mathlib.Core.List.{List, [], _∷_, _++_, map, map-append, append-assoc, append-nil, List·Memᴰ, List·Memᴰ·not-nil, List·Memᴰ·cases-cons, List·Memᴰ·append-cases}
-use lib.Dec.{ltb}
+use mathlib.Core.Bool.{Bool, true, false, not, false≢true}
+use mathlib.Core.List.{List, [], _∷_, _++_, map, map-append, append-assoc, append-nil, List·Memᴰ, List·Memᴰ·head, List·Memᴰ·not-nil, List·Memᴰ·cases-cons, List·Memᴰ·append-cases}
 use lib.Ieee.{Float}
 use lib.ListN.{length, take, drop, length-append, length-map}
 use lib.Seq.{sets}
+use borrow.Author.Tests.{leb-false}
 use Rattle.lists.specs.Lists.{part, keep}
-use Rattle.lists.specs.Parts.{length-part, part-append-parts, drop-more, part-behind}
-use Rattle.lists.specs.Counting.{keep-append}
+use Rattle.lists.specs.Parts.{length-part, part-append-parts, drop-more}
+use Rattle.lists.specs.Counting.{Memᴰ-keep}
+use Rattle.lists.specs.Tests.{which}
 use Rattle.record_queue.specs.declared.Record.{Record}
-use Rattle.record_queue.specs.Sorted.{sort, Sorted}
-use Rattle.record_queue.specs.SortedLaws.{sort-sorted}
+use Rattle.record_queue.specs.Sorted.{sort, insert, Sorted}
+use Rattle.record_queue.specs.SortedLaws.{sort-nil, sort-cons, sort-snoc, sort-sorted, sort-of-sorted, sort-append-comm, sort-append-cong}
 use Rattle.record_queue.specs.Records.{value, records, Heap}
-use Rattle.record_queue.specs.RecordsLaws.{records-zero, heap-none}
-use Rattle.record_queue.specs.Queue.{Popped}
+use Rattle.record_queue.specs.RecordsLaws.{records-zero}
 use Rattle.store.specs.declared.Counts.{Counts}
 use Rattle.walk.specs.Answer.{documentOf, distanceOf, dropAfter, dropRepeats}
 use Rattle.walk.specs.AnswerLaws.{drop-nil, drop-same, drop-other}
-use Rattle.lists.specs.Tests.{allPass}
 use Rattle.hit_queue.specs.declared.answer.Taken.{Taken}
-use Rattle.hit_queue.specs.Contracts.{within, Measure, Measured, Takes}
-use Rattle.hit_queue.specs.QueueLaws.{document-popped, key-is}
-use Rattle.best_first_search.specs.Ranks.{firstHits, Enough, Bounds, Sampled, Ranked, Firsts}
-use Rattle.best_first_search.proofs.Runs.{lastOf, after-append, runs-more, sort-keep, first-within, sorted-before, runs-within}
+use Rattle.hit_queue.specs.Contracts.{within, hitsFrom, Measure, Measured, PoppedBehind, QueuedAgain, Takes}
+use Rattle.hit_queue.specs.QueueLaws.{repeats-after, document-popped, key-is, rest-same, measure-rest, numbers-same, measure-fewer}
+use Rattle.best_first_search.specs.declared.rank.Kept.{Kept}
+use Rattle.best_first_search.specs.Ranks.{firstHits, Enough, Front, PopsDocuments, KeepsFirst, Ranked, Firsts}
+use Rattle.best_first_search.proofs.Runs.{lastOf, after-append, without, sorted-before, sorted-front, sort-split}
 
 -- ---- hits are popped until there are k documents
 
+-- what was popped is a front of the hits in order, stands behind what is left, and has as many runs as were counted
 pub record Popping (heap₀ : List ℕ) (count k : ℕ) (heap : List ℕ) (hits left last key : ℕ) : Type 0 where
   pub taken : List ℕ
   pub split : sort (records 3 count heap₀) ≡ taken ++ sort (records 3 left heap)
+  pub placed : sort (hitsFrom left (count - left) heap) ≡ sort taken
   pub low : (y : ℕ) → List·Memᴰ y taken → y / 2 ^ 64 ≤ key
   pub runs : length (dropAfter (2 ^ 32) taken) ≡ hits
   pub ends : lastOf (2 ^ 32) taken ≡ last
@@ -51,6 +54,7 @@ module _ (heap₀ : List ℕ) (count k : ℕ) where
   popping-start queue = record {
     taken = [];
     split = refl;
+    placed = ap sort (ap (λ (n : ℕ). hitsFrom count n heap₀) (let t : count - count ≡ 0 = omega arith in t) ∙ records-zero 3 (drop (count * 3) heap₀));
     low = λ y m. absurd (List·Memᴰ·not-nil m);
     runs = ap length (drop-nil (2 ^ 32));
     ends = refl;
@@ -61,7 +65,7 @@ module _ (heap₀ : List ℕ) (count k : ℕ) where
     size = refl;
   }
 
-  module _ (heap heap′ : List ℕ) (hits left last key : ℕ) (r : Record) (p : Popping heap₀ count k heap hits left last key) (q : Popped 3 left heap r heap′)
+  module _ (heap heap′ : List ℕ) (hits left last key : ℕ) (r : Record) (p : Popping heap₀ count k heap hits left last key) (q : PoppedBehind left heap r heap′)
       (some : 0 < left) (fits : r .rest < 2 ^ 64) where
     abbrev rest : List ℕ
     rest = sort (records 3 (left - 1) heap′)
@@ -74,7 +78,7 @@ module _ (heap₀ : List ℕ) (count k : ℕ) where
       where
         go : List·Memᴰ y (p .taken) ⊎ List·Memᴰ y (value r ∷ []) → y / 2 ^ 64 ≤ r .key
         go (inl i) =
-            let le : y ≤ value r = sorted-before (p .taken) (value r) rest (subst Sorted popped (sort-sorted (records 3 count heap₀))) y i in
+            let le : y ≤ value r = sorted-before (p .taken) (value r ∷ rest) (subst Sorted popped (sort-sorted (records 3 count heap₀))) y i (value r) (List·Memᴰ·head refl) in
             omega (arith, le, key-is r fits)
         go (inr i) = go′ (List·Memᴰ·cases-cons i)
           where
@@ -87,13 +91,15 @@ module _ (heap₀ : List ℕ) (count k : ℕ) where
     popping-next hits′ last′ n e most = record {
       taken = p .taken ++ (value r ∷ []);
       split = popped ∙ sym (append-assoc (p .taken) (value r ∷ []) rest);
+      placed = ap sort (ap (λ (m : ℕ). hitsFrom (left - 1) m heap′) (let t : count - (left - 1) ≡ count - left + 1 = omega (arith, p .few, some) in t) ∙ q .placed (count - left))
+          ∙ sort-cons (value r) (hitsFrom left (count - left) heap) ∙ ap (insert (value r)) (p .placed) ∙ sym (sort-snoc (p .taken) (value r));
       low = lower;
       runs = ap length (after-append (2 ^ 32) (p .taken) (value r ∷ []) ∙ ap (λ (d : ℕ). dropAfter (2 ^ 32) (p .taken) ++ dropAfter d (value r ∷ [])) (p .ends))
           ∙ length-append (dropAfter (2 ^ 32) (p .taken)) (dropAfter last (value r ∷ [])) ∙ (let t : length (dropAfter (2 ^ 32) (p .taken)) + length (dropAfter last (value r ∷ [])) ≡ hits′ = omega (arith, n, p .runs) in t);
       ends = last-snoc (2 ^ 32) (p .taken) (value r) ∙ e;
       most = most;
       few = omega (arith, p .few);
-      queue = q .heap;
+      queue = q .queue;
       behind = drop-more (left * 3) (count * 3) heap′ heap (omega (arith, p .few)) (q .behind) ∙ p .behind;
       size = q .size ∙ p .size;
     }
@@ -111,91 +117,194 @@ module _ (heap₀ : List ℕ) (count k : ℕ) where
         (omega (arith, ap length (drop-other last (value r) [] other ∙ ap {B = List ℕ} (λ l. value r ∷ l) (drop-nil (documentOf (value r)))))) (document-popped r fits)
         (omega (arith, p .most, more))
 
-  -- there are k, or none is left
-  pub bounds-enough : (heap : List ℕ) (hits left last key : ℕ) → hits ≡ k → Popping heap₀ count k heap hits left last key → Bounds heap₀ count k key heap
-  bounds-enough heap hits left last key e p = record {
-    enough = inr (subst (λ (l : List ℕ). k ≤ length (dropRepeats (keep (within key) l))) (sym (p .split))
-        (runs-within key k (p .taken) (sort (records 3 left heap)) (p .low) (omega (arith, e, p .runs))));
-    behind = p .behind;
-    size = p .size;
-  }
+  module _ (heap : List ℕ) (hits left last key : ℕ) (p : Popping heap₀ count k heap hits left last key) where
+    -- what stands behind is what was popped, in order
+    front-is : (kept : ℕ) → kept ≡ count - left → sort (hitsFrom (count - kept) kept heap) ≡ p .taken
+    front-is kept e =
+        ap sort (ap₂ (λ (place n : ℕ). hitsFrom place n heap) (let t : count - kept ≡ left = omega (arith, e, p .few) in t) e) ∙ p .placed
+        ∙ sort-of-sorted (p .taken) (sorted-front (p .taken) (sort (records 3 left heap)) (subst Sorted (p .split) (sort-sorted (records 3 count heap₀))))
 
-  pub bounds-none : (heap : List ℕ) (hits left last key : ℕ) → Popping heap₀ count k heap hits left last key → Bounds heap₀ count k (2 ^ 32 - 1) heap
-  bounds-none heap hits left last key p = record { enough = inl refl; behind = p .behind; size = p .size }
+    -- there are k, or none is left
+    pub pops-enough : hits ≡ k → PopsDocuments heap₀ count k (record { count = count - left; bound = key }) heap
+    pops-enough e = record {
+      few = omega arith;
+      front = subst (Front k key (sort (records 3 count heap₀))) (sym (front-is (count - left) refl)) (record {
+        rest = sort (records 3 left heap);
+        split = p .split;
+        enough = inr (record { documents = omega (arith, e, p .runs, ap length (repeats-after (p .taken))); low = p .low });
+      });
+      behind = p .behind;
+      size = p .size;
+    }
 
--- ---- a bound from a sample
+    pub pops-all : left ≡ 0 → PopsDocuments heap₀ count k (record { count = count; bound = 2 ^ 32 - 1 }) heap
+    pops-all none = record {
+      few = omega arith;
+      front = subst (Front k (2 ^ 32 - 1) (sort (records 3 count heap₀))) (sym (front-is count (omega (arith, none)))) (record {
+        rest = sort (records 3 left heap);
+        split = p .split;
+        enough = inl (refl, ap (λ (n : ℕ). sort (records 3 n heap)) none ∙ ap sort (records-zero 3 heap) ∙ sort-nil);
+      });
+      behind = p .behind;
+      size = p .size;
+    }
 
--- what a queue holds that was made of hits
-measured-sort : (bound total : ℕ) (hits heap heap′ : List ℕ) → Measured bound hits 0 heap total heap′ → sort (records 3 total heap′) ≡ sort (keep (within bound) hits)
-measured-sort bound total hits heap heap′ m =
-    m .sorted ∙ ap sort (ap (λ (l : List ℕ). keep (within bound) hits ++ l) (records-zero 3 heap) ∙ append-nil (keep (within bound) hits))
+-- and they are made the queue
+pub keeps-first : (heap heap₁ heap₂ : List ℕ) (count k : ℕ) (r : Kept) → PopsDocuments heap count k r heap₁ → QueuedAgain (count - r .count) (r .count) heap₁ heap₂
+    → KeepsFirst heap count k r heap₂
+keeps-first heap heap₁ heap₂ count k r p q = record {
+  few = p .few;
+  queue = q .queue;
+  front = subst (Front k (r .bound) (sort (records 3 count heap))) (sym (q .sorted)) (p .front);
+  behind = drop-more (r .count * 3) (count * 3) heap₂ heap₁ (omega (arith, p .few)) (q .behind) ∙ p .behind;
+  size = q .size ∙ p .size;
+}
 
-module _ (c : Counts) (h : ℕ → ℕ) (k from found : ℕ) (heap : List ℕ) (w : Measure c heap 0 from found) where
-  pub sampled-none : Sampled (map h (part from found heap)) k (2 ^ 32 - 1) from found heap heap
-  sampled-none = record { enough = inl refl; numbers = refl; size = refl }
+-- ---- hits that are left out
 
-  pub sampled : (bound total : ℕ) (heap₁ heap₂ : List ℕ) → k ≤ found / 16 → Measured (2 ^ 32 - 1) (map h (part from (8 * k) heap)) 0 heap total heap₁
-      → Bounds heap₁ total k bound heap₂ → Sampled (map h (part from found heap)) k bound from found heap heap₂
-  sampled bound total heap₁ heap₂ few m b = record {
-    enough = go (b .enough);
-    numbers = part-behind (total * 3) from found heap₂ heap (omega (arith, m .few, long, few, w .apart)) (b .behind ∙ m .behind);
-    size = b .size ∙ m .size;
-  }
+-- the hits of a queue in order, and others
+sort-beside : (queue others : List ℕ) → sort (queue ++ others) ≡ sort (sort queue ++ others)
+sort-beside queue others = sort-append-cong queue (sort queue) others others (sym (sort-of-sorted (sort queue) (sort-sorted queue))) refl
+
+module _ (k bound : ℕ) where
+  -- those past the bound, of the next ones
+  next-first : (queue next later queue′ : List ℕ) → sort queue′ ≡ sort (keep (within bound) next ++ queue) → (bound ≡ 2 ^ 32 - 1 → keep (within bound) next ≡ next)
+      → (bound ≡ 2 ^ 32 - 1) ⊎ Enough k bound (sort queue)
+      → take k (dropRepeats (sort (queue′ ++ later))) ≡ take k (dropRepeats (sort (queue ++ (next ++ later))))
+  next-first queue next later queue′ is all e = ap (λ (l : List ℕ). take k (dropRepeats l)) same ∙ go e
     where
-      first : List ℕ
-      first = map h (part from (8 * k) heap)
-
-      later : List ℕ
-      later = map h (part (from + 8 * k) (found - 8 * k) heap)
-
-      long : length first ≡ 8 * k
-      long = length-map (part from (8 * k) heap) h ∙ length-part from (8 * k) heap (let t : from + 8 * k ≤ length heap = omega (arith, w .inside, few) in t)
-
-      all : first ++ later ≡ map h (part from found heap)
-      all =
-          sym (map-append h (part from (8 * k) heap) (part (from + 8 * k) (found - 8 * k) heap))
-          ∙ ap (map h) (part-append-parts from (8 * k) (found - 8 * k) heap ∙ ap (λ (n : ℕ). part from n heap) (let t : 8 * k + (found - 8 * k) ≡ found = omega (arith, few) in t))
-
       p : ℕ → Bool
       p = within bound
 
-      go : Enough k bound (sort (records 3 total heap₁)) → Enough k bound (sort (map h (part from found heap)))
-      go (inl e) = inl e
-      go (inr n) =
-          let here : k ≤ length (dropRepeats (sort (keep p first))) =
-          subst (λ (l : List ℕ). k ≤ length (dropRepeats l)) (ap (keep p) (measured-sort (2 ^ 32 - 1) total first heap heap₁ m ∙ ap sort (m .all refl)) ∙ sym (sort-keep p first)) n in
-          let whole : sort (keep p first ++ keep p later) ≡ keep p (sort (map h (part from found heap))) =
-          ap sort (sym (keep-append p first later)) ∙ ap (λ (l : List ℕ). sort (keep p l)) all ∙ sort-keep p (map h (part from found heap)) in
-          inr (omega (arith, here, runs-more (keep p first) (keep p later), ap (λ (l : List ℕ). length (dropRepeats l)) whole))
+      past : List ℕ
+      past = keep (λ x. not (p x)) next
 
-  -- the numbers are still there
-  pub measure-again : (bound : ℕ) (heap₁ : List ℕ) → Sampled (map h (part from found heap)) k bound from found heap heap₁ → Measure c heap₁ 0 from found
-  measure-again bound heap₁ b = record {
-    queue = heap-none 3 heap₁;
-    held = ap (allPass (λ x. ltb x (c .vectors))) (b .numbers) ∙ w .held;
-    inside = omega (arith, w .inside, b .size);
-    apart = w .apart;
-    room = omega (arith, w .room, b .size);
-  }
+      near : List ℕ
+      near = keep p next ++ later
 
-  -- the hits within the bound have the first k
-  pub ranked-within : (bound total : ℕ) (heap₁ heap₂ : List ℕ) → Sampled (map h (part from found heap)) k bound from found heap heap₁
-      → Measured bound (map h (part from found heap₁)) 0 heap₁ total heap₂ → Ranked (map h (part from found heap)) k total heap₂
-  ranked-within bound total heap₁ heap₂ b m = record {
-    room = omega (arith, m .few, m .size, many, b .size, w .room);
-    queue = m .queue;
-    first = ap (λ (l : List ℕ). take k (dropRepeats l)) (measured-sort bound total (map h (part from found heap₁)) heap₁ heap₂ m ∙ ap (λ (l : List ℕ). sort (keep (within bound) (map h l))) (b .numbers)) ∙ go (b .enough);
-  }
+      same : sort (queue′ ++ later) ≡ sort (queue ++ near)
+      same =
+          sort-append-cong queue′ (queue ++ keep p next) later later (is ∙ sort-append-comm (keep p next) queue) refl ∙ ap sort (append-assoc queue (keep p next) later)
+
+      whole : sort (queue ++ (next ++ later)) ≡ sort (sort queue ++ (past ++ near))
+      whole =
+          sort-append-cong queue (sort queue) (next ++ later) (past ++ near) (sym (sort-of-sorted (sort queue) (sort-sorted queue)))
+          (sort-append-cong next (past ++ keep p next) later later (sort-split p next) refl ∙ ap sort (append-assoc past (keep p next) later))
+
+      far : (b : ℕ) → List·Memᴰ b past → bound < b / 2 ^ 64
+      far b m = go′ (which (p b)) (Memᴰ-keep (λ x. not (p x)) b next m .0)
+        where
+          go′ : (p b ≡ true) ⊎ (p b ≡ false) → not (p b) ≡ true → bound < b / 2 ^ 64
+          go′ (inl t) n = absurd (false≢true (sym (ap not t) ∙ n))
+          go′ (inr f) n = leb-false (b / 2 ^ 64) bound f
+
+      go : (bound ≡ 2 ^ 32 - 1) ⊎ Enough k bound (sort queue) → take k (dropRepeats (sort (queue ++ near))) ≡ take k (dropRepeats (sort (queue ++ (next ++ later))))
+      go (inl top) = ap (λ (l : List ℕ). take k (dropRepeats (sort (queue ++ (l ++ later))))) (all top)
+      go (inr enough) =
+          ap (λ (l : List ℕ). take k (dropRepeats l)) (sort-beside queue near)
+          ∙ sym (ap (λ (l : List ℕ). take k (dropRepeats l)) whole
+          ∙ without k (sort queue) (subst (λ (l : List ℕ). k ≤ length (dropRepeats l)) (sym (sort-of-sorted (sort queue) (sort-sorted queue))) (enough .documents)) past near
+          (λ y m b n. let t : y ≤ b = omega (arith, enough .low y m, far b n) in t))
+
+  -- and those behind a front of the queue
+  front-first : (queue queue′ others : List ℕ) → Front k bound (sort queue) (sort queue′)
+      → take k (dropRepeats (sort (queue′ ++ others))) ≡ take k (dropRepeats (sort (queue ++ others)))
+  front-first queue queue′ others f = ap (λ (l : List ℕ). take k (dropRepeats l)) (sort-beside queue′ others) ∙ go (f .enough) ∙ sym (ap (λ (l : List ℕ). take k (dropRepeats l)) whole)
     where
-      hits : List ℕ
-      hits = map h (part from found heap)
+      front : List ℕ
+      front = sort queue′
 
-      many : length (map h (part from found heap₁)) ≡ found
-      many = length-map (part from found heap₁) h ∙ length-part from found heap₁ (let t : from + found ≤ length heap₁ = omega (arith, w .inside, b .size) in t)
+      whole : sort (queue ++ others) ≡ sort (front ++ (f .rest ++ others))
+      whole = sort-beside queue others ∙ ap (λ (l : List ℕ). sort (l ++ others)) (f .split) ∙ ap sort (append-assoc front (f .rest) others)
 
-      go : Enough k bound (sort hits) → take k (dropRepeats (sort (keep (within bound) hits))) ≡ firstHits k hits
-      go (inl e) = ap (λ (l : List ℕ). take k (dropRepeats (sort l))) (ap (λ (l : List ℕ). keep (within bound) (map h l)) (sym (b .numbers)) ∙ m .all e ∙ ap (map h) (b .numbers))
-      go (inr n) = first-within bound k hits (subst (λ (l : List ℕ). k ≤ length (dropRepeats l)) (sym (sort-keep (within bound) hits)) n)
+      go : ((bound ≡ 2 ^ 32 - 1) × (f .rest ≡ [])) ⊎ Enough k bound front
+          → take k (dropRepeats (sort (front ++ others))) ≡ take k (dropRepeats (sort (front ++ (f .rest ++ others))))
+      go (inl none) = ap (λ (l : List ℕ). take k (dropRepeats (sort (front ++ (l ++ others))))) (sym (none .1))
+      go (inr enough) =
+          sym (without k front (subst (λ (l : List ℕ). k ≤ length (dropRepeats l)) (sym (sort-of-sorted front (sort-sorted queue′))) (enough .documents)) (f .rest) others
+          (sorted-before front (f .rest) (subst Sorted (f .split) (sort-sorted queue))))
+
+-- ---- the vectors found, part after part
+
+-- the first k of the hits in the queue and of those still to be measured are the first k of all
+pub record Ranking (c : Counts) (h : ℕ → ℕ) (k found : ℕ) (hits heap₀ heap : List ℕ) (chunk queued bound at left : ℕ) : Type 0 where
+  pub few : left ≤ found
+  pub some : min found 1 ≤ chunk
+  pub measure : Measure c heap queued at left
+  pub first : take k (dropRepeats (sort (records 3 queued heap ++ map h (part at left heap)))) ≡ firstHits k hits
+  pub enough : (bound ≡ 2 ^ 32 - 1) ⊎ Enough k bound (sort (records 3 queued heap))
+  pub size : length heap ≡ length heap₀
+
+module _ (c : Counts) (h : ℕ → ℕ) (k found : ℕ) where
+  pub ranking-start : (from chunk : ℕ) (heap : List ℕ) → min found 1 ≤ chunk → Measure c heap 0 from found
+      → Ranking c h k found (map h (part from found heap)) heap heap chunk 0 (2 ^ 32 - 1) from found
+  ranking-start from chunk heap some w = record {
+    few = omega arith;
+    some = some;
+    measure = w;
+    first = ap (λ (l : List ℕ). firstHits k (l ++ map h (part from found heap))) (records-zero 3 heap);
+    enough = inl refl;
+    size = refl;
+  }
+
+  module _ (hits heap₀ heap heap₁ : List ℕ) (chunk queued bound at left n total : ℕ) (s : Ranking c h k found hits heap₀ heap chunk queued bound at left) (le : n ≤ left)
+      (m : Measured bound (map h (part at n heap)) queued heap total heap₁) where
+    -- the next n were measured
+    long : length (map h (part at n heap)) ≡ n
+    long = length-map (part at n heap) h ∙ length-part at n heap (let t : at + n ≤ length heap = omega (arith, s .measure .inside, le) in t)
+
+    pub next-room : total * 3 ≤ length heap₁
+    next-room = omega (arith, m .few, long, s .measure .room, le, m .size)
+
+    next-measure : Measure c heap₁ total (at + n) (left - n)
+    next-measure = measure-rest c bound queued total at left n heap heap₁ (map h (part at n heap)) (s .measure) long le m
+
+    measured-first : take k (dropRepeats (sort (records 3 total heap₁ ++ map h (part (at + n) (left - n) heap₁)))) ≡ firstHits k hits
+    measured-first =
+        next-first k bound (records 3 queued heap) (map h (part at n heap)) later (records 3 total heap₁) (m .sorted) (m .all) (s .enough)
+        ∙ ap (λ (l : List ℕ). take k (dropRepeats (sort (records 3 queued heap ++ l)))) parts ∙ s .first
+      where
+        later : List ℕ
+        later = map h (part (at + n) (left - n) heap₁)
+
+        parts : map h (part at n heap) ++ later ≡ map h (part at left heap)
+        parts =
+            ap (λ (l : List ℕ). map h (part at n heap) ++ map h l) (rest-same c bound queued total at left n heap heap₁ (map h (part at n heap)) (s .measure) long le m)
+            ∙ sym (map-append h (part at n heap) (part (at + n) (left - n) heap))
+            ∙ ap (map h) (part-append-parts at n (left - n) heap ∙ ap (λ (i : ℕ). part at i heap) (let t : n + (left - n) ≡ left = omega (arith, le) in t))
+
+    -- and the first of the queue kept
+    pub ranking-next : (chunk′ : ℕ) (r : Kept) (heap₂ : List ℕ) → min found 1 ≤ chunk′ → n < left → KeepsFirst heap₁ total k r heap₂
+        → Ranking c h k found hits heap₀ heap₂ chunk′ (r .count) (r .bound) (at + n) (left - n)
+    ranking-next chunk′ r heap₂ some less kept = record {
+      few = omega (arith, s .few);
+      some = some;
+      measure = measure-fewer c total (r .count) (at + n) (left - n) heap₁ heap₂ next-measure more (kept .few) (kept .behind) (kept .size) (kept .queue);
+      first = front-first k (r .bound) (records 3 total heap₁) (records 3 (r .count) heap₂) (map h (part (at + n) (left - n) heap₂)) (kept .front)
+          ∙ ap (λ (l : List ℕ). take k (dropRepeats (sort (records 3 total heap₁ ++ map h l))))
+          (numbers-same c total (r .count) (at + n) (left - n) heap₁ heap₂ next-measure more (kept .few) (kept .behind) (kept .size))
+          ∙ measured-first;
+      enough = go (kept .front .enough);
+      size = kept .size ∙ m .size ∙ s .size;
+    }
+      where
+        more : 0 < left - n
+        more = omega (arith, less)
+
+        go : ((r .bound ≡ 2 ^ 32 - 1) × (kept .front .rest ≡ [])) ⊎ Enough k (r .bound) (sort (records 3 (r .count) heap₂))
+            → (r .bound ≡ 2 ^ 32 - 1) ⊎ Enough k (r .bound) (sort (records 3 (r .count) heap₂))
+        go (inl none) = inl (none .0)
+        go (inr enough) = inr enough
+
+    -- or all were measured
+    pub ranked : n ≡ left → Ranked hits k total heap₁
+    ranked all = record {
+      room = next-room;
+      queue = m .queue;
+      first = ap (λ (l : List ℕ). take k (dropRepeats (sort l)))
+          (sym (append-nil (records 3 total heap₁)) ∙ ap (λ (i : ℕ). records 3 total heap₁ ++ map h (part (at + n) i heap₁)) (let t : 0 ≡ left - n = omega (arith, all) in t))
+          ∙ measured-first;
+    }
 
 -- and the first k were taken
 pub firsts : (hits heap heap′ ids ids′ : List ℕ) (distances distances′ : List Float) (k total : ℕ) (t : Taken) → Ranked hits k total heap

@@ -1,24 +1,24 @@
--- Runs of equal document ids in sorted hits: a hit more never makes them fewer, so hits behind the first k runs of some are not among the first k of all.
+-- Runs of equal document ids in sorted hits: a hit more never makes them fewer, so hits that come after k runs of some are not among the first k of all.
 -- Assumes nothing.
-use Prim.Native.Nat.{ℕ, suc, _/_, _^_, _≤_, _<_}
+use Prim.Native.Nat.{ℕ, suc, _^_, _≤_, _<_}
 use native.Mathlib.Omega.{arith}
-use mathlib.Core.Path.{_≡_, refl, sym, ap, _∙_, subst}
+use mathlib.Core.Path.{_≡_, refl, sym, ap, ap₂, _∙_, subst}
 use mathlib.Core.Logic.{_⊎_, inl, inr}
-use mathlib.Core.Bool.{Bool, true, false, false≢true}
-use mathlib.Core.List.{List, [], _∷_, _++_, List·Memᴰ, List·Memᴰ·head, List·Memᴰ·not-nil, List·Memᴰ·cases-cons, Memᴰ·append-right}
-use lib.ListN.{length, take, length-append}
+use mathlib.Core.Bool.{Bool, true, false, not}
+use mathlib.Core.List.{List, [], _∷_, _++_, List·Memᴰ, List·Memᴰ·head, List·Memᴰ·tail, List·Memᴰ·not-nil, List·Memᴰ·cases-cons, Memᴰ·append-right}
+use lib.Dec.{leb}
+use lib.ListN.{length, take}
 use lib.Seq.{take-append-le}
-use borrow.Author.Tests.{le-leb, leb-true}
+use borrow.Author.Tests.{le-leb, lt-leb, leb-true}
 use Rattle.lists.specs.Lists.{keep}
-use Rattle.lists.specs.Counting.{keep-nil, keep-pass, keep-fail, keep-append, keep-all, keep-none}
+use Rattle.lists.specs.Counting.{keep-nil, keep-pass, keep-fail, keep-append, keep-all, keep-none, Memᴰ-keep}
 use Rattle.lists.specs.Tests.{which, either}
 use Rattle.lists.specs.Partition.{perm-keep}
 use Rattle.record_queue.specs.Sorted.{sort, insert, inserts, Least, Sorted}
-use Rattle.record_queue.specs.SortedLaws.{le-or-lt, insert-le, insert-gt, inserts-nil, inserts-cons, sort-append, sort-append-comm, sort-perm, perm-sort, sort-of-sorted, sort-sorted, least-mem}
+use Rattle.record_queue.specs.SortedLaws.{le-or-lt, insert-le, insert-gt, insert-least, inserts-nil, inserts-cons, inserts-insert, sort-cons, sort-append, sort-append-comm, sort-perm, perm-sort, sort-of-sorted, sort-sorted, least-mem}
 use Rattle.record_queue.specs.RecordsLaws.{same-or-not}
 use Rattle.walk.specs.Answer.{documentOf, dropAfter, dropRepeats}
 use Rattle.walk.specs.AnswerLaws.{drop-nil, drop-same, drop-other}
-use Rattle.hit_queue.specs.Contracts.{within}
 use Rattle.hit_queue.specs.QueueLaws.{repeats-after}
 
 -- ---- runs
@@ -90,7 +90,10 @@ runs-more xs ys =
       inserts-more (2 ^ 32) ys (sort xs),
     )
 
--- ---- hits within a bound are the front of the sorted hits
+-- ---- sorting
+
+sort-middle : (xs : List ℕ) (y : ℕ) (ys : List ℕ) → sort (xs ++ (y ∷ ys)) ≡ insert y (sort (xs ++ ys))
+sort-middle xs y ys = sort-append xs (y ∷ ys) ∙ ap (inserts xs) (sort-cons y ys) ∙ inserts-insert xs y (sort ys) ∙ ap (insert y) (sym (sort-append xs ys))
 
 least-keep : (p : ℕ → Bool) (x : ℕ) (l : List ℕ) → Least x l → Least x (keep p l)
 least-keep p x [] h = subst (Least x) (sym (keep-nil p)) tt
@@ -111,57 +114,113 @@ sorted-keep p (x ∷ xs) h = go (which (p x)) (sorted-keep p xs (h .1))
 pub sort-keep : (p : ℕ → Bool) (l : List ℕ) → sort (keep p l) ≡ keep p (sort l)
 sort-keep p l = perm-sort (perm-keep p (sort-perm l)) ∙ sort-of-sorted (keep p (sort l)) (sorted-keep p (sort l) (sort-sorted l))
 
--- what is not below a hit past the bound is past it too
-past : (bound x y : ℕ) → x ≤ y → within bound x ≡ false → within bound y ≡ false
-past bound x y le f = go (which (within bound y))
-  where
-    go : (within bound y ≡ true) ⊎ (within bound y ≡ false) → within bound y ≡ false
-    go (inl t) =
-        absurd (false≢true (sym f ∙ le-leb (x / 2 ^ 64) bound (let u : y / 2 ^ 64 ≤ bound = leb-true (y / 2 ^ 64) bound t in let v : x / 2 ^ 64 ≤ bound = omega (arith, le, u) in v)))
-    go (inr f) = f
+-- ---- hits up to one of them are the front of the sorted hits
 
-pub split-within : (bound : ℕ) (l : List ℕ) → Sorted l → (rest : List ℕ) × (l ≡ keep (within bound) l ++ rest)
-split-within bound [] h = ([], sym (ap (λ (l : List ℕ). l ++ []) (keep-nil (within bound))))
-split-within bound (x ∷ xs) h = go (which (within bound x)) (split-within bound xs (h .1))
+abbrev upTo : ℕ → ℕ → Bool
+upTo b y = leb y b
+
+split-low : (b : ℕ) (l : List ℕ) → Sorted l → (rest : List ℕ) × (l ≡ keep (upTo b) l ++ rest)
+split-low b [] h = ([], sym (ap (λ (l : List ℕ). l ++ []) (keep-nil (upTo b))))
+split-low b (x ∷ xs) h = go (le-or-lt x b) (split-low b xs (h .1))
   where
-    go : (within bound x ≡ true) ⊎ (within bound x ≡ false) → ((rest : List ℕ) × (xs ≡ keep (within bound) xs ++ rest))
-        → (rest : List ℕ) × (x ∷ xs ≡ keep (within bound) (x ∷ xs) ++ rest)
-    go (inl t) r = (r .0, ap {B = List ℕ} (λ l. x ∷ l) (r .1) ∙ ap (λ (l : List ℕ). l ++ r .0) (sym (keep-pass (within bound) x xs t)))
-    go (inr f) r = (
+    go : (x ≤ b) ⊎ (b < x) → ((rest : List ℕ) × (xs ≡ keep (upTo b) xs ++ rest)) → (rest : List ℕ) × (x ∷ xs ≡ keep (upTo b) (x ∷ xs) ++ rest)
+    go (inl le) r = (r .0, ap {B = List ℕ} (λ l. x ∷ l) (r .1) ∙ ap (λ (l : List ℕ). l ++ r .0) (sym (keep-pass (upTo b) x xs (le-leb x b le))))
+    go (inr gt) r = (
       x ∷ xs,
       ap (λ (l : List ℕ). l ++ (x ∷ xs))
-          (sym (keep-fail (within bound) x xs f ∙ keep-none (within bound) xs (λ y m. past bound x y (least-mem x xs (h .0) m) f))),
+          (sym (keep-fail (upTo b) x xs (lt-leb x b gt) ∙ keep-none (upTo b) xs (λ y m. lt-leb y b (let t : b < y = omega (arith, gt, least-mem x xs (h .0) m) in t)))),
     )
 
--- so the first k of those within the bound are the first k of all, if there are k of them
-pub first-within : (bound k : ℕ) (hits : List ℕ) → k ≤ length (dropRepeats (sort (keep (within bound) hits)))
-    → take k (dropRepeats (sort (keep (within bound) hits))) ≡ take k (dropRepeats (sort hits))
-first-within bound k hits enough =
-    let s : List ℕ = sort hits in
-    let front : List ℕ = keep (within bound) s in
-    let split = split-within bound s (sort-sorted hits) in
-    let is : dropRepeats (sort (keep (within bound) hits)) ≡ dropAfter (2 ^ 32) front = ap dropRepeats (sort-keep (within bound) hits) ∙ repeats-after front in
-    let all : dropRepeats s ≡ dropAfter (2 ^ 32) front ++ dropAfter (lastOf (2 ^ 32) front) (split .0) =
-    repeats-after s ∙ ap (dropAfter (2 ^ 32)) (split .1) ∙ after-append (2 ^ 32) front (split .0) in
-    ap (take k) is ∙ sym (ap (take k) all ∙ take-append-le k (dropAfter (2 ^ 32) front) (dropAfter (lastOf (2 ^ 32) front) (split .0)) (subst (λ (l : List ℕ). k ≤ length l) is enough))
-
--- ---- what was popped of a queue comes before the rest
-
-pub sorted-before : (xs : List ℕ) (x : ℕ) (ys : List ℕ) → Sorted (xs ++ (x ∷ ys)) → (y : ℕ) → List·Memᴰ y xs → y ≤ x
-sorted-before [] x ys h y m = absurd (List·Memᴰ·not-nil m)
-sorted-before (z ∷ xs) x ys h y m = go (List·Memᴰ·cases-cons m) (sorted-before xs x ys (h .1) y)
+-- a hit that is not below a front goes in behind it
+insert-behind : (front rest : List ℕ) (b : ℕ) → Sorted (front ++ rest) → ((y : ℕ) → List·Memᴰ y front → y ≤ b) → insert b (front ++ rest) ≡ front ++ insert b rest
+insert-behind [] rest b s low = refl
+insert-behind (x ∷ xs) rest b s low = go (le-or-lt b x) (insert-behind xs rest b (s .1) (λ y m. low y (List·Memᴰ·tail m)))
   where
-    go : (y ≡ z) ⊎ List·Memᴰ y xs → (List·Memᴰ y xs → y ≤ x) → y ≤ x
-    go (inl e) rest = subst (λ (n : ℕ). n ≤ x) (sym e) (least-mem z (xs ++ (x ∷ ys)) (h .0) (Memᴰ·append-right xs (List·Memᴰ·head refl)))
+    all : List ℕ
+    all = xs ++ rest
+
+    go : (b ≤ x) ⊎ (x < b) → insert b all ≡ xs ++ insert b rest → insert b (x ∷ all) ≡ x ∷ (xs ++ insert b rest)
+    go (inl le) behind =
+        let same : b ≡ x = omega (arith, le, low x (List·Memᴰ·head refl)) in
+        insert-le b x all le ∙ ap (λ (n : ℕ). n ∷ x ∷ all) same
+        ∙ ap {B = List ℕ} (λ l. x ∷ l) (sym (ap (λ (n : ℕ). insert n all) same ∙ insert-least x all (s .0)) ∙ behind)
+    go (inr gt) behind = insert-gt b x all gt ∙ ap {B = List ℕ} (λ l. x ∷ l) behind
+
+-- the first k of a front with k runs are those of the whole
+front-first : (k : ℕ) (front rest : List ℕ) → k ≤ length (dropRepeats front) → take k (dropRepeats (front ++ rest)) ≡ take k (dropRepeats front)
+front-first k front rest enough =
+    let more : List ℕ = dropAfter (lastOf (2 ^ 32) front) rest in
+    ap (take k) (repeats-after (front ++ rest) ∙ after-append (2 ^ 32) front rest)
+    ∙ take-append-le k (dropAfter (2 ^ 32) front) more (subst (λ (l : List ℕ). k ≤ length l) (repeats-after front) enough)
+    ∙ ap (take k) (sym (repeats-after front))
+
+-- ---- hits that are not below k runs of others can be left out
+
+module _ (k : ℕ) (some : List ℕ) (enough : k ≤ length (dropRepeats (sort some))) where
+  without-one : (b : ℕ) (others : List ℕ) → ((y : ℕ) → List·Memᴰ y some → y ≤ b)
+      → take k (dropRepeats (insert b (sort (some ++ others)))) ≡ take k (dropRepeats (sort (some ++ others)))
+  without-one b others low =
+      ap (λ (l : List ℕ). take k (dropRepeats l)) (ap (insert b) (split .1) ∙ insert-behind front (split .0) b (subst Sorted (split .1) (sort-sorted (some ++ others))) below)
+      ∙ front-first k front (insert b (split .0)) many ∙ sym (front-first k front (split .0) many) ∙ ap (λ (l : List ℕ). take k (dropRepeats l)) (sym (split .1))
+    where
+      all : List ℕ
+      all = sort (some ++ others)
+
+      front : List ℕ
+      front = keep (upTo b) all
+
+      split : (rest : List ℕ) × (all ≡ front ++ rest)
+      split = split-low b all (sort-sorted (some ++ others))
+
+      below : (y : ℕ) → List·Memᴰ y front → y ≤ b
+      below y m = leb-true y b (Memᴰ-keep (upTo b) y all m .0)
+
+      is : front ≡ sort (some ++ keep (upTo b) others)
+      is =
+          sym (sort-keep (upTo b) (some ++ others)) ∙ ap sort (keep-append (upTo b) some others
+          ∙ ap (λ (l : List ℕ). l ++ keep (upTo b) others) (keep-all (upTo b) some (λ y m. le-leb y b (low y m))))
+
+      many : k ≤ length (dropRepeats front)
+      many = omega (arith, enough, runs-more some (keep (upTo b) others), ap (λ (l : List ℕ). length (dropRepeats l)) is)
+
+  pub without : (past others : List ℕ) → ((y : ℕ) → List·Memᴰ y some → (b : ℕ) → List·Memᴰ b past → y ≤ b)
+      → take k (dropRepeats (sort (some ++ (past ++ others)))) ≡ take k (dropRepeats (sort (some ++ others)))
+  without [] others low = refl
+  without (b ∷ past) others low =
+      ap (λ (l : List ℕ). take k (dropRepeats l)) (sort-middle some b (past ++ others)) ∙ without-one b (past ++ others) (λ y m. low y m b (List·Memᴰ·head refl))
+      ∙ without past others (λ y m c n. low y m c (List·Memᴰ·tail n))
+
+-- ---- sorted lists in two parts
+
+-- none of the first part is above one of the second
+pub sorted-before : (xs ys : List ℕ) → Sorted (xs ++ ys) → (x : ℕ) → List·Memᴰ x xs → (y : ℕ) → List·Memᴰ y ys → x ≤ y
+sorted-before [] ys h x m y n = absurd (List·Memᴰ·not-nil m)
+sorted-before (z ∷ xs) ys h x m y n = go (List·Memᴰ·cases-cons m) (λ i. sorted-before xs ys (h .1) x i y n)
+  where
+    go : (x ≡ z) ⊎ List·Memᴰ x xs → (List·Memᴰ x xs → x ≤ y) → x ≤ y
+    go (inl e) rest = subst (λ (t : ℕ). t ≤ y) (sym e) (least-mem z (xs ++ ys) (h .0) (Memᴰ·append-right xs n))
     go (inr i) rest = rest i
 
--- k runs of hits within a bound are in front of the whole
-pub runs-within : (bound k : ℕ) (taken rest : List ℕ) → ((y : ℕ) → List·Memᴰ y taken → y / 2 ^ 64 ≤ bound) → k ≤ length (dropAfter (2 ^ 32) taken)
-    → k ≤ length (dropRepeats (keep (within bound) (taken ++ rest)))
-runs-within bound k taken rest low enough =
-    let more : List ℕ = keep (within bound) rest in
-    let is : keep (within bound) (taken ++ rest) ≡ taken ++ more =
-    keep-append (within bound) taken rest ∙ ap (λ (l : List ℕ). l ++ more) (keep-all (within bound) taken (λ y m. le-leb (y / 2 ^ 64) bound (low y m))) in
-    let all : dropRepeats (keep (within bound) (taken ++ rest)) ≡ dropAfter (2 ^ 32) taken ++ dropAfter (lastOf (2 ^ 32) taken) more =
-    ap dropRepeats is ∙ repeats-after (taken ++ more) ∙ after-append (2 ^ 32) taken more in
-    omega (arith, enough, ap length all, length-append (dropAfter (2 ^ 32) taken) (dropAfter (lastOf (2 ^ 32) taken) more))
+least-front : (x : ℕ) (xs ys : List ℕ) → Least x (xs ++ ys) → Least x xs
+least-front x [] ys h = tt
+least-front x (z ∷ xs) ys h = (h .0, least-front x xs ys (h .1))
+
+pub sorted-front : (xs ys : List ℕ) → Sorted (xs ++ ys) → Sorted xs
+sorted-front [] ys h = tt
+sorted-front (x ∷ xs) ys h = (least-front x xs ys (h .0), sorted-front xs ys (h .1))
+
+-- those that pass a test, and the others
+pub sort-split : (p : ℕ → Bool) (l : List ℕ) → sort l ≡ sort (keep (λ x. not (p x)) l ++ keep p l)
+sort-split p [] = ap sort (sym (ap₂ (λ (xs ys : List ℕ). xs ++ ys) (keep-nil (λ x. not (p x))) (keep-nil p)))
+sort-split p (x ∷ xs) = go (which (p x)) (sort-split p xs)
+  where
+    q : ℕ → Bool
+    q y = not (p y)
+
+    go : (p x ≡ true) ⊎ (p x ≡ false) → sort xs ≡ sort (keep q xs ++ keep p xs) → sort (x ∷ xs) ≡ sort (keep q (x ∷ xs) ++ keep p (x ∷ xs))
+    go (inl t) rest =
+        sort-cons x xs ∙ ap (insert x) rest ∙ sym (sort-middle (keep q xs) x (keep p xs))
+        ∙ ap sort (sym (ap₂ (λ (xs ys : List ℕ). xs ++ ys) (keep-fail q x xs (ap not t)) (keep-pass p x xs t)))
+    go (inr f) rest =
+        sort-cons x xs ∙ ap (insert x) rest ∙ sym (sort-cons x (keep q xs ++ keep p xs))
+        ∙ ap sort (sym (ap₂ (λ (xs ys : List ℕ). xs ++ ys) (keep-pass q x xs (ap not f)) (keep-fail p x xs f)))

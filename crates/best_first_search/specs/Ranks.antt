@@ -1,39 +1,49 @@
 -- The contracts of the ranking: the first k hits of the vectors found, 'sorted, adjacent equal document ids lose the later' (document 01, 'Search').
-use Prim.Native.Nat.{ℕ, _-_, _*_, _^_, _≤_}
+use Prim.Native.Nat.{ℕ, _-_, _*_, _/_, _^_, _≤_}
 use mathlib.Core.Path.{_≡_}
 use mathlib.Core.Logic.{_⊎_}
-use mathlib.Core.List.{List, map}
+use mathlib.Core.List.{List, [], _++_, map, List·Memᴰ}
 use lib.Ieee.{Float}
 use lib.ListN.{length, take, drop}
 use lib.Seq.{sets}
-use Rattle.lists.specs.Lists.{part, keep}
 use Rattle.record_queue.specs.Sorted.{sort}
 use Rattle.record_queue.specs.Records.{records, Heap}
 use Rattle.walk.specs.Answer.{documentOf, distanceOf, dropRepeats}
 use Rattle.store.specs.declared.Shape.{Shape}
 use Rattle.store.specs.declared.Counts.{Counts}
 use Rattle.store.specs.Store.{Store}
-use Rattle.hit_queue.specs.Contracts.{within, MeasureLent, rankedQueue}
+use Rattle.hit_queue.specs.Contracts.{hitsFrom, MeasureLent, rankedQueue}
 use Rattle.walk.specs.Contracts.{StoreLent}
+use Rattle.best_first_search.specs.declared.rank.Kept.{Kept}
 
 -- the first k of hits
 abbrev pub firstHits : ℕ → List ℕ → List ℕ
 firstHits k hits = take k (dropRepeats (sort hits))
 
--- a bound within which there are k of the hits, or the highest of all keys
-abbrev pub Enough : ℕ → ℕ → List ℕ → Type 0
-Enough k bound sorted = (bound ≡ 2 ^ 32 - 1) ⊎ (k ≤ length (dropRepeats (keep (within bound) sorted)))
+-- there are k documents among hits in order, and no key above a bound
+pub record Enough (k bound : ℕ) (hits : List ℕ) : Type 0 where
+  pub documents : k ≤ length (dropRepeats hits)
+  pub low : (y : ℕ) → List·Memᴰ y hits → y / 2 ^ 64 ≤ bound
 
--- `bound_of` gives one for the hits of a queue, and changes nothing behind it
-pub record Bounds (heap : List ℕ) (count k bound : ℕ) (heap′ : List ℕ) : Type 0 where
-  pub enough : Enough k bound (sort (records 3 count heap))
+-- a front of hits in order, behind which hits can be left out: it has k documents, or no hit is behind it and the bound is the highest of all keys
+pub record Front (k bound : ℕ) (hits front : List ℕ) : Type 0 where
+  pub rest : List ℕ
+  pub split : hits ≡ front ++ rest
+  pub enough : ((bound ≡ 2 ^ 32 - 1) × (rest ≡ [])) ⊎ Enough k bound front
+
+-- `pop_documents` puts a front of the hits of a queue behind the others, and changes nothing behind the queue
+pub record PopsDocuments (heap : List ℕ) (count k : ℕ) (r : Kept) (heap′ : List ℕ) : Type 0 where
+  pub few : r .count ≤ count
+  pub front : Front k (r .bound) (sort (records 3 count heap)) (sort (hitsFrom (count - r .count) (r .count) heap′))
   pub behind : drop (count * 3) heap′ ≡ drop (count * 3) heap
   pub size : length heap′ ≡ length heap
 
--- `sample_bound` gives one for hits, and leaves their numbers
-pub record Sampled (hits : List ℕ) (k bound from found : ℕ) (heap heap′ : List ℕ) : Type 0 where
-  pub enough : Enough k bound (sort hits)
-  pub numbers : part from found heap′ ≡ part from found heap
+-- `keep_first` leaves it as the queue
+pub record KeepsFirst (heap : List ℕ) (count k : ℕ) (r : Kept) (heap′ : List ℕ) : Type 0 where
+  pub few : r .count ≤ count
+  pub queue : Heap (records 3 (r .count) heap′)
+  pub front : Front k (r .bound) (sort (records 3 count heap)) (sort (records 3 (r .count) heap′))
+  pub behind : drop (count * 3) heap′ ≡ drop (count * 3) heap
   pub size : length heap′ ≡ length heap
 
 -- `rank` leaves a queue whose first k are those of all hits

@@ -1,33 +1,48 @@
 // The first k hits of the vectors found: sorted, adjacent equal document ids lose the later (document 01, 'Search').
 use hit_queue::answer::take_hits;
+use hit_queue::popped::pop_behind;
+use hit_queue::popped::queue_again;
 use hit_queue::queue::measure;
-use record_queue::pop;
 use store::Counts;
 use store::Shape;
+ghost use Prim.Native.Nat.{_≤_, min};
 ghost use Rattle.lists.specs.Lists.{part};
 ghost use Rattle.hit_queue.specs.Contracts.{hitsOf, MeasureLent, CountRest};
-ghost use Rattle.best_first_search.specs.Ranks.{Bounds, Sampled, Ranked, FirstHits, Firsts};
+ghost use Rattle.best_first_search.specs.Ranks.{PopsDocuments, KeepsFirst, Ranked, FirstHits, Firsts};
 
-// The key up to which the hits of a queue come to k documents, repeats dropped; the highest of all keys, if they do not. The queue is used up.
-fn bound_of(heap: &mut [u32], count: usize, k: usize) -> u32
+// What is kept of a queue: how many hits, and a key up to which there are k documents among them; the highest of all keys, if there are not.
+struct Kept {
+    count: usize,
+    bound: u32,
+}
+
+// Pops hits of a queue until they come to k documents, repeats dropped, or none is left; they stay behind the others.
+fn pop_documents(heap: &mut [u32], count: usize, k: usize) -> Kept
     requires { ⌜ CountRest (now heap) count ⌝ }
-    ensures { λ r. ⌜ Bounds (now (heap .entry)) count k r (now (heap .exit)) ⌝ }
+    ensures { λ r. ⌜ PopsDocuments (now (heap .entry)) count k r (now (heap .exit)) ⌝ }
 {
     let mut hits = 0;
     let mut left = count;
     let mut last: u64 = 0x1_0000_0000;
     let mut key: u32 = 0;
-    let end: u32;
+    let end: Kept;
     loop {
         if hits == k {
-            end = key;
+            let kept = count - left;
+            end = Kept {
+                count: kept,
+                bound: key,
+            };
             break;
         }
         if left == 0 {
-            end = 0xFFFF_FFFF;
+            end = Kept {
+                count,
+                bound: 0xFFFF_FFFF,
+            };
             break;
         }
-        let least = pop(heap, left, 3);
+        let least = pop_behind(heap, left);
         left -= 1;
         key = least.key;
         let document = least.rest / 0x1_0000_0000;
@@ -39,39 +54,29 @@ fn bound_of(heap: &mut [u32], count: usize, k: usize) -> u32
     end
 }
 
-// A key up to which there are k documents among the hits of the vectors found, from a sample of them; the highest of all keys, if they are few.
-fn sample_bound(
-    shape: Shape,
-    counts: Counts,
-    floats: &[f32],
-    numbers: &[u32],
-    heap: &mut [u32],
-    query: &[f32],
-    from: usize,
-    found: usize,
-    k: usize,
-) -> u32
-    requires { ⌜ MeasureLent shape counts (now floats) (now numbers) (now heap) 0 from found ⌝ }
-    ensures { λ r. ⌜ Sampled (hitsOf shape (now (floats .entry)) (now (numbers .entry)) (now (query .entry)) (part from found (now (heap .entry)))) k r from found (now (heap .entry)) (now (heap .exit)) ⌝ }
+// Keeps of a queue its first hits, up to k documents.
+fn keep_first(heap: &mut [u32], count: usize, k: usize) -> Kept
+    requires { ⌜ CountRest (now heap) count ⌝ }
+    ensures { λ r. ⌜ KeepsFirst (now (heap .entry)) count k r (now (heap .exit)) ⌝ }
 {
-    if found / 16 < k {
-        return 0xFFFF_FFFF;
-    }
-    let sample = measure(
-        shape,
-        counts,
-        floats,
-        numbers,
-        heap,
-        query,
-        0xFFFF_FFFF,
-        from,
-        8 * k,
-    );
-    bound_of(heap, sample, k)
+    let kept = pop_documents(heap, count, k);
+    let left = count - kept.count;
+    queue_again(heap, left, kept.count);
+    kept
 }
 
-// Makes a queue of hits of the vectors found, the first k of which are those of all.
+// How many vectors are measured before hits are first left out: all, if they are few for k.
+fn first_chunk(found: usize, k: usize) -> usize
+    ensures { λ r. ⌜ min found 1 ≤ r ⌝ }
+{
+    if found / 16 < k {
+        return found;
+    }
+    4 * k + 4
+}
+
+// Makes a queue of hits of the vectors found, the first k of which are those of all. Each time twice as many vectors are measured as the time before,
+// and then the hits are left out that come after k documents.
 fn rank(
     shape: Shape,
     counts: Counts,
@@ -86,17 +91,42 @@ fn rank(
     requires { ⌜ MeasureLent shape counts (now floats) (now numbers) (now heap) 0 from found ⌝ }
     ensures { λ r. ⌜ Ranked (hitsOf shape (now (floats .entry)) (now (numbers .entry)) (now (query .entry)) (part from found (now (heap .entry)))) k r (now (heap .exit)) ⌝ }
 {
-    let bound = sample_bound(shape, counts, floats, numbers, heap, query, from, found, k);
+    let mut chunk = first_chunk(found, k);
+    let mut queued = 0;
+    let mut bound: u32 = 0xFFFF_FFFF;
+    let mut at = from;
+    let mut left = found;
+    while chunk < left {
+        queued = measure(
+            shape,
+            counts,
+            floats,
+            numbers,
+            heap,
+            queued,
+            query,
+            bound,
+            at,
+            chunk,
+        );
+        at += chunk;
+        left -= chunk;
+        let kept = keep_first(heap, queued, k);
+        queued = kept.count;
+        bound = kept.bound;
+        chunk *= 2;
+    }
     measure(
         shape,
         counts,
         floats,
         numbers,
         heap,
+        queued,
         query,
         bound,
-        from,
-        found,
+        at,
+        left,
     )
 }
 

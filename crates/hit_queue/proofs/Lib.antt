@@ -1,3 +1,4 @@
 -- Laws that only this crate's proofs need.
 pub mod Measuring
+pub mod Behind
 pub mod Taking

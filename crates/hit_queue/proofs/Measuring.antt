@@ -1,15 +1,15 @@
 -- Making the queue of hits: the hits of one number after the other come to those before. Assumes nothing.
-use Prim.Native.Nat.{ℕ, zero, suc, _+_, _-_, _*_, _^_, _≤_, _<_}
+use Prim.Native.Nat.{ℕ, zero, suc, _+_, _-_, _*_, _/_, _^_, _≤_, _<_}
 use native.Mathlib.Omega.{arith}
 use mathlib.Core.Path.{_≡_, refl, sym, ap, ap₂, _∙_, subst}
-use mathlib.Core.Bool.{Bool, true, false}
+use mathlib.Core.Bool.{Bool, true, false, _&&_}
 use mathlib.Core.List.{List, [], _∷_, _++_, map, map-append, append-assoc, List·Memᴰ}
 use lib.Dec.{leb, ltb}
 use lib.Ieee.{Float}
-use lib.ListN.{length, getD, length-append, length-map}
+use lib.ListN.{length, getD, take, length-append, length-map}
 use borrow.Author.Tests.{ltb-true, le-leb, lt-leb}
 use Rattle.lists.specs.Lists.{part, keep}
-use Rattle.lists.specs.Parts.{part-zero, part-append-parts, length-part, getD-part, drop-more, part-behind}
+use Rattle.lists.specs.Parts.{part-zero, part-cons, one-mapped, part-append-parts, length-part, getD-part, drop-more, part-behind}
 use Rattle.lists.specs.Counting.{getD-Memᴰ, keep-nil, keep-pass, keep-fail, keep-append}
 use Rattle.record_queue.specs.declared.Record.{Record}
 use Rattle.record_queue.specs.Sorted.{sort}
@@ -20,9 +20,9 @@ use Rattle.store.specs.declared.Shape.{Shape}
 use Rattle.store.specs.Store.{vectorAt}
 use Rattle.distance.specs.Distance.{distance}
 use Rattle.store.specs.declared.Counts.{Counts}
-use Rattle.lists.specs.Tests.{allPass, and-right, allPass-Memᴰ, allPass-append}
+use Rattle.lists.specs.Tests.{and-left, and-right, allPass-Memᴰ}
 use Rattle.walk.specs.Answer.{hitOf}
-use Rattle.hit_queue.specs.Contracts.{within, Measured, Measure}
+use Rattle.hit_queue.specs.Contracts.{within, Measured, Measure, NumberAt}
 use Rattle.walk.specs.StoreView.{hitAt}
 use Rattle.hit_queue.specs.QueueLaws.{key-is}
 
@@ -73,6 +73,10 @@ module _ (bound before : ℕ) (heap : List ℕ) (r : Record) (low : r .key < 2 ^
       is : keep (within bound) (value r ∷ []) ≡ value r ∷ []
       is = keep-pass (within bound) (value r) [] yes ∙ ap {B = List ℕ} (λ t. value r ∷ t) (keep-nil (within bound))
 
+-- a record as it is read
+abbrev pub Fits : Record → Type 0
+Fits r = (r .key < 2 ^ 32) × (r .rest < 2 ^ 64)
+
 pub measured-append : (bound before one two : ℕ) (heap heap₁ heap₂ xs ys : List ℕ) → Measured bound xs before heap one heap₁ → Measured bound ys one heap₁ two heap₂
     → Measured bound (xs ++ ys) before heap two heap₂
 measured-append bound before one two heap heap₁ heap₂ xs ys a b =
@@ -90,38 +94,37 @@ measured-append bound before one two heap heap₁ heap₂ xs ys a b =
       size = b .size ∙ a .size;
     }
 
--- ---- the numbers that are still to be read
+-- four past the bound
+pub past-four : (bound before : ℕ) (heap : List ℕ) (a b c d : Record) → Fits a → Fits b → Fits c → Fits d
+    → (((ltb bound (a .key) && ltb bound (b .key)) && ltb bound (c .key)) && ltb bound (d .key)) ≡ true → Heap (records 3 before heap)
+    → Measured bound (value a ∷ value b ∷ value c ∷ value d ∷ []) before heap before heap
+past-four bound before heap a b c d fa fb fc fd e queue =
+    let p : Bool = ltb bound (a .key) in
+    let q : Bool = ltb bound (b .key) in
+    let r : Bool = ltb bound (c .key) in
+    let s : Bool = ltb bound (d .key) in
+    let abc : ((p && q) && r) ≡ true = and-left ((p && q) && r) s e in
+    let ab : (p && q) ≡ true = and-left (p && q) r abc in
+    let one : (x : Record) → Fits x → ltb bound (x .key) ≡ true → Measured bound (value x ∷ []) before heap before heap =
+    λ x fits past. measured-past bound before heap x (fits .0) (fits .1) (ltb-true bound (x .key) past) queue in
+    let add : (xs ys : List ℕ) → Measured bound xs before heap before heap → Measured bound ys before heap before heap → Measured bound (xs ++ ys) before heap before heap =
+    measured-append bound before before before heap heap heap in
+    add (value a ∷ value b ∷ value c ∷ []) (value d ∷ [])
+    (add (value a ∷ value b ∷ []) (value c ∷ [])
+    (add (value a ∷ []) (value b ∷ []) (one a fa (and-left p q ab)) (one b fb (and-right p q ab)))
+    (one c fc (and-right (p && q) r abc)))
+    (one d fd (and-right ((p && q) && r) s e))
 
--- numbers stay where the queue has not come to
-module _ (c : Counts) (bound before total at count m : ℕ) (heap heap′ hits : List ℕ) (w : Measure c heap before at count) (few : length hits ≡ m) (le : m ≤ count)
-    (d : Measured bound hits before heap total heap′) where
-  pub rest-same : part (at + m) (count - m) heap′ ≡ part (at + m) (count - m) heap
-  rest-same = go (count - m) refl
-    where
-      go : (n : ℕ) → count - m ≡ n → part (at + m) n heap′ ≡ part (at + m) n heap
-      go zero e = part-zero (at + m) heap′ ∙ sym (part-zero (at + m) heap)
-      go (suc n) e = part-behind (total * 3) (at + m) (suc n) heap′ heap (omega (arith, d .few, few, w .apart, e)) (d .behind)
+-- ---- each number that is to be read
 
-  pub measure-rest : Measure c heap′ total (at + m) (count - m)
-  measure-rest = record {
-    queue = d .queue;
-    held = ap (allPass (λ x. ltb x (c .vectors))) rest-same
-        ∙ and-right (allPass (λ x. ltb x (c .vectors)) (part at m heap)) (allPass (λ x. ltb x (c .vectors)) (part (at + m) (count - m) heap))
-        (sym (allPass-append (λ x. ltb x (c .vectors)) (part at m heap) (part (at + m) (count - m) heap))
-        ∙ ap (allPass (λ x. ltb x (c .vectors))) (part-append-parts at m (count - m) heap ∙ ap (λ (n : ℕ). part at n heap) (let t : m + (count - m) ≡ count = omega arith in t)) ∙ w .held);
-    inside = omega (arith, w .inside, d .size, le);
-    apart = omega (arith, w .apart, d .few, few, le);
-    room = omega (arith, w .room, d .few, few, le, d .size);
-  }
-
--- each number
-pub number-held : (c : Counts) (heap : List ℕ) (before at count : ℕ) → Measure c heap before at count → (i p v : ℕ) → i < count → p ≡ at + i → v ≡ getD heap p 0
-    → v < c .vectors
-number-held c heap before at count w i p v h e is =
-    ltb-true v (c .vectors)
-    (allPass-Memᴰ (λ x. ltb x (c .vectors)) (part at count heap) (w .held) v
-    (subst (λ (x : ℕ). List·Memᴰ x (part at count heap)) (getD-part at count heap i 0 h ∙ ap (λ (n : ℕ). getD heap n 0) (sym e) ∙ sym is)
-    (getD-Memᴰ (part at count heap) i 0 (subst (λ (n : ℕ). i < n) (sym (length-part at count heap (w .inside))) h))))
+pub number-at : (c : Counts) (heap : List ℕ) (before at count : ℕ) → Measure c heap before at count → (i p : ℕ) → i < count → p ≡ at + i → NumberAt c heap p
+number-at c heap before at count w i p h e = record {
+  inside = omega (arith, w .inside, h, e);
+  held = ltb-true (getD heap p 0) (c .vectors)
+      (allPass-Memᴰ (λ x. ltb x (c .vectors)) (part at count heap) (w .held) (getD heap p 0)
+      (subst (λ (x : ℕ). List·Memᴰ x (part at count heap)) (getD-part at count heap i 0 h ∙ ap (λ (n : ℕ). getD heap n 0) (sym e))
+      (getD-Memᴰ (part at count heap) i 0 (subst (λ (n : ℕ). i < n) (sym (length-part at count heap (w .inside))) h))));
+}
 
 -- ---- numbers and their hits
 
@@ -143,3 +146,24 @@ measured-next c h bound before total total′ at count j m heap₀ heap heap′ 
 pub hit-is : (s : Shape) (floats : List Float) (numbers : List ℕ) (query : List Float) (distance′ : Float) (v x r : ℕ) → r ≡ hitOf distance′ (getD numbers v 0) v
     → distance′ ≡ distance query (vectorAt (s .dimension) floats v) → v ≡ x → r ≡ hitAt s floats numbers query x
 hit-is s floats numbers query distance′ v x r e d is = e ∙ ap (λ (f : Float). hitOf f (getD numbers v 0) v) d ∙ ap (hitAt s floats numbers query) is
+
+-- the hits of one to three numbers, where the second of one is the first again, and the third of two the second
+module _ (f : ℕ → ℕ) (l : List ℕ) (at : ℕ) where
+  more : (n i j : ℕ) → i < length l → j ≡ suc i → map f (part i (suc n) l) ≡ f (getD l i 0) ∷ map f (part j n l)
+  more n i j below e = ap (map f) (part-cons i n l 0 below ∙ ap (λ (k : ℕ). getD l i 0 ∷ part k n l) (sym e))
+
+  pub few-mapped : (few p q r : ℕ) → 1 ≤ few → few ≤ 3 → at + few ≤ length l → p ≡ f (getD l at 0) → q ≡ f (getD l (at + few / 2) 0) → r ≡ f (getD l (at + few - 1) 0)
+      → take few (p ∷ q ∷ r ∷ []) ≡ map f (part at few l)
+  few-mapped zero p q r some most room a b c = absurd (omega arith)
+  few-mapped (suc zero) p q r some most room a b c = one-mapped f l at 0 p (omega arith) a
+  few-mapped (suc (suc zero)) p q r some most room a b c =
+      ap₂ (λ (x y : ℕ). x ∷ y ∷ []) a (b ∙ ap (λ (n : ℕ). f (getD l n 0)) (let t : at + 2 / 2 ≡ at + 1 = omega arith in t))
+      ∙ sym (more 1 at (at + 1) (omega arith) (omega arith) ∙ ap (λ (t : List ℕ). f (getD l at 0) ∷ t) (more 0 (at + 1) (at + 2) (omega arith) (omega arith)))
+  few-mapped (suc (suc (suc zero))) p q r some most room a b c =
+      ap₂ (λ (x : ℕ) (t : List ℕ). x ∷ t) a
+      (ap₂ (λ (x y : ℕ). x ∷ y ∷ []) (b ∙ ap (λ (n : ℕ). f (getD l n 0)) (let t : at + 3 / 2 ≡ at + 1 = omega arith in t))
+      (c ∙ ap (λ (n : ℕ). f (getD l n 0)) (let t : at + 3 - 1 ≡ at + 2 = omega arith in t)))
+      ∙ sym (more 2 at (at + 1) (omega arith) (omega arith)
+      ∙ ap (λ (t : List ℕ). f (getD l at 0) ∷ t) (more 1 (at + 1) (at + 2) (omega arith) (omega arith)
+      ∙ ap (λ (t : List ℕ). f (getD l (at + 1) 0) ∷ t) (more 0 (at + 2) (at + 3) (omega arith) (omega arith))))
+  few-mapped (suc (suc (suc (suc few)))) p q r some most room a b c = absurd (omega arith)

@@ -1,5 +1,4 @@
 // The hits of the vectors found are measured and put into a queue.
-use distance::places::distance_at;
 use distance::places::distances_at;
 use record_queue::Record;
 use record_queue::push;
@@ -10,13 +9,21 @@ use total_order::key;
 ghost use mathlib.Core.Path.{_≡_};
 ghost use mathlib.Core.List.{[], _∷_};
 ghost use Prim.Native.Nat.{_+_, _*_, _<_};
-ghost use lib.ListN.{length, getD};
+ghost use lib.ListN.{length, getD, take};
 ghost use Rattle.record_queue.specs.Records.{value};
 ghost use Rattle.distance.specs.Distance.{distance};
 ghost use Rattle.walk.specs.Answer.{hitOf};
+ghost use Rattle.walk.specs.StoreView.{hitAt};
 ghost use Rattle.lists.specs.Lists.{part};
-ghost use mathlib.Core.Bool.{cond};
-ghost use Rattle.hit_queue.specs.Contracts.{hitsOf, PushWithin, MeasureLent, Measured};
+ghost use Rattle.hit_queue.specs.Contracts.{hitsOf, PushWithin, PushFew, FourHeld, MeasureFew, MeasureLent, Measured};
+
+// The hits of four vectors.
+struct FourHits {
+    a: Record,
+    b: Record,
+    c: Record,
+    d: Record,
+}
 
 // The hit of a vector at a distance: the distance's key, document id and number.
 fn hit(numbers: &[u32], vector: usize, distance: f32) -> Record
@@ -44,7 +51,16 @@ fn push_within(heap: &mut [u32], count: usize, bound: u32, record: Record) -> us
     total
 }
 
-// Adds four hits to the queue, each if its key is at most the bound.
+// Adds two hits to the queue, each if its key is at most the bound.
+fn push_two(heap: &mut [u32], count: usize, bound: u32, a: Record, b: Record) -> usize
+    requires { ⌜ PushWithin (now heap) count 2 ⌝ }
+    ensures { λ r. ⌜ Measured bound (value a ∷ value b ∷ []) count (now (heap .entry)) r (now (heap .exit)) ⌝ }
+{
+    let one = push_within(heap, count, bound, a);
+    push_within(heap, one, bound, b)
+}
+
+// Adds four hits to the queue, each if its key is at most the bound; most often none is.
 fn push_four(
     heap: &mut [u32],
     count: usize,
@@ -57,13 +73,82 @@ fn push_four(
     requires { ⌜ PushWithin (now heap) count 4 ⌝ }
     ensures { λ r. ⌜ Measured bound (value a ∷ value b ∷ value c ∷ value d ∷ []) count (now (heap .entry)) r (now (heap .exit)) ⌝ }
 {
-    let one = push_within(heap, count, bound, a);
-    let two = push_within(heap, one, bound, b);
-    let three = push_within(heap, two, bound, c);
-    push_within(heap, three, bound, d)
+    if (bound < a.key) & (bound < b.key) & (bound < c.key) & (bound < d.key) {
+        return count;
+    }
+    let two = push_two(heap, count, bound, a, b);
+    push_two(heap, two, bound, c, d)
 }
 
-// Adds the hits of the four vectors whose numbers stand at a place of the list behind the queue.
+// Adds the first one to three of three hits to the queue, each if its key is at most the bound.
+fn push_few(
+    heap: &mut [u32],
+    count: usize,
+    bound: u32,
+    few: usize,
+    a: Record,
+    b: Record,
+    c: Record,
+) -> usize
+    requires { ⌜ PushFew (now heap) count few ⌝ }
+    ensures { λ r. ⌜ Measured bound (take few (value a ∷ value b ∷ value c ∷ [])) count (now (heap .entry)) r (now (heap .exit)) ⌝ }
+{
+    if few == 1 {
+        return push_within(heap, count, bound, a);
+    }
+    let two = push_two(heap, count, bound, a, b);
+    if few == 2 {
+        return two;
+    }
+    push_within(heap, two, bound, c)
+}
+
+// The hits of the four vectors whose numbers stand at places of a list; they are measured at once.
+fn four_hits(
+    shape: Shape,
+    counts: Counts,
+    floats: &[f32],
+    numbers: &[u32],
+    list: &[u32],
+    query: &[f32],
+    a: usize,
+    b: usize,
+    c: usize,
+    d: usize,
+) -> FourHits
+    requires { ⌜ FourHeld shape counts (now floats) (now numbers) (now list) a b c d ⌝ }
+    ensures { λ r. ⌜ value (r .a) ≡ hitAt shape (now (floats .entry)) (now (numbers .entry)) (now (query .entry)) (getD (now (list .entry)) a 0) ⌝ }
+    ensures { λ r. ⌜ value (r .b) ≡ hitAt shape (now (floats .entry)) (now (numbers .entry)) (now (query .entry)) (getD (now (list .entry)) b 0) ⌝ }
+    ensures { λ r. ⌜ value (r .c) ≡ hitAt shape (now (floats .entry)) (now (numbers .entry)) (now (query .entry)) (getD (now (list .entry)) c 0) ⌝ }
+    ensures { λ r. ⌜ value (r .d) ≡ hitAt shape (now (floats .entry)) (now (numbers .entry)) (now (query .entry)) (getD (now (list .entry)) d 0) ⌝ }
+{
+    let first = wide(list[a]);
+    let second = wide(list[b]);
+    let third = wide(list[c]);
+    let fourth = wide(list[d]);
+    let size = shape.dimension;
+    let four = distances_at(
+        floats,
+        query,
+        size,
+        first * size,
+        second * size,
+        third * size,
+        fourth * size,
+    );
+    let a_hit = hit(numbers, first, four.a);
+    let b_hit = hit(numbers, second, four.b);
+    let c_hit = hit(numbers, third, four.c);
+    let d_hit = hit(numbers, fourth, four.d);
+    FourHits {
+        a: a_hit,
+        b: b_hit,
+        c: c_hit,
+        d: d_hit,
+    }
+}
+
+// Adds the hits of the four vectors whose numbers stand from a place on of the list behind the queue.
 fn measure_four(
     shape: Shape,
     counts: Counts,
@@ -78,21 +163,23 @@ fn measure_four(
     requires { ⌜ MeasureLent shape counts (now floats) (now numbers) (now heap) count at 4 ⌝ }
     ensures { λ r. ⌜ Measured bound (hitsOf shape (now (floats .entry)) (now (numbers .entry)) (now (query .entry)) (part at 4 (now (heap .entry)))) count (now (heap .entry)) r (now (heap .exit)) ⌝ }
 {
-    let a = wide(heap[at]);
-    let b = wide(heap[at + 1]);
-    let c = wide(heap[at + 2]);
-    let d = wide(heap[at + 3]);
-    let size = shape.dimension;
-    let four = distances_at(floats, query, size, a * size, b * size, c * size, d * size);
-    let first = hit(numbers, a, four.a);
-    let second = hit(numbers, b, four.b);
-    let third = hit(numbers, c, four.c);
-    let fourth = hit(numbers, d, four.d);
-    push_four(heap, count, bound, first, second, third, fourth)
+    let four = four_hits(
+        shape,
+        counts,
+        floats,
+        numbers,
+        heap,
+        query,
+        at,
+        at + 1,
+        at + 2,
+        at + 3,
+    );
+    push_four(heap, count, bound, four.a, four.b, four.c, four.d)
 }
 
-// Adds the hit of the vector whose number stands at a place of the list behind the queue.
-fn measure_one(
+// The same for one to three vectors: four are measured, the last of them repeated, and the repeats are not added.
+fn measure_few(
     shape: Shape,
     counts: Counts,
     floats: &[f32],
@@ -102,18 +189,29 @@ fn measure_one(
     query: &[f32],
     bound: u32,
     at: usize,
+    few: usize,
 ) -> usize
-    requires { ⌜ MeasureLent shape counts (now floats) (now numbers) (now heap) count at 1 ⌝ }
-    ensures { λ r. ⌜ Measured bound (hitsOf shape (now (floats .entry)) (now (numbers .entry)) (now (query .entry)) (part at 1 (now (heap .entry)))) count (now (heap .entry)) r (now (heap .exit)) ⌝ }
+    requires { ⌜ MeasureFew shape counts (now floats) (now numbers) (now heap) count at few ⌝ }
+    ensures { λ r. ⌜ Measured bound (hitsOf shape (now (floats .entry)) (now (numbers .entry)) (now (query .entry)) (part at few (now (heap .entry)))) count (now (heap .entry)) r (now (heap .exit)) ⌝ }
 {
-    let vector = wide(heap[at]);
-    let size = shape.dimension;
-    let distance = distance_at(floats, query, size, vector * size);
-    let record = hit(numbers, vector, distance);
-    push_within(heap, count, bound, record)
+    let second = at + few / 2;
+    let last = at + few - 1;
+    let four = four_hits(
+        shape,
+        counts,
+        floats,
+        numbers,
+        heap,
+        query,
+        at,
+        second,
+        last,
+        last,
+    );
+    push_few(heap, count, bound, few, four.a, four.b, four.c)
 }
 
-// Makes the queue of those hits whose key is at most the bound, of the vectors whose numbers stand from a place on; four vectors are measured at a
+// Adds those hits to a queue whose key is at most the bound, of the vectors whose numbers stand from a place on; four vectors are measured at a
 // time. The queue grows behind the numbers that are still to be read.
 pub fn measure(
     shape: Shape,
@@ -121,19 +219,21 @@ pub fn measure(
     floats: &[f32],
     numbers: &[u32],
     heap: &mut [u32],
+    count: usize,
     query: &[f32],
     bound: u32,
     from: usize,
     found: usize,
 ) -> usize
-    requires { ⌜ MeasureLent shape counts (now floats) (now numbers) (now heap) 0 from found ⌝ }
-    ensures { λ r. ⌜ Measured bound (hitsOf shape (now (floats .entry)) (now (numbers .entry)) (now (query .entry)) (part from found (now (heap .entry)))) 0 (now (heap .entry)) r (now (heap .exit)) ⌝ }
+    requires { ⌜ MeasureLent shape counts (now floats) (now numbers) (now heap) count from found ⌝ }
+    ensures { λ r. ⌜ Measured bound (hitsOf shape (now (floats .entry)) (now (numbers .entry)) (now (query .entry)) (part from found (now (heap .entry)))) count (now (heap .entry)) r (now (heap .exit)) ⌝ }
 {
-    let mut queued = 0;
+    let mut queued = count;
     let mut j = 0;
     while j < found {
         let at = from + j;
-        if 4 <= found - j {
+        let left = found - j;
+        if 4 <= left {
             queued = measure_four(
                 shape,
                 counts,
@@ -147,7 +247,7 @@ pub fn measure(
             );
             j += 4;
         } else {
-            queued = measure_one(
+            queued = measure_few(
                 shape,
                 counts,
                 floats,
@@ -157,8 +257,9 @@ pub fn measure(
                 query,
                 bound,
                 at,
+                left,
             );
-            j += 1;
+            j += left;
         }
     }
     queued

@@ -1,7 +1,9 @@
 // Three rounds of k-means over the vectors of ids. The centres stand in the float list behind the
 // vectors, `count` of which are held. Of the work list the first n places hold the marks of the n
 // ids, and the next n the ids of one cluster.
+pub mod blocks;
 pub mod marks;
+pub mod means;
 
 ghost use Prim.Native.Nat.{_*_, _≤_, _<_, _^_};
 ghost use mathlib.Core.Path.{_≡_};
@@ -66,8 +68,8 @@ fn recentre_cluster(
     }
 }
 
-// Every centre becomes the mean of its cluster.
-fn recentre(
+// Every centre becomes the mean of its cluster, one cluster after the other.
+fn recentre_one_by_one(
     floats: &mut [f32],
     ids: &[u32],
     work: &mut [u32],
@@ -95,6 +97,40 @@ fn recentre(
             j as u32,
         );
         j += 1;
+    }
+}
+
+// Every centre becomes the mean of its cluster, in one pass over the ids where k allows it.
+fn recentre(
+    floats: &mut [f32],
+    ids: &[u32],
+    work: &mut [u32],
+    dimension: usize,
+    count: usize,
+    centres_at: usize,
+    k: usize,
+)
+    requires { ⌜ BehindVectors (now floats) (now ids) dimension count «centres_at» (k * dimension) ⌝ }
+    requires { ⌜ k < 2 ^ 32 ⌝ }
+    requires { ⌜ 2 * length (now ids) ≤ length (now work) ⌝ }
+    requires { ⌜ take (length (now ids)) (now work) ≡ assignment (vectorsIn dimension count (now floats)) (vectorsFrom dimension k «centres_at» (now floats)) (now ids) ⌝ }
+    ensures { λ _. ⌜ Centred dimension k «centres_at» (now (floats .entry)) (recentre dimension (vectorsIn dimension count (now (floats .entry))) (now (ids .entry)) (vectorsFrom dimension k «centres_at» (now (floats .entry)))) (now (floats .exit)) ⌝ }
+    ensures { λ _. ⌜ AlikeBut (length (now (ids .entry))) (length (now (ids .entry))) (now (work .entry)) (now (work .exit)) ⌝ }
+{
+    if means::in_one_pass(k) {
+        let start = 0;
+        let n = ids.len();
+        means::recentre_by_marks(
+            floats,
+            ids,
+            &work[start..n],
+            dimension,
+            count,
+            centres_at,
+            k,
+        );
+    } else {
+        recentre_one_by_one(floats, ids, work, dimension, count, centres_at, k);
     }
 }
 

@@ -1,5 +1,6 @@
 // The mark of an id is the number of the centre to which it goes. The marks of n ids stand in the
 // first n places of the work list.
+use crate::blocks;
 use nearest_centre::nearest_centre;
 ghost use Prim.Native.Nat.{_+_, _*_, _≤_, _<_, _^_};
 ghost use mathlib.Core.Path.{_≡_};
@@ -9,8 +10,8 @@ ghost use Rattle.cluster.specs.Vectors.{vectorsIn, vectorsFrom};
 ghost use Rattle.kmeans.specs.Marks.{assignment, withMark};
 ghost use Rattle.cluster.specs.Contracts.{BehindVectors};
 
-// Writes the marks of ids by the k centres at `centres_at`. `count` vectors are held.
-pub fn assign(
+// Writes the marks of ids by the k centres at `centres_at`, read where they stand.
+fn assign_in_place(
     floats: &[f32],
     ids: &[u32],
     work: &mut [u32],
@@ -31,6 +32,30 @@ pub fn assign(
         let end = start + dimension;
         work[i] = nearest_centre(floats, &floats[start..end], centres_at, k, dimension) as u32;
         i += 1;
+    }
+}
+
+// Writes the marks of ids by the k centres at `centres_at`, in blocks of sixteen where that pays.
+// `count` vectors are held.
+pub fn assign(
+    floats: &[f32],
+    ids: &[u32],
+    work: &mut [u32],
+    dimension: usize,
+    count: usize,
+    centres_at: usize,
+    k: usize,
+)
+    requires { ⌜ BehindVectors (now floats) (now ids) dimension count «centres_at» (k * dimension) ⌝ }
+    requires { ⌜ 1 ≤ k ⌝ }
+    requires { ⌜ k < 2 ^ 32 ⌝ }
+    requires { ⌜ length (now ids) ≤ length (now work) ⌝ }
+    ensures { λ _. ⌜ now (work .exit) ≡ sets (now (work .entry)) 0 (assignment (vectorsIn dimension count (now (floats .entry))) (vectorsFrom dimension k «centres_at» (now (floats .entry))) (now (ids .entry))) ⌝ }
+{
+    if blocks::suits(ids.len(), k, dimension) {
+        blocks::assign_by_blocks(floats, ids, work, dimension, count, centres_at, k);
+    } else {
+        assign_in_place(floats, ids, work, dimension, count, centres_at, k);
     }
 }
 

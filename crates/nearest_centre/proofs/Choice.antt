@@ -6,20 +6,15 @@ use mathlib.Core.List.{List, [], _∷_}
 use native.Mathlib.Nat.{suc-mul, add-mul, mul-le-mul-right}
 use native.Mathlib.Numerals.{add-one}
 use native.Mathlib.Omega.{arith}
-use lib.ListN.{length, drop, drop-of-length-le}
+use lib.ListN.{length, drop}
 use lib.Seq.{drop-cons}
 use lib.Ieee.{Float, lt}
 use Rattle.lists.specs.Lists.{part}
 use Rattle.distance.specs.Distance.{distance}
-use Rattle.cluster.specs.Clusters.{vectorOf, nearestFrom}
+use Rattle.cluster.specs.Clusters.{nearestFrom}
 use Rattle.cluster.specs.Vectors.{vectorsFrom}
 use Rattle.cluster.specs.VectorsLaws.{length-vectorsIn, vectorOf-vectorsFrom, row-end}
-
-nearestFrom-cons : (v : List Float) (i best : ℕ) (least : Float) (centre : List Float) (centres : List (List Float)) (d : Float) (b : ℕ) (l : Float)
-    → d ≡ distance v centre → b ≡ cond (lt d least) i best → l ≡ cond (lt d least) d least
-    → nearestFrom v i best least (centre ∷ centres) ≡ nearestFrom v (suc i) b l centres
-unfolding nearestFrom
-nearestFrom-cons v i best least centre centres d b l e p q = rw (p, q, e)
+use Rattle.nearest_centre.specs.ChoiceLaws.{nearestFrom-cons, nearestFrom-turn, nearestFrom-end}
 
 pub nearest-turn : (floats : List Float) (v : List Float) (at k dim : ℕ) (x c best : ℕ) (least d : Float) (b : ℕ) (l : Float)
     → x ≡ nearestFrom v c best least (drop c (vectorsFrom dim k at floats)) → c < k → d ≡ distance v (part (at + c * dim) dim floats)
@@ -27,19 +22,14 @@ pub nearest-turn : (floats : List Float) (v : List Float) (at k dim : ℕ) (x c 
     → x ≡ nearestFrom v (c + 1) b l (drop (c + 1) (vectorsFrom dim k at floats))
 nearest-turn floats v at k dim x c best least d b l e h f p q =
     let centres : List (List Float) = vectorsFrom dim k at floats in
-    let g : c < length centres = rw length-vectorsIn h in
     e
-    ∙ ap (λ (cs : List (List Float)). nearestFrom v c best least cs) (drop-cons centres c [] g)
-    ∙ nearestFrom-cons v c best least (vectorOf centres c) (drop (suc c) centres) d b l
+    ∙ nearestFrom-turn v centres c best least d b l (rw length-vectorsIn h)
     (f ∙ ap (λ (w : List Float). distance v w) (sym (vectorOf-vectorsFrom dim k at floats c h))) p q
-    ∙ ap (λ (i : ℕ). nearestFrom v i b l (drop i centres)) (sym (add-one c))
 
 pub nearest-end : (floats : List Float) (v : List Float) (at k dim : ℕ) (x c best : ℕ) (least : Float)
     → x ≡ nearestFrom v c best least (drop c (vectorsFrom dim k at floats)) → k ≤ c → best ≡ x
-unfolding nearestFrom
 nearest-end floats v at k dim x c best least e h =
-    let g : length (vectorsFrom dim k at floats) ≤ c = rw length-vectorsIn h in
-    sym (e ∙ rw (drop-of-length-le (vectorsFrom dim k at floats) g))
+    sym (e ∙ nearestFrom-end v (vectorsFrom dim k at floats) c best least (rw length-vectorsIn h))
 
 -- a centre is within the float list
 pub centre-within : (at k dim n c : ℕ) → at + k * dim ≤ n → c < k → at + c * dim + dim ≤ n

@@ -18,7 +18,7 @@ pub struct Best {
 }
 
 // The choice after one more centre: a strictly smaller distance is chosen.
-fn closer(best: Best, number: usize, d: f32) -> Best
+pub fn closer(best: Best, number: usize, d: f32) -> Best
     ensures { λ r. ⌜ r .number ≡ cond (lt d (best .least)) number (best .number) ⌝ }
     ensures { λ r. ⌜ r .least ≡ cond (lt d (best .least)) d (best .least) ⌝ }
 {

@@ -8,7 +8,8 @@ const USUAL_EF: usize = 256;
 /// Above the number of nodes at n 4,096.
 const UNCUT_EF: usize = 1024;
 const GROWTH: &str = "Up to n 128 the root is the only leaf. A search opens at most `ef_search` nodes; at n 4,096 the tree has fewer than 300, so from there on \
-nothing grows with `ef_search`. A filtered search of ours checks every entry of a leaf that it opens, as 01 has it; the Rust looks one hash up in the leaf's map. \
+nothing grows with `ef_search`, and ours goes over the nodes without a queue. A filtered search of ours checks every entry of a leaf \
+that it opens, as 01 has it; the Rust looks one hash up in the leaf's map. \
 The Rust's build looks for the leaf of every label entry anew.";
 const CALLS: [Call; 4] = [Call::Add, Call::Build, Call::Filtered, Call::Search];
 

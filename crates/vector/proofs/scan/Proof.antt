@@ -66,7 +66,7 @@ loop-less : tie.Need-loop-less Inv-loop μ-loop
 loop-less c = omega arith
 
 loop-again : tie.Need-loop-again Inv-loop μ-loop
-loop-again c = 
+loop-again c =
     let at = c .before .before .before .before in
     let loop = at .before .before .before .loop in
     let v = at .before .before .before .before .before .args .v .now in
@@ -82,7 +82,7 @@ loop-less-2 : tie.Need-loop-less-2 Inv-loop μ-loop
 loop-less-2 c = omega arith
 
 loop-again-2 : tie.Need-loop-again-2 Inv-loop μ-loop
-loop-again-2 c = 
+loop-again-2 c =
     let at = c .before in
     let loop = at .before .before .before .loop in
     let v = at .before .before .before .before .before .args .v .now in
@@ -91,7 +91,7 @@ loop-again-2 c =
     (ap (λ (b : Bool). loop .finite && b) (c .is-finite .ensures)) refl refl
 
 returns : tie.Need-returns Inv-loop μ-loop
-returns c = 
+returns c =
     let loop = c .before .loop in
     scanned-end (c .before .before .before .args .v .now) (loop .finite) (loop .squares) (loop .seen) (loop .inv) (c .loop-test .left)
 

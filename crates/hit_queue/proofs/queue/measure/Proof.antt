@@ -1,6 +1,6 @@
--- `measure` meets its contract: the loop keeps the hits of the first j numbers, four more a turn or one. The measure is the numbers left. Assumes nothing.
-use Rattle.hit_queue.proofs.Measuring.{measured-none, measured-next, measure-rest}
-use Rattle.hit_queue.specs.QueueLaws.{measure-front}
+-- `measure` meets its contract: the loop keeps the hits of the first j numbers, four more a turn, or the last one to three. The measure is the numbers left. Assumes nothing.
+use Rattle.hit_queue.proofs.Measuring.{measured-none, measured-next}
+use Rattle.hit_queue.specs.QueueLaws.{measure-front, measure-rest}
 use Rattle.hit_queue.specs.Contracts.{hitsOf, Measure, Measured}
 use Rattle.walk.specs.StoreView.{hitAt}
 use Rattle.lists.specs.Lists.{part}
@@ -15,11 +15,11 @@ use Rattle.hit_queue.proofs.queue.measure.Statement.{statement}
 use Rattle.hit_queue.proofs.queue.measure.Tie as tie
 
 abbrev Inv-loop : tie.InvT-loop
-Inv-loop shape counts floats numbers heap₀ query bound from found queued₀ j₀ heap queued j =
-    (j ≤ found) × Measured bound (hitsOf shape floats numbers query (part from j heap₀)) 0 heap₀ queued heap
+Inv-loop shape counts floats numbers heap₀ count query bound from found queued₀ j₀ heap queued j =
+    (j ≤ found) × Measured bound (hitsOf shape floats numbers query (part from j heap₀)) count heap₀ queued heap
 
 abbrev μ-loop : tie.MeasureT-loop
-μ-loop shape counts floats numbers heap₀ query bound from found queued₀ j₀ heap queued j = found - j
+μ-loop shape counts floats numbers heap₀ count query bound from found queued₀ j₀ heap queued j = found - j
 
 abbrev Entry : Type 0
 Entry = tie.Start Inv-loop μ-loop
@@ -46,16 +46,16 @@ next t m h =
     let e = entry t in
     let a = e .args in
     measure-front (a .counts) (t .loop .heap) (t .loop .queued) (a .from + t .loop .j) (a .found - t .loop .j) m (omega (arith, h))
-    (measure-rest (a .counts) (a .bound) 0 (t .loop .queued) (a .from) (a .found) (t .loop .j) (a .heap .now) (t .loop .heap) _ (e .pre .measure) (many t) (t .loop .inv .0) (t .loop .inv .1))
+    (measure-rest (a .counts) (a .bound) (a .count) (t .loop .queued) (a .from) (a .found) (t .loop .j) (a .heap .now) (t .loop .heap) _ (e .pre .measure) (many t) (t .loop .inv .0) (t .loop .inv .1))
 
 -- and what their hits add
 grown : (t : Turn) (m total : ℕ) (heap : List ℕ) → t .loop .j + m ≤ entry t .args .found
     → Measured (entry t .args .bound) (map (hit (entry t)) (part (entry t .args .from + t .loop .j) m (t .loop .heap))) (t .loop .queued) (t .loop .heap) total heap
-    → Measured (entry t .args .bound) (map (hit (entry t)) (part (entry t .args .from) (t .loop .j + m) (entry t .args .heap .now))) 0 (entry t .args .heap .now) total heap
+    → Measured (entry t .args .bound) (map (hit (entry t)) (part (entry t .args .from) (t .loop .j + m) (entry t .args .heap .now))) (entry t .args .count) (entry t .args .heap .now) total heap
 grown t m total heap h d =
     let e = entry t in
     let a = e .args in
-    measured-next (a .counts) (hit e) (a .bound) 0 (t .loop .queued) total (a .from) (a .found) (t .loop .j) m (a .heap .now) (t .loop .heap) heap (e .pre .measure) h (t .loop .inv .1) d
+    measured-next (a .counts) (hit e) (a .bound) (a .count) (t .loop .queued) total (a .from) (a .found) (t .loop .j) m (a .heap .now) (t .loop .heap) heap (e .pre .measure) h (t .loop .inv .1) d
 
 -- ---- the places that needs go back to (primed: the same place, from another one)
 
@@ -71,6 +71,9 @@ in-loop c = c .before
 abbrev in-loop′ : tie.After-slice-known3 Inv-loop μ-loop → tie.In-loop Inv-loop μ-loop
 in-loop′ c = c .before .before .before .before .before
 
+abbrev in-loop″ : tie.Else1 Inv-loop μ-loop → tie.In-loop Inv-loop μ-loop
+in-loop″ c = c .before
+
 abbrev then1 : tie.After-slice-known2 Inv-loop μ-loop → tie.Then1 Inv-loop μ-loop
 then1 c = c .before .before .before .before
 
@@ -79,8 +82,8 @@ loop-holds c =
     let e = start c in
     let a = e .args in (
       omega arith,
-      subst (λ (l : List ℕ). Measured (a .bound) (map (hit e) l) 0 (a .heap .now) 0 (a .heap .now)) (sym (part-zero (a .from) (a .heap .now)))
-          (measured-none (a .bound) 0 (a .heap .now) (e .pre .measure .queue)),
+      subst (λ (l : List ℕ). Measured (a .bound) (map (hit e) l) (a .count) (a .heap .now) (a .count) (a .heap .now)) (sym (part-zero (a .from) (a .heap .now)))
+          (measured-none (a .bound) (a .count) (a .heap .now) (e .pre .measure .queue)),
     )
 
 add-at : tie.Need-add-at Inv-loop μ-loop
@@ -88,8 +91,8 @@ add-at c =
     let t = c .before in
     omega (arith, c .loop-test .taken, entry t .pre .measure .inside, entry t .good)
 
-sub-if1 : tie.Need-sub-if1 Inv-loop μ-loop
-sub-if1 c = search needs
+sub-left : tie.Need-sub-left Inv-loop μ-loop
+sub-left c = search needs
 
 measure-four-requires : tie.Need-measure-four-requires Inv-loop μ-loop
 measure-four-requires c κs =
@@ -110,10 +113,15 @@ loop-again c =
     let more : at-loop₀ .loop .j + 4 ≤ entry (at-loop₀) .args .found = omega (arith, taken .if1 .taken) in
     (more, grown (at-loop₀) 4 (four .result) _ more (four .ensures))
 
-measure-one-requires : tie.Need-measure-one-requires Inv-loop μ-loop
-measure-one-requires c κs =
-    let t = at-loop (c .before .before) in
-    record { lent = entry t .pre .lent; measure = next t 1 (omega (arith, c .before .before .loop-test .taken)) }
+measure-few-requires : tie.Need-measure-few-requires Inv-loop μ-loop
+measure-few-requires c κs =
+    let i = in-loop″ (c .before) in
+    let t = at-loop i in
+    record {
+      some = omega (arith, i .loop-test .taken);
+      most = omega (arith, c .before .if1 .left);
+      vectors = record { lent = entry t .pre .lent; measure = next t (entry t .args .found - t .loop .j) (omega (arith, t .loop .inv .0)) };
+    }
 
 add-j-2 : tie.Need-add-j-2 Inv-loop μ-loop
 add-j-2 c = search needs
@@ -123,12 +131,10 @@ loop-less-2 c = search needs
 
 loop-again-2 : tie.Need-loop-again-2 Inv-loop μ-loop
 loop-again-2 c =
-    let in-loop₀ = in-loop′ c in
-    let at-loop₀ = at-loop in-loop₀ in
-    let one = c .before .before .measure-one in
-    let more : at-loop₀ .loop .j + 1 ≤ entry (at-loop₀) .args .found =
-    omega (arith, in-loop₀ .loop-test .taken) in
-    (more, grown (at-loop₀) 1 (one .result) _ more (one .ensures))
+    let t = at-loop (in-loop′ c) in
+    let few = c .before .before .measure-few in
+    let more : t .loop .j + (entry t .args .found - t .loop .j) ≤ entry t .args .found = omega (arith, t .loop .inv .0) in
+    (more, grown t (entry t .args .found - t .loop .j) (few .result) _ more (few .ensures))
 
 same-length : tie.Need-same-length Inv-loop μ-loop
 same-length c = c .before .loop .inv .1 .size
@@ -139,7 +145,7 @@ returns c =
     let e = entry t in
     let a = e .args in
     let all : t .loop .j ≡ a .found = omega (arith, c .loop-test .left, t .loop .inv .0) in
-    subst (λ (n : ℕ). Measured (a .bound) (map (hit e) (part (a .from) n (a .heap .now))) 0 (a .heap .now) (t .loop .queued) (t .loop .heap)) all (t .loop .inv .1)
+    subst (λ (n : ℕ). Measured (a .bound) (map (hit e) (part (a .from) n (a .heap .now))) (a .count) (a .heap .now) (t .loop .queued) (t .loop .heap)) all (t .loop .inv .1)
 
 pub measure-spec : {M : Type 1} → statement M
 measure-spec =
@@ -149,12 +155,12 @@ measure-spec =
     μ-loop
     loop-holds
     add-at
-    sub-if1
+    sub-left
     measure-four-requires
     add-j
     loop-less
     loop-again
-    measure-one-requires
+    measure-few-requires
     add-j-2
     loop-less-2
     loop-again-2

@@ -1,216 +1,71 @@
--- `measure_four` meets its contract: each of the four numbers is held, so its vector is within the floats. Assumes nothing.
-use Rattle.hit_queue.proofs.Measuring.{number-held, hit-is}
+-- `measure_four` meets its contract: the numbers at the four places are those of the part. Assumes nothing.
+use Rattle.hit_queue.proofs.Measuring.{number-at}
 use Rattle.lists.specs.Parts.{four-mapped}
 use Rattle.hit_queue.specs.Contracts.{Measured}
 use Rattle.walk.specs.StoreView.{hitAt}
-use Rattle.walk.specs.LentLaws.{vector-within}
-use lib.ListN.{length, getD}
 use mathlib.Core.List.{List}
-use mathlib.Core.Path.{_≡_, refl, subst}
+use mathlib.Core.Path.{refl, subst}
 use native.Mathlib.Omega.{arith}
-use Prim.Native.Nat.{ℕ, _+_, _*_, _<_, _≤_}
+use Prim.Native.Nat.{ℕ}
 use borrow.Author.Needs.{needs}
 use Rattle.hit_queue.proofs.queue.measure_four.Statement.{statement}
 use Rattle.hit_queue.proofs.queue.measure_four.Tie as tie
 
--- the four numbers read
-abbrev Numbers : Type 0
-Numbers = tie.After-wide4
+-- ---- the places that needs go back to
 
-abbrev entry : Numbers → tie.Start
-entry w = w .before .before .before .before .before .before .before .before .before .before .before .before
+abbrev start : tie.After-four-hits-arg → tie.Start
+start c = c .before .before .before .before .before
 
--- ---- the places that needs go back to (primed: the same place, from another one)
+abbrev after-four-hits : tie.After-push-four → tie.After-four-hits
+after-four-hits c = c .before .before
 
-abbrev after-wide : tie.After-wide2 → tie.After-wide
-after-wide c = c .before .before
+add-four-hits : tie.Need-add-four-hits
+add-four-hits c = search needs
 
-abbrev after-wide2 : tie.After-wide4 → tie.After-wide2
-after-wide2 c = c .before .before .before .before
+add-four-hits-2 : tie.Need-add-four-hits-2
+add-four-hits-2 c = search needs
 
-abbrev after-wide4 : tie.After-hit2 → tie.After-wide4
-after-wide4 c = c .before .before .before
+add-four-hits-3 : tie.Need-add-four-hits-3
+add-four-hits-3 c = search needs
 
-abbrev after-wide4′ : tie.After-hit3 → tie.After-wide4
-after-wide4′ c = c .before .before .before .before
-
-abbrev after-wide4′′ : tie.After-hit4 → tie.After-wide4
-after-wide4′′ c = c .before .before .before .before .before
-
-abbrev after-hit4 : tie.After-slice-known6 → tie.After-hit4
-after-hit4 c = c .before .before .before .before
-
-abbrev first : Numbers → ℕ
-first w = after-wide (after-wide2 w) .wide .result
-
-abbrev second : Numbers → ℕ
-second w = after-wide2 w .wide2 .result
-
-abbrev third : Numbers → ℕ
-third w = w .before .before .wide3 .result
-
-abbrev fourth : Numbers → ℕ
-fourth w = w .wide4 .result
-
--- a number of the four is that of a vector held
-held : (w : Numbers) (i v : ℕ) → i < 4 → v ≡ getD (entry w .args .heap .now) (entry w .args .at + i) 0 → v < entry w .args .counts .vectors
-held w i v low is =
-    let a = entry w .args in
-    number-held (a .counts) (a .heap .now) (a .count) (a .at) 4 (entry w .pre .measure) i (a .at + i) v low refl is
-
-held-first : (w : Numbers) → first w < entry w .args .counts .vectors
-held-first w =
-    let a = entry w .args in
-    number-held (a .counts) (a .heap .now) (a .count) (a .at) 4 (entry w .pre .measure) 0 (a .at) (first w) (omega arith) (omega arith) (after-wide (after-wide2 w) .wide .ensures .0)
-
-held-second : (w : Numbers) → second w < entry w .args .counts .vectors
-held-second w = held w 1 (second w) (omega arith) (after-wide2 w .wide2 .ensures .0)
-
-held-third : (w : Numbers) → third w < entry w .args .counts .vectors
-held-third w = held w 2 (third w) (omega arith) (w .before .before .wide3 .ensures .0)
-
-held-fourth : (w : Numbers) → fourth w < entry w .args .counts .vectors
-held-fourth w = held w 3 (fourth w) (omega arith) (w .wide4 .ensures .0)
-
--- so it is within the floats and the document ids
-inside : (w : Numbers) (v : ℕ) → v < entry w .args .counts .vectors → v * entry w .args .shape .dimension + entry w .args .shape .dimension ≤ length (entry w .args .floats .now)
-inside w v low =
-    let e = entry w in
-    vector-within (e .args .shape) (e .args .floats .now) v (e .args .counts .vectors) (e .pre .lent .within .limits) (e .pre .lent .floats-size) low (omega (arith, e .pre .lent .within .vectors))
-
-listed : (w : Numbers) (v : ℕ) → v < entry w .args .counts .vectors → (v < length (entry w .args .numbers .now)) × (v < 4096)
-listed w v low =
-    let e = entry w in
-    (omega (arith, low, e .pre .lent .within .vectors, e .pre .lent .numbers-size), omega (arith, low, e .pre .lent .within .vectors, e .pre .lent .within .limits .vectors-high))
-
-mul-wide : tie.Need-mul-wide
-mul-wide c = search needs
-
-slice-read-wide : tie.Need-slice-read-wide
-slice-read-wide c = search needs
-
-wide-requires : tie.Need-wide-requires
-wide-requires c κs = search needs
-
-add-wide : tie.Need-add-wide
-add-wide c = search needs
-
-mul-wide-2 : tie.Need-mul-wide-2
-mul-wide-2 c = search needs
-
-slice-read-wide-2 : tie.Need-slice-read-wide-2
-slice-read-wide-2 c = search needs
-
-wide-requires-2 : tie.Need-wide-requires-2
-wide-requires-2 c κs = search needs
-
-add-wide-2 : tie.Need-add-wide-2
-add-wide-2 c = search needs
-
-mul-wide-3 : tie.Need-mul-wide-3
-mul-wide-3 c = search needs
-
-slice-read-wide-3 : tie.Need-slice-read-wide-3
-slice-read-wide-3 c = search needs
-
-wide-requires-3 : tie.Need-wide-requires-3
-wide-requires-3 c κs = search needs
-
-add-wide-3 : tie.Need-add-wide-3
-add-wide-3 c = search needs
-
-mul-wide-4 : tie.Need-mul-wide-4
-mul-wide-4 c = search needs
-
-slice-read-wide-4 : tie.Need-slice-read-wide-4
-slice-read-wide-4 c = search needs
-
-wide-requires-4 : tie.Need-wide-requires-4
-wide-requires-4 c κs = search needs
-
-mul-distances-at : tie.Need-mul-distances-at
-mul-distances-at c = omega (arith, inside c (first c) (held-first c), entry c .good)
-
-mul-distances-at-2 : tie.Need-mul-distances-at-2
-mul-distances-at-2 c = omega (arith, inside c (second c) (held-second c), entry c .good)
-
-mul-distances-at-3 : tie.Need-mul-distances-at-3
-mul-distances-at-3 c = omega (arith, inside c (third c) (held-third c), entry c .good)
-
-mul-distances-at-4 : tie.Need-mul-distances-at-4
-mul-distances-at-4 c = omega (arith, inside c (fourth c) (held-fourth c), entry c .good)
-
-distances-at-requires : tie.Need-distances-at-requires
-distances-at-requires c κs = (inside c (first c) (held-first c), (inside c (second c) (held-second c), (inside c (third c) (held-third c), inside c (fourth c) (held-fourth c))))
-
-hit-requires : tie.Need-hit-requires
-hit-requires c κs = let w = c .before in listed w (first w) (held-first w)
-
-hit-requires-2 : tie.Need-hit-requires-2
-hit-requires-2 c κs = let w = c .before .before in listed w (second w) (held-second w)
-
-hit-requires-3 : tie.Need-hit-requires-3
-hit-requires-3 c κs = let w = after-wide4 c in listed w (third w) (held-third w)
-
-hit-requires-4 : tie.Need-hit-requires-4
-hit-requires-4 c κs = let w = after-wide4′ c in listed w (fourth w) (held-fourth w)
+four-hits-requires : tie.Need-four-hits-requires
+four-hits-requires c κs =
+    let e = start c in
+    let a = e .args in
+    let at = number-at (a .counts) (a .heap .now) (a .count) (a .at) 4 (e .pre .measure) in
+    record {
+      lent = e .pre .lent;
+      first = at 0 (a .at) (omega arith) (omega arith);
+      second = at 1 _ (omega arith) refl;
+      third = at 2 _ (omega arith) refl;
+      fourth = at 3 _ (omega arith) refl;
+    }
 
 push-four-requires : tie.Need-push-four-requires
-push-four-requires c κs =
-    let pre = entry (after-wide4′′ (c .before)) .pre .measure in
-    record { room = pre .room; queue = pre .queue }
+push-four-requires c κs = search needs
 
 same-length : tie.Need-same-length
 same-length c = search needs
 
 returns : tie.Need-returns
 returns c =
-    let pushed = c .before .before .push-four in
-    let h4 = after-hit4 c in
-    let h3 = h4 .before in
-    let h2 = h3 .before in
-    let h1 = h2 .before in
-    let d = h1 .before in
-    let w = d .before in
-    let a = entry w .args in
-    let four = d .distances-at .ensures in
-    let is = hit-is (a .shape) (a .floats .now) (a .numbers .now) (a .query .now) in
-    subst (λ (hits : List ℕ). Measured (a .bound) hits (a .count) (a .heap .now) (pushed .result) (pushed .last .0))
-    (four-mapped (hitAt (a .shape) (a .floats .now) (a .numbers .now) (a .query .now)) (a .heap .now) (a .at) 0 _ _ _ _ (entry w .pre .measure .inside)
-    (is _ (first w) _ _ (h1 .hit .ensures) (four .0) (after-wide (after-wide2 w) .wide .ensures .0))
-    (is _ (second w) _ _ (h2 .hit2 .ensures) (four .1 .0) (after-wide2 w .wide2 .ensures .0))
-    (is _ (third w) _ _ (h3 .hit3 .ensures) (four .1 .1 .0) (w .before .before .wide3 .ensures .0))
-    (is _ (fourth w) _ _ (h4 .hit4 .ensures) (four .1 .1 .1) (w .wide4 .ensures .0)))
-    (pushed .ensures)
+    let p = c .before .before in
+    let f = after-four-hits p in
+    let e = start (f .before) in
+    let a = e .args in
+    let four = f .four-hits .ensures in
+    subst (λ (hits : List ℕ). Measured (a .bound) hits (a .count) (a .heap .now) (p .push-four .result) (p .push-four .last .0))
+    (four-mapped (hitAt (a .shape) (a .floats .now) (a .numbers .now) (a .query .now)) (a .heap .now) (a .at) 0 _ _ _ _ (e .pre .measure .inside) (four .0) (four .1 .0) (four .1 .1 .0) (four .1 .1 .1))
+    (p .push-four .ensures)
 
 pub measure-four-spec : {M : Type 1} → statement M
 measure-four-spec =
     tie.close
     (tie.spec
-    mul-wide
-    slice-read-wide
-    wide-requires
-    add-wide
-    mul-wide-2
-    slice-read-wide-2
-    wide-requires-2
-    add-wide-2
-    mul-wide-3
-    slice-read-wide-3
-    wide-requires-3
-    add-wide-3
-    mul-wide-4
-    slice-read-wide-4
-    wide-requires-4
-    mul-distances-at
-    mul-distances-at-2
-    mul-distances-at-3
-    mul-distances-at-4
-    distances-at-requires
-    hit-requires
-    hit-requires-2
-    hit-requires-3
-    hit-requires-4
+    add-four-hits
+    add-four-hits-2
+    add-four-hits-3
+    four-hits-requires
     push-four-requires
     same-length
     returns)

@@ -1,138 +1,52 @@
--- `marks::assign` meets its contract. Invariant: the first i marks are written, and the rest is as it was.
-use Prim.Native.Nat.{_+_, _-_, _*_, _≤_}
-use mathlib.Core.Path.{_≡_, refl, ap, _∙_}
-use native.Mathlib.Omega.{arith}
-use lib.ListN.{length, getD, take, length-set}
-use lib.Seq.{sets}
-use Rattle.lists.specs.Parts.{lent-run}
-use Rattle.cluster.specs.Clusters.{nearest}
-use Rattle.cluster.specs.Vectors.{vectorsIn, vectorsFrom}
-use Rattle.kmeans.specs.Marks.{assignment}
-use Rattle.cluster.specs.VectorsLaws.{vector-before}
-use Rattle.kmeans.proofs.Marking.{assign-turn, assign-end, mark-fits}
+-- `marks::assign` meets its contract: both ways of assigning do. Blocks are used only for as many centres and components as they hold.
+use mathlib.Core.Path.{sym, _∙_}
+use borrow.Author.Needs.{needs}
+use lib.ListN.{length}
+use Rattle.kmeans.proofs.Marking.{suits-bounds}
 use Rattle.kmeans.proofs.marks.assign.Statement.{statement}
 use Rattle.kmeans.proofs.marks.assign.Tie as tie
 
-abbrev Inv-loop : tie.InvT-loop
-Inv-loop floats ids work₀ dimension count centres-at k i₀ work i =
-    (i ≤ length ids)
-    × (length work ≡ length work₀)
-    × (work ≡ sets work₀ 0 (take i (assignment (vectorsIn dimension count floats) (vectorsFrom dimension k centres-at floats) ids)))
-
-abbrev μ-loop : tie.MeasureT-loop
-μ-loop floats ids work₀ dimension count centres-at k i₀ work i = length ids - i
-
 -- ---- the places that needs go back to (primed: the same place, from another one)
 
-abbrev entry : tie.After-loop Inv-loop μ-loop → tie.Start Inv-loop μ-loop
-entry c = c .before .before .before .before .before
+abbrev taken : tie.After-assign-by-blocks-arg → tie.Then1
+taken c = c .before
 
-loop-holds : tie.Need-loop-holds Inv-loop μ-loop
-loop-holds c = (omega arith, refl, refl)
+abbrev start : tie.Then1 → tie.Start
+start c = c .before .before .before .before .before
 
--- a turn's test, and the start
-abbrev start : tie.In-loop Inv-loop μ-loop → tie.Start Inv-loop μ-loop
-start t = t .before .before .before .before .before
+suits-requires : tie.Need-suits-requires
+suits-requires c κs = search needs
 
-abbrev test : tie.After-nearest-centre Inv-loop μ-loop → tie.In-loop Inv-loop μ-loop
-test t = t .before .before .before
+assign-by-blocks-requires : tie.Need-assign-by-blocks-requires
+assign-by-blocks-requires c κs =
+    let t = taken c in
+    let s = start t in
+    let bounds = suits-bounds (length (s .args .ids .now)) (s .args .k) (s .args .dimension) (sym (t .before .suits .ensures) ∙ t .if1 .taken) in
+    (s .pre .0, (s .pre .1 .0, (bounds .0, (bounds .1, s .pre .1 .1 .1))))
 
--- the vector of a turn's id ends before the centres begin
-near : (t : tie.In-loop Inv-loop μ-loop)
-    → getD (start t .args .ids .now) (t .before .loop .i) 0 * start t .args .dimension + start t .args .dimension ≤ start t .args .centres-at
-near t =
-    let room = start t .pre .0 in
-    vector-before (start t .args .dimension) (start t .args .count) (start t .args .centres-at) _ (room .behind) (room .below (t .before .loop .i) (t .loop-test .taken))
+assign-in-place-requires : tie.Need-assign-in-place-requires
+assign-in-place-requires c κs = search needs
 
-mul-start : tie.Need-mul-start Inv-loop μ-loop
-mul-start c = omega arith
+same-length : tie.Need-same-length
+same-length c = search needs
 
-shared-slice-read-start : tie.Need-shared-slice-read-start Inv-loop μ-loop
-shared-slice-read-start c = omega arith
+returns : tie.Need-returns
+returns c = search needs
 
-cast-start : tie.Need-cast-start Inv-loop μ-loop
-cast-start c = omega (arith, c .shared-slice-known3 .given (c .before .before .loop .i))
+same-length-2 : tie.Need-same-length-2
+same-length-2 c = search needs
 
-mul-start-2 : tie.Need-mul-start-2 Inv-loop μ-loop
-mul-start-2 c = omega (arith, near (c .before), start (c .before) .good)
-
-add-end : tie.Need-add-end Inv-loop μ-loop
-add-end c = omega (arith, near (c .before), start (c .before) .good)
-
-mul-nearest-centre : tie.Need-mul-nearest-centre Inv-loop μ-loop
-mul-nearest-centre c = omega (arith, near (c .before), start (c .before) .good)
-
-sub-nearest-centre : tie.Need-sub-nearest-centre Inv-loop μ-loop
-sub-nearest-centre c = omega arith
-
-part-nearest-centre-start : tie.Need-part-nearest-centre-start Inv-loop μ-loop
-part-nearest-centre-start c = omega arith
-
-part-nearest-centre-end : tie.Need-part-nearest-centre-end Inv-loop μ-loop
-part-nearest-centre-end c = omega (arith, near (c .before), start (c .before) .pre .0 .within)
-
-nearest-centre-requires : tie.Need-nearest-centre-requires Inv-loop μ-loop
-nearest-centre-requires c κs = start (c .before .before) .pre .0 .within
-
-cast-work : tie.Need-cast-work Inv-loop μ-loop
-cast-work c =
-    let s = start (test c) in
-    record { fits = mark-fits (s .args .floats .now) _ (s .args .dimension) (s .args .centres-at) (s .args .k) _ (c .nearest-centre .ensures) (s .pre .1 .0) (s .pre .1 .1 .0) }
-
-mul-work : tie.Need-mul-work Inv-loop μ-loop
-mul-work c = omega arith
-
-slice-write-work : tie.Need-slice-write-work Inv-loop μ-loop
-slice-write-work c = omega arith
-
-add-i : tie.Need-add-i Inv-loop μ-loop
-add-i c = omega arith
-
-loop-less : tie.Need-loop-less Inv-loop μ-loop
-loop-less c = omega arith
-
-loop-again : tie.Need-loop-again Inv-loop μ-loop
-loop-again c =
-    let t = test c in
-    let p = start t .args in
-    let l = t .before .loop in
-    let mark =
-    c .nearest-centre .ensures
-    ∙ ap (λ v. nearest v (vectorsFrom (p .dimension) (p .k) (p .centres-at) (p .floats .now)))
-    (lent-run (getD (p .ids .now) (l .i) 0 * p .dimension) (p .dimension) (p .floats .now)) in (
-      omega arith,
-      simp length-set (l .inv .1),
-      assign-turn _ _ _ _ _ _ _ (start t .pre .0) _ _ _ (l .inv .2) (t .loop-test .taken) mark,
-    )
-
-same-length : tie.Need-same-length Inv-loop μ-loop
-same-length c = c .before .loop .inv .1
-
-returns : tie.Need-returns Inv-loop μ-loop
-returns c = assign-end _ _ _ _ _ _ _ (entry c .pre .0) _ _ (c .before .loop .inv .2) (c .loop-test .left)
+returns-2 : tie.Need-returns-2
+returns-2 c = search needs
 
 pub assign-spec : {M : Type 1} → statement M
 assign-spec =
     tie.close
     (tie.spec
-    Inv-loop
-    μ-loop
-    loop-holds
-    mul-start
-    shared-slice-read-start
-    cast-start
-    mul-start-2
-    add-end
-    mul-nearest-centre
-    sub-nearest-centre
-    part-nearest-centre-start
-    part-nearest-centre-end
-    nearest-centre-requires
-    cast-work
-    mul-work
-    slice-write-work
-    add-i
-    loop-less
-    loop-again
+    suits-requires
+    assign-by-blocks-requires
+    assign-in-place-requires
     same-length
-    returns)
+    returns
+    same-length-2
+    returns-2)

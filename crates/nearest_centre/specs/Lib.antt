@@ -1,0 +1,2 @@
+-- Laws of the choice of the nearest centre.
+pub mod ChoiceLaws
