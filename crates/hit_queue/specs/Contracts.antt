@@ -88,13 +88,6 @@ pub record FourHeld (s : Shape) (counts : Counts) (floats : List Float) (numbers
 abbrev pub hitsFrom : ℕ → ℕ → List ℕ → List ℕ
 hitsFrom place count heap = records 3 count (drop (place * 3) heap)
 
--- `put` puts a hit at a place, and changes nothing else
-pub record Puts (place : ℕ) (heap : List ℕ) (r : Record) (heap′ : List ℕ) : Type 0 where
-  pub is : recordAt 3 heap′ place ≡ value r
-  pub front : take (place * 3) heap′ ≡ take (place * 3) heap
-  pub behind : drop (place * 3 + 3) heap′ ≡ drop (place * 3 + 3) heap
-  pub size : length heap′ ≡ length heap
-
 -- `pop_behind` wants a queue that is not empty
 pub record PopBehind (heap : List ℕ) (left : ℕ) : Type 0 where
   pub some : 0 < left
