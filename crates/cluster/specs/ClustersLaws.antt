@@ -77,24 +77,6 @@ nearest-below v centres k h g = nearestFrom-below v 0 0 (inf false) centres k g 
 
 -- ---- centres
 
-pub recentred-none : (dimension : ℕ) (vectors : List (List Float)) (centre : List Float) (ids : List ℕ) → length ids ≡ 0
-    → recentred dimension vectors centre ids ≡ centre
-unfolding recentred
-recentred-none dimension vectors centre [] e = refl
-recentred-none dimension vectors centre (id ∷ ids) e = absurd (omega arith)
-
-pub recentred-some : (dimension : ℕ) (vectors : List (List Float)) (centre : List Float) (ids : List ℕ) → 0 < length ids
-    → recentred dimension vectors centre ids ≡ meanOf dimension vectors ids
-unfolding recentred
-recentred-some dimension vectors centre [] h = absurd (not-suc-le-zero h)
-recentred-some dimension vectors centre (id ∷ ids) h = refl
-
-pub length-recentred : (dimension : ℕ) (vectors : List (List Float)) (centre : List Float) (ids : List ℕ) → length centre ≡ dimension
-    → length (recentred dimension vectors centre ids) ≡ dimension
-unfolding recentred
-length-recentred dimension vectors centre [] e = e
-length-recentred dimension vectors centre (id ∷ ids) e = length-meanOf dimension vectors (id ∷ ids)
-
 length-recentreFrom : (dimension : ℕ) (vectors : List (List Float)) (ids : List ℕ) (centres : List (List Float)) (j : ℕ) (rest : List (List Float))
     → length (recentreFrom dimension vectors ids centres j rest) ≡ length rest
 unfolding recentreFrom

@@ -2,13 +2,13 @@
 use Prim.Native.Nat.{ℕ, suc, _+_, _*_, _≤_, _<_, _^_}
 use mathlib.Core.Path.{_≡_, refl, sym, ap, ap₂, _∙_}
 use mathlib.Core.Logic.{_⊎_, inl, inr}
-use mathlib.Core.Bool.{Bool, true, false, cond, _&&_}
+use mathlib.Core.Bool.{Bool, true, false, cond}
 use mathlib.Core.List.{List, [], _∷_, map}
 use native.Mathlib.Nat.{zero-add}
 use native.Mathlib.Numerals.{add-one}
 use native.Mathlib.Omega.{arith}
-use borrow.Author.Tests.{eqb-true, eqb-false, lt-ltb, le-ltb, ltb-true, ltb-false, leb-true}
-use lib.Dec.{T, eqb, ltb, leb, le→leb}
+use borrow.Author.Tests.{eqb-true, eqb-false, lt-ltb, le-ltb, ltb-true, ltb-false}
+use lib.Dec.{T, eqb, ltb, le→leb}
 use lib.IntN.{pos}
 use lib.ListN.{length, getD, set, drop, replicate, drop-of-length-le, length-map, length-set, getD-replicate, List·getD-eq-default, length-replicate}
 use lib.Seq.{sets, length-sets, drop-cons, ext-getD, getD-set-same, getD-set-other}
@@ -16,7 +16,7 @@ use lib.Ieee.{Float, binary32, div, ofInt, inFloat}
 use Rattle.lists.specs.Lists.{part, countFrom}
 use Rattle.lists.specs.Parts.{length-part, sets-self}
 use Rattle.lists.specs.Maps.{getD-map}
-use Rattle.lists.specs.Tests.{either, which, and-both}
+use Rattle.lists.specs.Tests.{either, which}
 use Rattle.lists.specs.Counting.{length-countFrom, getD-countFrom}
 use Rattle.lists.specs.Partition.{hit, count, hit-same, hit-other, count-nil, count-cons}
 use Rattle.lists.specs.Frame.{AlikeBut, alike-refl, alike-trans, alike-sets}
@@ -334,10 +334,6 @@ means-are d n k at ids marks counts f f₁ f₂ f₃ behind is sizes c₁ c₂ c
         (sizes j h ∙ sym (length-marked j marks ids (marks-size d n k at f ids marks is)))
         ∙ ap (recentred d vs (vectorOf cs j)) (ap (λ (ms : List ℕ). withMark j ms ids) is ∙ withMark-assignment vs cs j ids)
         ∙ sym (vectorOf-recentre d vs ids cs j (rw length-vectorsIn h))
-
--- what the test for one pass says of k
-pub one-pass-bounds : (k : ℕ) → (leb 1 k && leb k 64) ≡ true → (1 ≤ k) × (k ≤ 64)
-one-pass-bounds k e = let both = and-both (leb 1 k) (leb k 64) e in (leb-true 1 k (both .0), leb-true k 64 (both .1))
 
 -- what an f32 holds of whole numbers
 pub number-in-float : (n : ℕ) → n ≤ 2 ^ 24 → T (inFloat binary32 (pos n))

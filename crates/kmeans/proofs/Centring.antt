@@ -1,6 +1,6 @@
 -- Centres that are written one after the other, and the steps of k-means.
-use Prim.Native.Nat.{ℕ, suc, _+_, _*_, _-_, _/_, _≤_, _<_, min}
-use mathlib.Core.Path.{_≡_, refl, sym, ap, ap₂, _∙_, subst}
+use Prim.Native.Nat.{ℕ, suc, _+_, _*_, _/_, _≤_, _<_, min}
+use mathlib.Core.Path.{_≡_, refl, sym, ap, ap₂, _∙_}
 use mathlib.Core.List.{List, [], _++_, append-nil}
 use native.Mathlib.Nat.{zero-add, mul-div-le, le-div-iff-mul-le, mul-le-mul-right, suc-mul}
 use native.Mathlib.Omega.{arith}
@@ -8,16 +8,16 @@ use lib.ListN.{length, getD, set, take, drop, drop-of-length-le}
 use lib.Seq.{sets, sets-eq, length-sets}
 use lib.Ieee.{Float}
 use Rattle.lists.specs.Lists.{part}
-use Rattle.lists.specs.Parts.{length-part, part-sets-same, sets-self, part-written}
-use Rattle.cluster.specs.Clusters.{vectorOf, meanOf, members, recentred, recentre, firstCentres, lastCentres}
+use Rattle.lists.specs.Parts.{length-part, part-written}
+use Rattle.cluster.specs.Clusters.{vectorOf, recentre, firstCentres, lastCentres}
 use Rattle.cluster.specs.Vectors.{vectorsIn, vectorsFrom}
-use Rattle.kmeans.specs.Marks.{assignment, withMark}
+use Rattle.kmeans.specs.Marks.{assignment}
 use Rattle.cluster.specs.Contracts.{BehindVectors}
-use Rattle.lists.specs.Frame.{AlikeBut, alike-refl, alike-trans, alike-sets, alike-widen}
+use Rattle.lists.specs.Frame.{AlikeBut, alike-refl, alike-trans, alike-sets}
 use Rattle.kmeans.specs.Contracts.{Centred, Clustered}
 use Rattle.cluster.specs.VectorsLaws.{length-vectorsIn, vectorOf-vectorsIn, vectorOf-vectorsFrom, vectorsFrom-write, row-end, alike-vectors, vector-before}
-use Rattle.kmeans.specs.MarksLaws.{length-assignment, length-withMark, withMark-below, withMark-assignment}
-use Rattle.cluster.specs.ClustersLaws.{recentred-none, recentred-some, length-recentred, length-recentre, vectorOf-recentre, length-firstCentres, vectorOf-firstCentres}
+use Rattle.kmeans.specs.MarksLaws.{length-assignment}
+use Rattle.cluster.specs.ClustersLaws.{length-firstCentres, vectorOf-firstCentres}
 use Rattle.lists.specs.Writes.{write-turn, write-end, unwritten}
 
 -- ---- k centres, the first j of them written
@@ -100,101 +100,6 @@ module _ (floats₀ : List Float) (ids : List ℕ) (d n at k : ℕ) (room : Behi
       let size : length v ≡ d = length-part (id * d) d floats (omega (arith, inv .same, room .within, before)) in
       centres-turn d k at floats₀ (firstCentres vectors ids k) (length-firstCentres vectors ids k) (room .within) floats floats′ i v inv h q e size
 
--- ---- one centre becomes the mean of its cluster
-
-module _ (floats : List Float) (ids work : List ℕ) (d n at j : ℕ) (room : BehindVectors floats ids d n at d) (space : 2 * length ids ≤ length work) where
-  abbrev chosen : List ℕ
-  chosen = withMark j (take (length ids) work) ids
-
-  pub chosen-fit : length ids + length chosen ≤ length work
-  chosen-fit = let e = length-withMark j (take (length ids) work) ids in omega arith
-
-  pub chosen-end : (found : ℕ) → found ≡ length chosen → length ids + found ≤ length work
-  chosen-end found e = omega (arith, chosen-fit)
-
-  chosen-room : BehindVectors floats chosen d n at d
-  chosen-room =
-      let e = length-withMark j (take (length ids) work) ids in
-      record {
-        below = withMark-below n j (take (length ids) work) ids (room .below);
-        few = omega (arith, e, room .few);
-        behind = room .behind;
-        within = room .within;
-      }
-
-  -- the part of the work list that is handed on
-  handed : (work′ : List ℕ) (found : ℕ) → work′ ≡ sets work (length ids) chosen → found ≡ length chosen
-      → take (length ids + found - length ids) (drop (length ids) work′) ≡ chosen
-  handed work′ found e f =
-      let k : length ids + found - length ids ≡ length chosen = omega arith in
-      rw (k, e) (part-sets-same work (length ids) chosen chosen-fit)
-
-  pub handed-room : (work′ : List ℕ) (found : ℕ) → work′ ≡ sets work (length ids) chosen → found ≡ length chosen
-      → BehindVectors floats (take (length ids + found - length ids) (drop (length ids) work′)) d n at d
-  handed-room work′ found e f = subst (λ (l : List ℕ). BehindVectors floats l d n at d) (sym (handed work′ found e f)) chosen-room
-
-  pub chosen-mean : (floats′ : List Float) (work′ : List ℕ) (found : ℕ) → work′ ≡ sets work (length ids) chosen → found ≡ length chosen
-      → 0 < found
-      → floats′ ≡ sets floats at (meanOf d (vectorsIn d n floats) (take (length ids + found - length ids) (drop (length ids) work′)))
-      → floats′ ≡ sets floats at (recentred d (vectorsIn d n floats) (part at d floats) chosen)
-  chosen-mean floats′ work′ found e f h q =
-      q
-      ∙ ap (λ (l : List ℕ). sets floats at (meanOf d (vectorsIn d n floats) l)) (handed work′ found e f)
-      ∙ ap (λ (v : List Float). sets floats at v) (sym (recentred-some d (vectorsIn d n floats) (part at d floats) chosen (omega arith)))
-
-  pub chosen-none : (found : ℕ) → found ≡ length chosen → found ≤ 0
-      → floats ≡ sets floats at (recentred d (vectorsIn d n floats) (part at d floats) chosen)
-  chosen-none found f h =
-      sym
-      (ap (λ (v : List Float). sets floats at v) (recentred-none d (vectorsIn d n floats) (part at d floats) chosen (omega arith))
-      ∙ sets-self floats at d)
-
-  pub chosen-alike : (work′ : List ℕ) → work′ ≡ sets work (length ids) chosen → AlikeBut (length ids) (length ids) work work′
-  chosen-alike work′ e =
-      let k = length-withMark j (take (length ids) work) ids in
-      rw e (alike-sets (length ids) (length ids) work (length ids) chosen (omega arith) (omega arith))
-
--- ---- every centre
-
-module _ (floats₀ : List Float) (ids work₀ : List ℕ) (d n at k : ℕ) (room : BehindVectors floats₀ ids d n at (k * d))
-    (marks : take (length ids) work₀ ≡ assignment (vectorsIn d n floats₀) (vectorsFrom d k at floats₀) ids) where
-  abbrev new : List (List Float)
-  new = recentre d (vectorsIn d n floats₀) ids (vectorsFrom d k at floats₀)
-
-  pub length-new : length new ≡ k
-  length-new = length-recentre d (vectorsIn d n floats₀) ids (vectorsFrom d k at floats₀) ∙ length-vectorsIn d k (drop at floats₀)
-
-  -- the room of one centre
-  pub centre-room : (floats : List Float) (j : ℕ) → length floats ≡ length floats₀ → j < k → BehindVectors floats ids d n (at + j * d) d
-  centre-room floats j e h =
-      let end = row-end d j k h in
-      record {
-        below = room .below;
-        few = room .few;
-        behind = omega (arith, room .behind);
-        within = omega (arith, room .within, end, e);
-      }
-
-  pub recentre-turn : (floats floats′ : List Float) (work : List ℕ) (j : ℕ) → WritingCentres d k at floats₀ new floats j
-      → AlikeBut (length ids) (length ids) work₀ work → j < k
-      → floats′ ≡ sets floats (at + j * d) (recentred d (vectorsIn d n floats) (part (at + j * d) d floats) (withMark j (take (length ids) work) ids))
-      → WritingCentres d k at floats₀ new floats′ (j + 1)
-  recentre-turn floats floats′ work j inv same h q =
-      let vectors : List (List Float) = vectorsIn d n floats₀ in
-      let centres : List (List Float) = vectorsFrom d k at floats₀ in
-      let own : part (at + j * d) d floats ≡ vectorOf centres j = centres-own d k at floats₀ new length-new (room .within) floats j inv h in
-      let size : length (part (at + j * d) d floats) ≡ d = let end = row-end d j k h in length-part (at + j * d) d floats (omega (arith, inv .same, room .within, end)) in
-      let who : withMark j (take (length ids) work) ids ≡ members vectors centres j ids =
-      ap (λ (ms : List ℕ). withMark j ms ids) (same .front ∙ marks) ∙ withMark-assignment vectors centres j ids in
-      let v : List Float = recentred d (vectorsIn d n floats) (part (at + j * d) d floats) (withMark j (take (length ids) work) ids) in
-      let e : v ≡ vectorOf new j =
-      ap₂ (λ (vs : List (List Float)) (ms : List ℕ). recentred d vs (part (at + j * d) d floats) ms)
-      (alike-vectors d n at (k * d) floats₀ floats (inv .alike) (room .behind)) who
-      ∙ ap (λ (c : List Float). recentred d vectors c (members vectors centres j ids)) own
-      ∙ sym (vectorOf-recentre d vectors ids centres j (rw length-vectorsIn h)) in
-      centres-turn d k at floats₀ new length-new (room .within) floats floats′ j v inv h q e
-      (length-recentred d (vectorsIn d n floats) (part (at + j * d) d floats) (withMark j (take (length ids) work) ids) size)
-
 -- ---- the rounds
 
 -- room is a matter of lengths
@@ -222,12 +127,6 @@ module _ (floats : List Float) (ids work work′ : List ℕ) (d n at k : ℕ)
 
   pub assigned-alike : AlikeBut 0 (2 * length ids) work work′
   assigned-alike = marks-alike ids work work′ due e (length-assignment (vectorsIn d n floats) (vectorsFrom d k at floats) ids) space
-
-pub round-alike : (ids work work₁ work₂ : List ℕ) → AlikeBut 0 (2 * length ids) work work₁ → AlikeBut (length ids) (length ids) work₁ work₂
-    → AlikeBut 0 (2 * length ids) work work₂
-round-alike ids work work₁ work₂ p q =
-    alike-trans 0 (2 * length ids) p
-    (alike-widen (length ids) (length ids) 0 (2 * length ids) work₁ work₂ q (omega arith) (omega arith))
 
 pub kmeans-end : (d n at k : ℕ) (ids : List ℕ) (f f₁ f₂ f₃ : List Float) (w w₁ w₂ w₃ : List ℕ) → n * d ≤ at → k ≤ length ids
     → 2 * length ids ≤ length w₂

@@ -1,17 +1,13 @@
 -- The marks are written in the order of the ids.
 use Prim.Native.Nat.{ℕ, _+_, _-_, _*_, _/_, _≤_, _<_, _^_}
 use mathlib.Core.Path.{_≡_, sym, ap, _∙_}
-use mathlib.Core.Bool.{true, _&&_}
 use mathlib.Core.List.{List}
 use native.Mathlib.Nat.{zero-add, mul-le-mul-right}
 use native.Mathlib.Omega.{arith}
-use borrow.Author.Tests.{leb-true}
-use lib.Dec.{leb}
 use lib.ListN.{length, getD, set, take, drop}
 use lib.Seq.{sets}
 use lib.Ieee.{Float}
 use Rattle.lists.specs.Lists.{part}
-use Rattle.lists.specs.Tests.{and-right, and-both}
 use Rattle.lists.specs.Parts.{length-part, lent-run}
 use Rattle.cluster.specs.Clusters.{nearest}
 use Rattle.cluster.specs.Vectors.{vectorsIn}
@@ -43,13 +39,6 @@ pub mark-fits : (v : List Float) (centres : List (List Float)) (k r : ℕ) → l
 mark-fits v centres k r n e h g = let b = nearest-below v centres k (omega arith) h in omega arith
 
 -- ---- centres in blocks
-
--- what the test for blocks says of k and the dimension
-pub suits-bounds : (n k dimension : ℕ) → (leb 32 n && (leb 8 k && (leb k 64 && leb dimension 128))) ≡ true → (k ≤ 64) × (dimension ≤ 128)
-suits-bounds n k dimension e =
-    let few = and-right (leb 32 n) (leb 8 k && (leb k 64 && leb dimension 128)) e in
-    let both = and-both (leb k 64) (leb dimension 128) (and-right (leb 8 k) (leb k 64 && leb dimension 128) few) in
-    (leb-true k 64 (both .0), leb-true dimension 128 (both .1))
 
 -- 64 centres of 128 components fill 8,192 floats
 pub blocks-fit : (k dimension : ℕ) → k ≤ 64 → dimension ≤ 128 → (k + 15) / 16 * (dimension * 16) ≤ 8192

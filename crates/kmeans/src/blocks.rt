@@ -12,12 +12,12 @@ ghost use Rattle.cluster.specs.Contracts.{BehindVectors};
 ghost use Rattle.centre_blocks.specs.Blocks.{centresIn};
 ghost use Rattle.kmeans.specs.Marks.{assignment};
 
-// Whether k centres are laid out for n ids: they fit in 8,192 floats, and there are so many ids and
-// centres that it saves more than it costs.
-pub fn suits(n: usize, k: usize, dimension: usize) -> bool
-    ensures { λ r. ⌜ r ≡ (leb 32 n && (leb 8 k && (leb k 64 && leb dimension 128))) ⌝ }
+// Whether k centres are laid out for n ids: there are so many of both that it saves more than it
+// costs.
+pub fn suits(n: usize, k: usize) -> bool
+    ensures { λ r. ⌜ r ≡ (leb 32 n && leb 8 k) ⌝ }
 {
-    (32 <= n) & ((8 <= k) & ((k <= 64) & (dimension <= 128)))
+    (32 <= n) & (8 <= k)
 }
 
 // Writes the marks of ids by the k centres in blocks. `count` vectors are held.
@@ -46,7 +46,8 @@ fn assign_in_blocks(
     }
 }
 
-// Lays out the k centres at `centres_at` and writes the marks of ids by them.
+// Lays out the k centres at `centres_at`, which fit in 8,192 floats, and writes the marks of ids by
+// them.
 pub fn assign_by_blocks(
     floats: &[f32],
     ids: &[u32],

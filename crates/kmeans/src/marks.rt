@@ -48,11 +48,12 @@ pub fn assign(
 )
     requires { ⌜ BehindVectors (now floats) (now ids) dimension count «centres_at» (k * dimension) ⌝ }
     requires { ⌜ 1 ≤ k ⌝ }
-    requires { ⌜ k < 2 ^ 32 ⌝ }
+    requires { ⌜ k ≤ 64 ⌝ }
+    requires { ⌜ dimension ≤ 128 ⌝ }
     requires { ⌜ length (now ids) ≤ length (now work) ⌝ }
     ensures { λ _. ⌜ now (work .exit) ≡ sets (now (work .entry)) 0 (assignment (vectorsIn dimension count (now (floats .entry))) (vectorsFrom dimension k «centres_at» (now (floats .entry))) (now (ids .entry))) ⌝ }
 {
-    if blocks::suits(ids.len(), k, dimension) {
+    if blocks::suits(ids.len(), k) {
         blocks::assign_by_blocks(floats, ids, work, dimension, count, centres_at, k);
     } else {
         assign_in_place(floats, ids, work, dimension, count, centres_at, k);

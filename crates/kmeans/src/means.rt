@@ -2,8 +2,6 @@
 use mean::part;
 ghost use Prim.Native.Nat.{ℕ, _+_, _*_, _≤_, _<_, _^_};
 ghost use mathlib.Core.Path.{_≡_};
-ghost use mathlib.Core.Bool.{_&&_};
-ghost use lib.Dec.{leb};
 ghost use lib.ListN.{length, getD};
 ghost use Rattle.lists.specs.Partition.{count};
 ghost use Rattle.cluster.specs.Clusters.{recentre};
@@ -12,13 +10,6 @@ ghost use Rattle.cluster.specs.Contracts.{BehindVectors};
 ghost use Rattle.kmeans.specs.Marks.{assignment};
 ghost use Rattle.kmeans.specs.Means.{eachCentre, begun, summed, divided};
 ghost use Rattle.kmeans.specs.Contracts.{Centred};
-
-// Whether the counts of k clusters fit in the local list.
-pub fn in_one_pass(k: usize) -> bool
-    ensures { λ r. ⌜ r ≡ (leb 1 k && leb k 64) ⌝ }
-{
-    (1 <= k) & (k <= 64)
-}
 
 // Counts how often each mark occurs, from counts that are 0.
 fn count_marks(marks: &[u32], counts: &mut [u32])

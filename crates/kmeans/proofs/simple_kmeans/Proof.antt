@@ -36,7 +36,7 @@ round-requires : tie.Need-round-requires
 round-requires c κs =
     let a = start (after-first-centres c) in (
       room-kept _ _ _ _ _ _ _ (a .pre .0) (after-first-centres c .first-centres .kept .0),
-      (a .pre .1 .0, (omega (arith, a .pre .0 .few, a .pre .1 .1 .0), a .pre .1 .1 .1)),
+      (a .pre .1 .0, a .pre .1 .1 .1),
     )
 
 round-requires-2 : tie.Need-round-requires-2
@@ -46,7 +46,7 @@ round-requires-2 c κs =
     let a = start first-centres in
     let one = round .round .kept in (
       room-kept _ _ _ _ _ _ _ (a .pre .0) (one .0 ∙ first-centres .first-centres .kept .0),
-      (a .pre .1 .0, (omega (arith, a .pre .0 .few, a .pre .1 .1 .0), omega (arith, one .1 .1 .0, a .pre .1 .1 .1))),
+      (a .pre .1 .0, (a .pre .1 .1 .1 .0, (a .pre .1 .1 .1 .1 .0, omega (arith, one .1 .1 .0, a .pre .1 .1 .1 .1 .1)))),
     )
 
 assign-requires : tie.Need-assign-requires
@@ -58,7 +58,7 @@ assign-requires c κs =
     let one = round .round .kept in
     let two = round2 .round2 .kept in (
       room-kept _ _ _ _ _ _ _ (a .pre .0) (two .0 ∙ one .0 ∙ first-centres .first-centres .kept .0),
-      (a .pre .1 .0, (omega (arith, a .pre .0 .few, a .pre .1 .1 .0), omega (arith, one .1 .1 .0, two .1 .1 .0, a .pre .1 .1 .1))),
+      (a .pre .1 .0, (a .pre .1 .1 .1 .0, (a .pre .1 .1 .1 .1 .0, omega (arith, one .1 .1 .0, two .1 .1 .0, a .pre .1 .1 .1 .1 .1)))),
     )
 
 same-length : tie.Need-same-length
@@ -80,7 +80,7 @@ returns c =
     let third = c .before .before .assign in
     kmeans-end (p .dimension) (p .count) (p .centres-at) (p .k) (p .ids .now) (p .floats .now) (first .last .0) (one .last .0) (two .last .0) (p .work .now)
     (one .last .1 .1 .0) (two .last .1 .1 .0) (third .last .1 .1 .0) (a .pre .0 .behind) (a .pre .1 .1 .0)
-    (omega (arith, one .kept .1 .1 .0, two .kept .1 .1 .0, a .pre .1 .1 .1)) (first .ensures) (one .ensures .0) (one .ensures .1) (two .ensures .0)
+    (omega (arith, one .kept .1 .1 .0, two .kept .1 .1 .0, a .pre .1 .1 .1 .1 .1)) (first .ensures) (one .ensures .0) (one .ensures .1) (two .ensures .0)
     (two .ensures .1) (third .ensures)
 
 pub simple-kmeans-spec : {M : Type 1} → statement M

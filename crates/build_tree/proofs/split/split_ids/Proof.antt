@@ -39,8 +39,9 @@ simple-kmeans-requires c κs =
     let k = smaller .smaller in
     let e = k .ensures in
     let b = p .0 .branching-low in
+    let top = p .0 .branching-high in
     let room = room-smaller (a .shape .branching) {k = k .result} (p .1 .0) (omega arith) in
-    (rw (c .centres-at .ensures) room, (omega arith, (omega arith, p .1 .1 .1 .1 .1 .0)))
+    (rw (c .centres-at .ensures) room, (omega arith, (omega arith, (omega arith, (p .0 .dimension-high, p .1 .1 .1 .1 .1 .0)))))
 
 sort-by-mark-requires : tie.Need-sort-by-mark-requires
 sort-by-mark-requires c κs =

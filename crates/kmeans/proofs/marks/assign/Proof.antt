@@ -1,31 +1,24 @@
--- `marks::assign` meets its contract: both ways of assigning do. Blocks are used only for as many centres and components as they hold.
-use mathlib.Core.Path.{sym, _∙_}
+-- `marks::assign` meets its contract: both ways of assigning do.
+use native.Mathlib.Omega.{arith}
 use borrow.Author.Needs.{needs}
-use lib.ListN.{length}
-use Rattle.kmeans.proofs.Marking.{suits-bounds}
 use Rattle.kmeans.proofs.marks.assign.Statement.{statement}
 use Rattle.kmeans.proofs.marks.assign.Tie as tie
 
 -- ---- the places that needs go back to (primed: the same place, from another one)
 
-abbrev taken : tie.After-assign-by-blocks-arg → tie.Then1
-taken c = c .before
-
-abbrev start : tie.Then1 → tie.Start
-start c = c .before .before .before .before .before
+abbrev start : tie.After-assign-in-place-arg → tie.Start
+start c = c .before .before .before .before .before .before
 
 suits-requires : tie.Need-suits-requires
 suits-requires c κs = search needs
 
 assign-by-blocks-requires : tie.Need-assign-by-blocks-requires
-assign-by-blocks-requires c κs =
-    let t = taken c in
-    let s = start t in
-    let bounds = suits-bounds (length (s .args .ids .now)) (s .args .k) (s .args .dimension) (sym (t .before .suits .ensures) ∙ t .if1 .taken) in
-    (s .pre .0, (s .pre .1 .0, (bounds .0, (bounds .1, s .pre .1 .1 .1))))
+assign-by-blocks-requires c κs = search needs
 
 assign-in-place-requires : tie.Need-assign-in-place-requires
-assign-in-place-requires c κs = search needs
+assign-in-place-requires c κs =
+    let pre = start c .pre in
+    (pre .0, (pre .1 .0, (omega (arith, pre .1 .1 .0), pre .1 .1 .1 .1)))
 
 same-length : tie.Need-same-length
 same-length c = search needs
