@@ -1,4 +1,4 @@
-// The search over a lent store: the best-first walk, and the first k of its hits (document 01, 'Search').
+// The search over a lent store: a walk, and the first k of its hits (document 01, 'Search').
 pub mod rank;
 
 use crate::rank::first_hits;

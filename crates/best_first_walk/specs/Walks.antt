@@ -5,7 +5,8 @@ use mathlib.Core.Bool.{Bool, true, cond}
 use mathlib.Core.List.{List, map}
 use lib.Dec.{ltb}
 use lib.Ieee.{Float}
-use lib.ListN.{length, getD, take}
+use lib.ListN.{length, getD, take, set, replicate}
+use lib.Seq.{sets}
 use Rattle.lists.specs.Lists.{part, isIn}
 use Rattle.record_queue.specs.Sorted.{sort}
 use Rattle.record_queue.specs.Records.{records, Heap}
@@ -49,6 +50,16 @@ pub record Represents (s : Shape) (c : Counts) (hit : ℕ → ℕ) (p : Progress
   pub waits : sort (records 2 waiting work) ≡ p .waiting
   pub marks : (i : ℕ) → i < c .nodes → getD work (marksAt s + i) 0 ≡ cond (isIn i (p .pushed)) 1 0
   pub finds : FindsVectors s c hit (p .found) work found
+
+-- to mark the root: a store with a node, and the work list
+pub record RootLent (s : Shape) (c : Counts) (work : List ℕ) : Type 0 where
+  pub within : CountsWithin s c
+  pub some : 1 ≤ c .nodes
+  pub work-size : workSize s ≤ length work
+
+-- the root alone is marked
+abbrev pub rootMarked : Shape → Counts → List ℕ → List ℕ
+rootMarked s c work = set (sets work (marksAt s) (replicate (c .nodes) 0)) (marksAt s) 1
 
 -- to begin a walk: a store with a node, its floats, and the work list
 pub record BeginLent (s : Shape) (c : Counts) (floats : List Float) (work : List ℕ) : Type 0 where

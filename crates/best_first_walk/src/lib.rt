@@ -19,7 +19,7 @@ ghost use lib.ListN.{length, getD, replicate};
 ghost use Rattle.store.specs.Store.{Limits};
 ghost use Rattle.store.specs.Lent.{lent};
 ghost use Rattle.walk.specs.Contracts.{StoreLent};
-ghost use Rattle.best_first_walk.specs.Walks.{foundAt, BeginLent, BeginsAny, Walks};
+ghost use Rattle.best_first_walk.specs.Walks.{foundAt, rootMarked, RootLent, BeginLent, BeginsAny, Walks};
 
 // How a walk ended: with vectors found, each of them a hit, or at damage. It is whole if no node waited.
 pub enum Walked {
@@ -42,7 +42,7 @@ pub fn found_at(shape: Shape) -> usize
 }
 
 // Clears a list.
-pub fn clear(marks: &mut [u32])
+fn clear(marks: &mut [u32])
     ensures { λ _. ⌜ now (marks .exit) ≡ replicate (length (now (marks .entry))) 0 ⌝ }
 {
     let mut i = 0;
@@ -66,15 +66,23 @@ pub fn fresh_child(work: &[u32], marks_at: usize, nodes: usize, parent: usize, c
     work[marks_at + child] == 0
 }
 
-// Begins a walk: the root alone is marked, and it waits.
-fn begin(shape: Shape, counts: Counts, floats: &[f32], work: &mut [u32], query: &[f32])
-    requires { ⌜ BeginLent shape counts (now floats) (now work) ⌝ }
-    ensures { λ _. ⌜ BeginsAny shape counts (now (floats .entry)) (now (query .entry)) (now (work .entry)) (now (work .exit)) ⌝ }
+// Marks the root alone.
+pub fn mark_root(shape: Shape, counts: Counts, work: &mut [u32])
+    requires { ⌜ RootLent shape counts (now work) ⌝ }
+    ensures { λ _. ⌜ now (work .exit) ≡ rootMarked shape counts (now (work .entry)) ⌝ }
 {
     let start = shape.marks_at();
     let end = start + counts.nodes;
     clear(&mut work[start..end]);
     work[start] = 1;
+}
+
+// Begins a walk: the root alone is marked, and it waits.
+fn begin(shape: Shape, counts: Counts, floats: &[f32], work: &mut [u32], query: &[f32])
+    requires { ⌜ BeginLent shape counts (now floats) (now work) ⌝ }
+    ensures { λ _. ⌜ BeginsAny shape counts (now (floats .entry)) (now (query .entry)) (now (work .entry)) (now (work .exit)) ⌝ }
+{
+    mark_root(shape, counts, work);
     let key = distance_key(floats, query, shape.dimension, shape.vectors);
     push_node(shape, work, 0, 0, key);
 }

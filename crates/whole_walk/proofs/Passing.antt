@@ -7,20 +7,21 @@ use mathlib.Core.Path.{_≡_, refl, sym, ap, ap₂, _∙_, subst}
 use mathlib.Core.Logic.{_⊎_, inl, inr, _≢_}
 use mathlib.Core.Bool.{Bool, true, false}
 use mathlib.Core.List.{List, [], _∷_, List·Memᴰ, List·Memᴰ·head, List·Memᴰ·tail, List·Memᴰ·not-nil}
-use lib.Dec.{leb}
+use lib.Dec.{leb, ltb}
 use lib.ListN.{length, getD}
 use borrow.Author.Tests.{leb-true, leb-false, eq-eqb, ne-eqb}
 use Rattle.lists.specs.Lists.{keep, countFrom, isIn}
 use Rattle.lists.specs.Counting.{keep-pass, keep-fail, keep-nil, keep-none, keep-congr, Memᴰ-keep, countFrom-cons, Memᴰ-countFrom, isIn-nil, isIn-here, isIn-later}
-use Rattle.lists.specs.Tests.{which}
+use Rattle.lists.specs.Tests.{which, allPass-nil}
 use Rattle.record_queue.specs.Sorted.{insert}
 use Rattle.record_queue.specs.SortedLaws.{insert-gt, insert-least, mem-least, length-sort}
 use Rattle.record_queue.specs.RecordsLaws.{same-or-not}
 use Rattle.store.specs.declared.Shape.{Shape}
 use Rattle.store.specs.declared.Counts.{Counts}
-use Rattle.store.specs.Store.{marksAt}
+use Rattle.store.specs.Store.{marksAt, workSize}
 use Rattle.walk.specs.Walk.{View, nodeNumber, Progress, State, damaged, going, pushAll, give, shown, step, walk, walkFrom, Shown, children, hits, damage, none}
 use Rattle.walk.specs.WalkLaws.{openedOne, pushedOne, startProgress, pushAll-nil, pushAll-fresh, pushAll-again, give-damage, give-children, give-hits, give-over, step-open, walk-zero, walk-is, nil-waiting, shownChildren, Holds, found-most}
+use Rattle.walk.specs.Contracts.{Works}
 use Rattle.walk.specs.BudgetLaws.{walk-more, damaged-stays, none-stays}
 use Rattle.walk.specs.DifferentLaws.{ChildrenBelow}
 use Rattle.walk.specs.SameWalkLaws.{walk-last}
@@ -28,9 +29,22 @@ use Rattle.walk.specs.KeysLaws.{keyed, shown-keyed, SameEnd, keys-free}
 use Rattle.leaf_hits.specs.declared.Added.the-variants as added
 use Rattle.best_first_walk.specs.declared.Walked.{Walked}
 use Rattle.best_first_walk.specs.declared.Walked.the-variants as walked
-use Rattle.best_first_walk.specs.Walks.{WalkEnds}
-use Rattle.best_first_walk.specs.MarkLaws.{mark-tells}
+use Rattle.best_first_walk.specs.Walks.{WalkEnds, rootMarked}
+use Rattle.best_first_walk.specs.MarkLaws.{Marked, mark-tells, marked-root, works-root}
 use Rattle.whole_walk.specs.Contracts.{Notes, NotesState}
+
+-- ---- the root alone is marked, as a walk over any view begins
+
+module _ (s : Shape) (c : Counts) (work work′ : List ℕ) (nodes : c .nodes ≤ s .nodes) (some : 1 ≤ c .nodes) (is : work′ ≡ rootMarked s c work) where
+  pub root-works : Works s work work′
+  root-works = subst (Works s work) (sym is) (works-root s c work nodes some)
+
+  pub root-notes : (hit : ℕ → ℕ) (view : View) → workSize s ≤ length work → Notes s c hit (startProgress view) work′ 0
+  root-notes hit view size = record {
+    size = omega (arith, root-works .size, size);
+    marks = subst (Marked s c (0 ∷ [])) (sym is) (marked-root s c work nodes size some);
+    finds = record { count = refl; held = allPass-nil (λ x. ltb x (c .vectors)); are = refl };
+  }
 
 -- ---- the marked nodes by rising number
 

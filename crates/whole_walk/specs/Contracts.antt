@@ -12,7 +12,6 @@ use Rattle.store.specs.Store.{Store, CountsWithin, numbersSize, hashesSize, wor
 use Rattle.store.specs.Lent.{storeOf}
 use Rattle.walk.specs.declared.Wanted.{Wanted}
 use Rattle.walk.specs.Walk.{View, Progress, State, damaged, going, give, shown}
-use Rattle.walk.specs.WalkLaws.{startProgress}
 use Rattle.walk.specs.KeysLaws.{keyed}
 use Rattle.walk.specs.Wanted.{most}
 use Rattle.walk.specs.StoreView.{hitAt, childrenShown, storeView}
@@ -23,12 +22,6 @@ use Rattle.best_first_walk.specs.declared.Walked.{Walked}
 use Rattle.best_first_walk.specs.Walks.{FindsVectors, Walks}
 
 -- ---- what the functions are lent
-
--- to mark the root: a store with a node, and the work list
-pub record RootLent (s : Shape) (c : Counts) (work : List ℕ) : Type 0 where
-  pub within : CountsWithin s c
-  pub some : 1 ≤ c .nodes
-  pub work-size : workSize s ≤ length work
 
 -- to mark children: their block within the numbers
 pub record ChildrenLent (s : Shape) (c : Counts) (numbers work : List ℕ) (start count : ℕ) : Type 0 where
@@ -69,11 +62,6 @@ NotesState s c hit (going p) added.Damaged work = ⊥
 NotesState s c hit (going p) (added.Hits found) work = Notes s c hit p work found
 
 -- ---- what the functions give
-
--- the root alone is marked, as a walk over any view begins
-pub record MarksRoot (s : Shape) (c : Counts) (work work′ : List ℕ) : Type 0 where
-  pub start : (hit : ℕ → ℕ) (view : View) → Notes s c hit (startProgress view) work′ 0
-  pub works : Works s work work′
 
 -- an inner node gave what its children's numbers show, whatever the keys
 pub record MarksChildren (s : Shape) (c : Counts) (found parent : ℕ) (numbers work : List ℕ) (r : Added) (work′ : List ℕ) : Type 0 where

@@ -2,9 +2,9 @@
 // nodes by rising number opens the nodes that the best-first walk opens, finds its hits and is damaged exactly where it is, with no queue and no
 // distances (document 01, 'Search').
 use best_first_walk::Walked;
-use best_first_walk::clear;
 use best_first_walk::found_at;
 use best_first_walk::fresh_child;
+use best_first_walk::mark_root;
 use leaf_hits::Added;
 use leaf_hits::add_hits;
 use store::Counts;
@@ -15,18 +15,7 @@ use walk::look::Block;
 use walk::look::Look;
 use walk::look::look_at;
 ghost use Rattle.lists.specs.Lists.{part};
-ghost use Rattle.whole_walk.specs.Contracts.{RootLent, MarksRoot, ChildrenLent, MarksChildren, OpenLent, OpensNode, PassLent, WalksAny};
-
-// Marks the root alone.
-fn mark_root(shape: Shape, counts: Counts, work: &mut [u32])
-    requires { ⌜ RootLent shape counts (now work) ⌝ }
-    ensures { λ _. ⌜ MarksRoot shape counts (now (work .entry)) (now (work .exit)) ⌝ }
-{
-    let start = shape.marks_at();
-    let end = start + counts.nodes;
-    clear(&mut work[start..end]);
-    work[start] = 1;
-}
+ghost use Rattle.whole_walk.specs.Contracts.{ChildrenLent, MarksChildren, OpenLent, OpensNode, PassLent, WalksAny};
 
 // Marks the children of an inner node; the hits stay. A child that is not fresh is damage.
 fn mark_children(

@@ -258,9 +258,10 @@ fn example(
     );
 }
 
-fn one_place(filtered: bool, place: usize, value: u32) {
+// A search of at most `ef_search` nodes where one place is damaged. The example has five nodes.
+fn one_place_at(ef_search: usize, filtered: bool, place: usize, value: u32) {
     example(
-        5,
+        ef_search,
         false,
         filtered,
         b"a",
@@ -274,6 +275,11 @@ fn one_place(filtered: bool, place: usize, value: u32) {
     );
 }
 
+fn one_place(filtered: bool, place: usize, value: u32) {
+    one_place_at(5, filtered, place, value);
+}
+
+// The last four are found at the root, also where the nodes are more than `ef_search`.
 fn children() {
     one_place(true, 42, 0);
     one_place(true, 42, 5);
@@ -285,6 +291,10 @@ fn children() {
     one_place(true, 12, 4);
     one_place(true, 24, 4);
     one_place(true, 12, 4294967295);
+    one_place_at(4, true, 42, 0);
+    one_place_at(4, true, 42, 5);
+    one_place_at(4, true, 43, 1);
+    one_place_at(1, false, 13, 6);
 }
 
 fn leaves() {

@@ -1,6 +1,6 @@
 -- `whole_walk` meets its contract: the pass keeps what `Passing` says, from any query and with any vectors, and each way out is an end of it. The measure
 -- is the nodes that are left. Assumes nothing.
-use Rattle.whole_walk.proofs.Passing.{Passes, unkeyed, ChildrenAbove, passes-start, passes-few, passes-skip, passes-next, passes-damage, ends-whole, ends-damaged}
+use Rattle.whole_walk.proofs.Passing.{root-works, root-notes, Passes, unkeyed, ChildrenAbove, passes-start, passes-few, passes-skip, passes-next, passes-damage, ends-whole, ends-damaged}
 use Rattle.whole_walk.specs.Contracts.{OpensNode}
 use Rattle.best_first_walk.specs.GatherLaws.{most-is}
 use Rattle.leaf_hits.specs.declared.Added.{Added}
@@ -73,12 +73,18 @@ nodes-fit e = omega (arith, e .pre .within .nodes, e .pre .within .limits .nodes
 abbrev first : Marked → List ℕ
 first m = m .mark-root .last .1 .1 .0
 
+-- nothing but the work part changed
+root : (m : Marked) → Works (entry m .args .shape) (entry m .args .work .now) (first m)
+root m =
+    let e = entry m in
+    root-works (e .args .shape) (e .args .counts) (e .args .work .now) (first m) (e .pre .within .nodes) (e .pre .some) (m .mark-root .ensures)
+
 marks-at : (m : Marked) → m .before .before .marks-at .result ≡ marksAt (entry m .args .shape)
 marks-at m = m .before .before .marks-at .ensures
 
 -- and at each turn
 works : (t : Turn) → Works (entry (marked t) .args .shape) (entry (marked t) .args .work .now) (t .walk .work)
-works t = let m = marked t in works-trans (entry m .args .shape) (entry m .args .work .now) (first m) (t .walk .work) (m .mark-root .ensures .works) (t .walk .inv .2)
+works t = let m = marked t in works-trans (entry m .args .shape) (entry m .args .work .now) (first m) (t .walk .work) (root m) (t .walk .inv .2)
 
 room : (t : Turn) → workSize (entry (marked t) .args .shape) ≤ length (t .walk .work)
 room t = omega (arith, entry (marked t) .pre .work-size, works t .size)
@@ -112,7 +118,7 @@ after-works h =
     works-trans (entry m .args .shape) (first m) (t .walk .work) (after h) (t .walk .inv .2) (h .open-node .ensures .works)
 
 ended-works : (h : Opened) → Works (entry (marked (turn h)) .args .shape) (entry (marked (turn h)) .args .work .now) (after h)
-ended-works h = let m = marked (turn h) in works-trans (entry m .args .shape) (entry m .args .work .now) (first m) (after h) (m .mark-root .ensures .works) (after-works h)
+ended-works h = let m = marked (turn h) in works-trans (entry m .args .shape) (entry m .args .work .now) (first m) (after h) (root m) (after-works h)
 
 -- its mark
 mark-is : (t : Turn) → getD (t .walk .work) (marked t .before .before .marks-at .result + t .walk .i) 0 ≡ getD (t .walk .work) (marksAt (entry (marked t) .args .shape) + t .walk .i) 0
@@ -133,7 +139,7 @@ walk-holds c =
       omega arith,
       omega arith,
       works-refl (e .args .shape) (first m),
-      λ floats query. passes-start (e .args .shape) (e .args .counts) (hit e floats query) (view e floats query) (first m) (e .pre .some) (m .mark-root .ensures .start (hit e floats query) (unkeyed (view e floats query))),
+      λ floats query. passes-start (e .args .shape) (e .args .counts) (hit e floats query) (view e floats query) (first m) (e .pre .some) (root-notes (e .args .shape) (e .args .counts) (e .args .work .now) (first m) (e .pre .within .nodes) (e .pre .some) (m .mark-root .ensures) (hit e floats query) (unkeyed (view e floats query)) (e .pre .work-size)),
     )
 
 add-if2 : tie.Need-add-if2 Inv-walk μ-walk
