@@ -16,18 +16,18 @@ static const float query[] = {1.0f, 0.0f};
 static void test_new(void) {
     size_t state[CURATOR_STATE + 1];
     memset(state, MARK, sizeof state);
-    CHECK(curator_new(0, 0, 0, 0, 0, 0, 0, 0, state, 0) == CURATOR_INVALID_DIMENSION);
-    CHECK(curator_new(129, 16, 128, 256, 4, 1, 0, 1, state, 13) == CURATOR_INVALID_DIMENSION);
-    CHECK(curator_new(2, 0, 128, 256, 4, 1, 0, 1, state, 0) == CURATOR_INVALID_CONFIG);
-    CHECK(curator_new(2, 16, 128, 256, 65536, 1, 0, 1, state, 13) == CURATOR_INVALID_CONFIG);
-    CHECK(curator_new(2, 16, 128, 256, 4, 4097, 0, 1, state, 13) == CURATOR_INVALID_CONFIG);
-    CHECK(curator_new(2, 16, 128, 256, 4, 1, 0, 1, state, 11) == CURATOR_INVALID_STATE);
-    CHECK(curator_new(2, 16, 128, 256, 4, 1, 0, 1, state, 0) == CURATOR_INVALID_STATE);
-    CHECK(is_marked(state, 0, 13, sizeof(size_t)));
-    CHECK(curator_new(2, 16, 128, 256, 4, 5, 6, 7, state, 12) == 0);
-    static const size_t fresh[] = {2, 16, 128, 256, 4, 5, 6, 7, 0, 0, 0, 0};
+    CHECK(curator_new(0, 0, 0, 0, 0, 0, 0, 0, 0, state, 0) == CURATOR_INVALID_DIMENSION);
+    CHECK(curator_new(129, 16, 128, 256, 4, 1, 0, 1, 0, state, 15) == CURATOR_INVALID_DIMENSION);
+    CHECK(curator_new(2, 0, 128, 256, 4, 1, 0, 1, 0, state, 0) == CURATOR_INVALID_CONFIG);
+    CHECK(curator_new(2, 16, 128, 256, 65536, 1, 0, 1, 0, state, 15) == CURATOR_INVALID_CONFIG);
+    CHECK(curator_new(2, 16, 128, 256, 4, 4097, 0, 1, 0, state, 15) == CURATOR_INVALID_CONFIG);
+    for (size_t places = 0; places < CURATOR_STATE; places++)
+        CHECK(curator_new(2, 16, 128, 256, 4, 1, 0, 1, 0, state, places) == CURATOR_INVALID_STATE);
+    CHECK(is_marked(state, 0, 15, sizeof(size_t)));
+    CHECK(curator_new(2, 16, 128, 256, 4, 5, 6, 7, 8, state, 14) == 0);
+    static const size_t fresh[] = {2, 16, 128, 256, 4, 5, 6, 7, 0, 0, 0, 0, 8, 0};
     CHECK(memcmp(state, fresh, sizeof fresh) == 0);
-    CHECK(is_marked(state, 12, 13, sizeof(size_t)));
+    CHECK(is_marked(state, 14, 15, sizeof(size_t)));
 }
 
 /* each call on a state list of a length returns 4 and leaves everything */
@@ -38,13 +38,15 @@ static void no_state(index_t *x, size_t state_len) {
     mark(&a);
     CHECK(curator_add(x->state, state_len, STORE(x), 1, query, 2, lengths, 2, label, 1) == CURATOR_INVALID_STATE);
     CHECK(curator_add(x->state, state_len, STORE(x), 1, query, 2, lengths, 1, label, 1) == CURATOR_INVALID_STATE);
+    CHECK(curator_take_back(x->state, state_len, STORE(x)) == CURATOR_INVALID_STATE);
     CHECK(curator_build(x->state, state_len, STORE(x), WORK(x)) == CURATOR_INVALID_STATE);
     CHECK(curator_search_filtered(x->state, state_len, STORE(x), WORK(x), query, 2, label, 1, label, 0, 4, a.ids, HITS, a.distances, HITS, a.answer, 3)
           == CURATOR_INVALID_STATE);
     CHECK(curator_search(x->state, state_len, STORE(x), WORK(x), query, 2, 4, a.ids, HITS, a.distances, HITS, a.answer, 3)
           == CURATOR_INVALID_STATE);
     /* row 4 comes before 3 and before 14 */
-    CHECK(curator_search(x->state, state_len, x->floats, 0, x->numbers, 0, x->hashes, 0, x->work, 0, query, 1, 4, a.ids, 0, a.distances, 0, a.answer, 0)
+    CHECK(curator_search(x->state, state_len, x->floats, 0, x->numbers, 0, x->hashes, 0, x->text, 0, x->work, 0, query, 1, 4, a.ids, 0, a.distances, 0,
+                         a.answer, 0)
           == CURATOR_INVALID_STATE);
     CHECK(answer_untouched(&a));
     CHECK(unchanged(x, &c));
@@ -55,11 +57,12 @@ static void test_state(void) {
     index_t x;
     for (int built = 0; built < 2; built++) {
         example(&x, 5, built);
-        no_state(&x, 0);
-        no_state(&x, 11);
+        for (size_t places = 0; places < CURATOR_STATE; places++) no_state(&x, places);
         static const struct { size_t place, value; } unsound[] = {
             {0, 0}, {0, 129}, {1, 0}, {1, 65}, {2, 4097}, {3, 65538}, {4, 65536}, {5, 2}, {6, 2}, {7, 0}, {8, 5}, {9, 9}, {10, 17},
-            {11, 2}, {11, SIZE_MAX}, {0, SIZE_MAX}, {5, SIZE_MAX}, {9, SIZE_MAX}};
+            {11, 2}, {11, SIZE_MAX}, {0, SIZE_MAX}, {5, SIZE_MAX}, {9, SIZE_MAX},
+            /* label text: three bytes are held, and there is room for 4,080 */
+            {12, 2}, {12, MOST_TEXT + 1}, {12, SIZE_MAX}, {13, 4081}, {13, SIZE_MAX}};
         for (size_t i = 0; i < sizeof unsound / sizeof unsound[0]; i++) {
             size_t kept = x.state[unsound[i].place];
             x.state[unsound[i].place] = unsound[i].value;
@@ -78,17 +81,21 @@ static void test_add(void) {
     static const float bad[] = {1.0f, 1.0f / 0.0f};
     index_t x;
     example(&x, 5, 0);
-    static const size_t held[] = {2, 2, 1, 5, 4, 4, 8, 16, 3, 3, 0, 0};
+    static const size_t held[] = {2, 2, 1, 5, 4, 4, 8, 16, 3, 3, 0, 0, 4080, 3};
     CHECK(memcmp(x.state, held, sizeof held) == 0);
     copy_t c = copy(&x);
-    CHECK(curator_add(STATE(&x), x.floats, x.floats_len - 1, x.numbers, x.numbers_len, x.hashes, x.hashes_len, 1, bad, 1, lengths, 6, bytes, 2)
+    CHECK(curator_add(STATE(&x), x.floats, x.floats_len - 1, x.numbers, x.numbers_len, x.hashes, x.hashes_len, x.text, x.text_len, 1, bad, 1, lengths, 6,
+                      bytes, 2)
+          == CURATOR_LIST_TOO_SHORT);
+    CHECK(curator_add(STATE(&x), x.floats, x.floats_len, x.numbers, x.numbers_len - 1, x.hashes, x.hashes_len, x.text, x.text_len, 1, bad, 1, lengths, 6,
+                      bytes, 2)
           == CURATOR_LIST_TOO_SHORT);
     CHECK(curator_add(STATE(&x), STORE(&x), 1, bad, 1, lengths, 6, bytes, 2) == CURATOR_DIMENSION_MISMATCH);
     CHECK(curator_add(STATE(&x), STORE(&x), 1, bad, 2, lengths, 6, bytes, 2) == CURATOR_NON_FINITE_INPUT);
     CHECK(curator_add(STATE(&x), STORE(&x), 1, query, 2, lengths, 6, bytes, 2) == CURATOR_LABEL_LENGTHS);
     CHECK(unchanged(&x, &c));
     CHECK(curator_add(STATE(&x), STORE(&x), 1, query, 2, lengths, 6, bytes, 3) == 0);
-    CHECK(x.state[CURATOR_VECTORS_HELD] == 4 && x.state[CURATOR_ENTRIES_HELD] == 6);
+    CHECK(x.state[CURATOR_VECTORS_HELD] == 4 && x.state[CURATOR_ENTRIES_HELD] == 6 && x.state[CURATOR_BYTES_HELD] == 6);
     forget(&c);
     c = copy(&x);
     CHECK(curator_add(STATE(&x), STORE(&x), 1, query, 2, lengths, 6, bytes, 3) == CURATOR_VECTORS_FULL);
@@ -148,7 +155,7 @@ static void test_build(void) {
     drop(&x);
 
     example(&x, 5, 1);
-    static const size_t held[] = {2, 2, 1, 5, 4, 4, 8, 16, 3, 3, 5, 1};
+    static const size_t held[] = {2, 2, 1, 5, 4, 4, 8, 16, 3, 3, 5, 1, 4080, 3};
     CHECK(memcmp(x.state, held, sizeof held) == 0);
     c = copy(&x);
     CHECK(build(&x) == 0);

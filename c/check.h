@@ -48,10 +48,11 @@ static inline int floats_marked(const float *list, size_t from, size_t to) {
 
 typedef struct {
     size_t d, b, v, e, m;
-    size_t state[CURATOR_STATE + SURPLUS], floats_len, numbers_len, hashes_len, work_len;
+    size_t state[CURATOR_STATE + SURPLUS], floats_len, numbers_len, hashes_len, text_len, work_len;
     float *floats;
     uint32_t *numbers, *work;
     uint64_t *hashes;
+    uint8_t *text;
 } index_t;
 
 static inline void *marked(size_t count, size_t size) {
@@ -61,22 +62,34 @@ static inline void *marked(size_t count, size_t size) {
     return list;
 }
 
-static inline uint32_t make(index_t *x, size_t d, size_t b, size_t leaf, size_t ef, size_t v, size_t e, size_t m) {
+/* the longest name that can be added, and the most bytes of label text */
+enum { NAME = 510, MOST_TEXT = 4177920 };
+
+static inline uint32_t make_text(index_t *x, size_t d, size_t b, size_t leaf, size_t ef, size_t v, size_t e, size_t m, size_t text) {
     x->d = d; x->b = b; x->v = v; x->e = e; x->m = m;
     x->floats_len = CURATOR_FLOATS_SIZE(d, b, v, m);
     x->numbers_len = CURATOR_NUMBERS_SIZE(v, e, m);
     x->hashes_len = CURATOR_HASHES_SIZE(e, m);
+    x->text_len = text;
     x->work_len = CURATOR_WORK_SIZE(v, e, m);
     x->floats = marked(x->floats_len + SURPLUS, sizeof(float));
     mark_floats(x->floats, x->floats_len + SURPLUS);
     x->numbers = marked(x->numbers_len + SURPLUS, sizeof(uint32_t));
     x->hashes = marked(x->hashes_len + SURPLUS, sizeof(uint64_t));
+    x->text = marked(x->text_len + SURPLUS, 1);
     x->work = marked(x->work_len + SURPLUS, sizeof(uint32_t));
     memset(x->state, MARK, sizeof x->state);
-    return curator_new(d, b, leaf, ef, 4, v, e, m, x->state, CURATOR_STATE + SURPLUS);
+    return curator_new(d, b, leaf, ef, 4, v, e, m, text, x->state, CURATOR_STATE + SURPLUS);
 }
 
-static inline void drop(index_t *x) { free(x->floats); free(x->numbers); free(x->hashes); free(x->work); }
+/* with room for the longest name of every entry, as far as there may be: label text is never what an add lacks */
+static inline size_t ample(size_t entries) { return entries < MOST_TEXT / NAME ? NAME * entries : MOST_TEXT; }
+
+static inline uint32_t make(index_t *x, size_t d, size_t b, size_t leaf, size_t ef, size_t v, size_t e, size_t m) {
+    return make_text(x, d, b, leaf, ef, v, e, m, ample(e));
+}
+
+static inline void drop(index_t *x) { free(x->floats); free(x->numbers); free(x->hashes); free(x->text); free(x->work); }
 
 /* whether the bytes from a place on are the mark */
 static inline int is_marked(const void *list, size_t from, size_t to, size_t size) {
@@ -90,15 +103,18 @@ static inline int surplus_untouched(const index_t *x) {
         && floats_marked(x->floats, x->floats_len, x->floats_len + SURPLUS)
         && is_marked(x->numbers, x->numbers_len, x->numbers_len + SURPLUS, sizeof(uint32_t))
         && is_marked(x->hashes, x->hashes_len, x->hashes_len + SURPLUS, sizeof(uint64_t))
+        && is_marked(x->text, x->text_len, x->text_len + SURPLUS, 1)
         && is_marked(x->work, x->work_len, x->work_len + SURPLUS, sizeof(uint32_t));
 }
 
 #define STATE(x) (x)->state, CURATOR_STATE + SURPLUS
-#define STORE(x) (x)->floats, (x)->floats_len + SURPLUS, (x)->numbers, (x)->numbers_len + SURPLUS, (x)->hashes, (x)->hashes_len + SURPLUS
+#define STORE(x)                                                                                                             \
+    (x)->floats, (x)->floats_len + SURPLUS, (x)->numbers, (x)->numbers_len + SURPLUS, (x)->hashes, (x)->hashes_len + SURPLUS, \
+        (x)->text, (x)->text_len + SURPLUS
 #define WORK(x) (x)->work, (x)->work_len + SURPLUS
 
 /* every place of the state and of the lists of the store, to compare after a call that changes nothing */
-typedef struct { size_t state[CURATOR_STATE + SURPLUS]; float *floats; uint32_t *numbers; uint64_t *hashes; } copy_t;
+typedef struct { size_t state[CURATOR_STATE + SURPLUS]; float *floats; uint32_t *numbers; uint64_t *hashes; uint8_t *text; } copy_t;
 
 static inline void *copied(const void *list, size_t bytes) { void *to = malloc(bytes); if (!to) abort(); return memcpy(to, list, bytes); }
 
@@ -108,15 +124,17 @@ static inline copy_t copy(const index_t *x) {
     c.floats = copied(x->floats, (x->floats_len + SURPLUS) * 4);
     c.numbers = copied(x->numbers, (x->numbers_len + SURPLUS) * 4);
     c.hashes = copied(x->hashes, (x->hashes_len + SURPLUS) * 8);
+    c.text = copied(x->text, x->text_len + SURPLUS);
     return c;
 }
 
 static inline int unchanged(const index_t *x, const copy_t *c) {
     return !memcmp(c->state, x->state, sizeof c->state) && !memcmp(c->floats, x->floats, (x->floats_len + SURPLUS) * 4)
-        && !memcmp(c->numbers, x->numbers, (x->numbers_len + SURPLUS) * 4) && !memcmp(c->hashes, x->hashes, (x->hashes_len + SURPLUS) * 8);
+        && !memcmp(c->numbers, x->numbers, (x->numbers_len + SURPLUS) * 4) && !memcmp(c->hashes, x->hashes, (x->hashes_len + SURPLUS) * 8)
+        && !memcmp(c->text, x->text, x->text_len + SURPLUS);
 }
 
-static inline void forget(copy_t *c) { free(c->floats); free(c->numbers); free(c->hashes); }
+static inline void forget(copy_t *c) { free(c->floats); free(c->numbers); free(c->hashes); free(c->text); }
 
 /* the float list before a call, and whether each place outside two parts has the same bits after it */
 static inline void *floats_before(const index_t *x) {
@@ -134,6 +152,10 @@ static inline int floats_kept(const index_t *x, void *before, size_t from, size_
     free(before);
     return kept;
 }
+
+/* where the starts of the entries' labels stand in the numbers, and their lengths */
+static inline size_t starts_at(const index_t *x) { return 2 * x->v + 2 * x->e + 7 * x->m; }
+static inline size_t lengths_at(const index_t *x) { return 2 * x->v + 3 * x->e + 7 * x->m; }
 
 /* FNV-1a from a start, byte by byte */
 static inline uint64_t hashed(uint64_t start, const uint8_t *bytes, size_t count) {

@@ -8,7 +8,8 @@
    store and the answer lists as they were, but for the parts that CURATOR_NODES_FULL names. The work list holds nothing between calls.
 
    A label's name comes in two parts, which are joined without anything between them; either may be empty. However a name is parted, every call answers
-   and writes the same.
+   and writes the same. Two labels are the same exactly when their bytes are; two names of one hash are two labels. The bytes of the labels held stand in
+   the byte list `text`, one after the other.
 
    The contracts are in crates/curator_c/src/lib.rt; the definitions that they cite begin in crates/curator_c/specs/Results.antt,
    that of the label hash in crates/label/specs/Fnv.antt. */
@@ -22,8 +23,8 @@
 extern "C" {
 #endif
 
-/* The state: twelve numbers, in this order. */
-#define CURATOR_STATE 12
+/* The state: fourteen numbers, in this order. */
+#define CURATOR_STATE 14
 enum {
     CURATOR_DIMENSION,        /* D, 1 to 128 */
     CURATOR_BRANCHING_FACTOR, /* B, 1 to 64 */
@@ -36,7 +37,9 @@ enum {
     CURATOR_VECTORS_HELD,
     CURATOR_ENTRIES_HELD,
     CURATOR_NODES_HELD,
-    CURATOR_BUILT             /* 0 or 1 */
+    CURATOR_BUILT,            /* 0 or 1 */
+    CURATOR_TEXT,             /* T, bytes of label text, 0 to 4,177,920 */
+    CURATOR_BYTES_HELD        /* of label text */
 };
 
 /* What an answered search puts into the answer list: three numbers, in this order. */
@@ -47,14 +50,19 @@ enum {
     CURATOR_WHOLE   /* 1 where the walk ended because no node waited, 0 where ef_search cut it */
 };
 
-/* The sizes of the lists of the store, and of the work list, by D, B, V, E and M. */
+/* The sizes of the lists of the store, and of the work list, by D, B, V, E and M. The size of the byte list is T. */
 #define CURATOR_FLOATS_SIZE(d, b, v, m) ((d) * ((v) + (m) + (b)))
-#define CURATOR_NUMBERS_SIZE(v, e, m) (2 * (v) + 2 * (e) + 7 * (m))
+#define CURATOR_NUMBERS_SIZE(v, e, m) (2 * (v) + 4 * (e) + 7 * (m))
 #define CURATOR_HASHES_SIZE(e, m) ((e) + 4 * (m))
 #define CURATOR_WORK_SIZE(v, e, m) (3 * (m) + 3 * ((v) < (e) ? (e) : (v)))
 
+/* Where an entry's label stands: numbers[CURATOR_STARTS_AT(v, e, m) + i] is the place in the text at which the label of entry i starts, and
+   numbers[CURATOR_LENGTHS_AT(v, e, m) + i] how many bytes it has. */
+#define CURATOR_STARTS_AT(v, e, m) (2 * (v) + 2 * (e) + 7 * (m))
+#define CURATOR_LENGTHS_AT(v, e, m) (2 * (v) + 3 * (e) + 7 * (m))
+
 /* A filter: the four words of a node stand in the hashes from this place on, in a built index. The root is node 0; its filter has the labels of all that
-   is held. */
+   is held. Filters go by hash: one does not tell labels of one hash apart. */
 #define CURATOR_FILTER 4
 #define CURATOR_FILTER_AT(e, node) ((e) + 4 * (node))
 
@@ -62,7 +70,7 @@ enum {
 #define CURATOR_LABEL_START UINT64_C(0xcbf29ce484222325)
 
 /* What is returned. Where several cases hold, the earliest in the call's order is returned:
-   new 1, 2, 4; add 4, 3, 5, 7, 8, 9, 10, 11; take back 4, 3, 5, 19; build 4, 3, then 0 for a built index, then 12, 15, 13;
+   new 1, 2, 4; add 4, 3, 5, 7, 8, 9, 10, 11, 20; take back 4, 3, 5, 19; build 4, 3, then 0 for a built index, then 12, 15, 13;
    search 4, 3, 6, 7, 8, 14, 15; pool 3. The numbers 16 to 18 are of the echo file, which no call here reads. */
 enum {
     CURATOR_OK = 0,
@@ -83,48 +91,53 @@ enum {
     CURATOR_ANSWER_TOO_SHORT = 14,   /* ids or distances shorter than k, or the answer list shorter than 3 */
     CURATOR_DAMAGED = 15,            /* A number that the call reads in the store points outside. build: an owner not below the vectors held. search,
                                         in a node that is opened and not denied: a block past what is held; a child not above its parent, not below
-                                        the nodes held or pushed before; a vector, entry or owner not below what is held; one hit too many. Other
-                                        damage is not noticed. Leaves anything in work. */
-    CURATOR_NO_VECTOR_HELD = 19      /* take back: nothing was added, or all of it is taken back */
+                                        the nodes held or pushed before; a vector, entry or owner not below what is held; a label of the hash
+                                        searched for whose start plus length is above the bytes held; one hit too many. Other damage is not
+                                        noticed. Leaves anything in work. */
+    CURATOR_NO_VECTOR_HELD = 19,     /* take back: nothing was added, or all of it is taken back */
+    CURATOR_TEXT_FULL = 20           /* the bytes held and bytes_len are more than T */
 };
 
-/* An index that holds nothing: its state in the first twelve places of the state list. The lists of the store may hold anything. */
+/* An index that holds nothing: its state in the first fourteen places of the state list. The lists of the store may hold anything. */
 uint32_t curator_new(size_t dimension, size_t branching_factor, size_t max_leaf_size, size_t ef_search, size_t beam_width,
-                     size_t vectors, size_t entries, size_t nodes,
+                     size_t vectors, size_t entries, size_t nodes, size_t text,
                      size_t *state, size_t state_len);
 
 /* Adds a vector under a document id, with labels. lengths has two bytes a label, the length of its first part and that of its second; bytes has the
-   parts one after the other. So a part has at most 255 bytes and a name at most 510. */
+   parts one after the other. So a part has at most 255 bytes and a name at most 510. The bytes are written into the text after those held, and for each
+   label its start and its length. */
 uint32_t curator_add(size_t *state, size_t state_len,
                      float *floats, size_t floats_len, uint32_t *numbers, size_t numbers_len, uint64_t *hashes, size_t hashes_len,
+                     uint8_t *text, size_t text_len,
                      uint32_t doc_id, const float *vector, size_t vector_len,
                      const uint8_t *lengths, size_t lengths_len, const uint8_t *bytes, size_t bytes_len);
 
 /* Takes the last accepted add back; called again, the one before it. The vectors held fall by one, and the entries held by the longest run at their end
-   whose owner is that vector, whatever owners a damaged store has. No list of the store is written: the places past the counts keep what the add wrote. */
+   whose owner is that vector, whatever owners a damaged store has; where there is such an entry, the bytes held fall to the start of the first, if that is
+   lower. No list of the store is written: the places past the counts keep what the add wrote. */
 uint32_t curator_take_back(size_t *state, size_t state_len,
                            const float *floats, size_t floats_len, const uint32_t *numbers, size_t numbers_len,
-                           const uint64_t *hashes, size_t hashes_len);
+                           const uint64_t *hashes, size_t hashes_len, const uint8_t *text, size_t text_len);
 
-/* Makes the tree of what is held. A built index succeeds unchanged. */
+/* Makes the tree of what is held. A built index succeeds unchanged. The text is lent, and not read. */
 uint32_t curator_build(size_t *state, size_t state_len,
                        float *floats, size_t floats_len, uint32_t *numbers, size_t numbers_len, uint64_t *hashes, size_t hashes_len,
-                       uint32_t *work, size_t work_len);
+                       const uint8_t *text, size_t text_len, uint32_t *work, size_t work_len);
 
 /* The nearest k documents that have a vector with the label whose name is first, then second, of any length: ids and distances of the hits, nearest first,
    and the three numbers of the answer. */
 uint32_t curator_search_filtered(const size_t *state, size_t state_len,
                                  const float *floats, size_t floats_len, const uint32_t *numbers, size_t numbers_len,
-                                 const uint64_t *hashes, size_t hashes_len,
+                                 const uint64_t *hashes, size_t hashes_len, const uint8_t *text, size_t text_len,
                                  uint32_t *work, size_t work_len, const float *query, size_t query_len,
                                  const uint8_t *first, size_t first_len, const uint8_t *second, size_t second_len, size_t k,
                                  uint32_t *ids, size_t ids_len, float *distances, size_t distances_len,
                                  size_t *answer, size_t answer_len);
 
-/* The nearest k documents. */
+/* The nearest k documents. The text is lent, and not read. */
 uint32_t curator_search(const size_t *state, size_t state_len,
                         const float *floats, size_t floats_len, const uint32_t *numbers, size_t numbers_len,
-                        const uint64_t *hashes, size_t hashes_len,
+                        const uint64_t *hashes, size_t hashes_len, const uint8_t *text, size_t text_len,
                         uint32_t *work, size_t work_len, const float *query, size_t query_len, size_t k,
                         uint32_t *ids, size_t ids_len, float *distances, size_t distances_len,
                         size_t *answer, size_t answer_len);

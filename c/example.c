@@ -7,16 +7,17 @@
 #include <stdio.h>
 #include <string.h>
 
-enum { D = 4, B = 16, V = 8, E = 16, M = 32, K = 3 };
+enum { D = 4, B = 16, V = 8, E = 16, M = 32, T = 512, K = 3 };
 
 static size_t state[CURATOR_STATE];
 static float floats[CURATOR_FLOATS_SIZE(D, B, V, M)];
 static uint32_t numbers[CURATOR_NUMBERS_SIZE(V, E, M)];
 static uint64_t hashes[CURATOR_HASHES_SIZE(E, M)];
+static uint8_t text[T];
 static uint32_t work[CURATOR_WORK_SIZE(V, E, M)];
 
 #define LEN(list) (sizeof(list) / sizeof((list)[0]))
-#define STORE floats, LEN(floats), numbers, LEN(numbers), hashes, LEN(hashes)
+#define STORE floats, LEN(floats), numbers, LEN(numbers), hashes, LEN(hashes), text, LEN(text)
 
 static const char drain[] = "kerb-7/";
 
@@ -34,7 +35,7 @@ int main(void) {
     static const float heard[D] = {0.0f, 0.25f, 1.0f, 1.0f};
     static const char silt[] = "silt";
 
-    uint32_t refused = curator_new(D, B, 128, 256, 4, V, E, M, state, LEN(state));
+    uint32_t refused = curator_new(D, B, 128, 256, 4, V, E, M, T, state, LEN(state));
     if (!refused) refused = add(10, clear, "kerb-7/free");
     if (!refused) refused = add(11, muddy, "kerb-7/silt");
     if (!refused) refused = add(12, blocked, "kerb-7/silt");

@@ -45,7 +45,7 @@ static void test_starts(void) {
 }
 
 /* A name may be added up to NAME bytes, and searched for at any length. */
-enum { D = 3, V = 12, E = 18, M = 16 * V + 1, LABELS = 3, NAMES = 8, PART = 255, NAME = 2 * PART, LONGEST = 1500 };
+enum { D = 3, V = 12, E = 18, M = 16 * V + 1, LABELS = 3, NAMES = 8, PART = 255, LONGEST = 1500 };
 
 typedef struct { size_t length; uint8_t bytes[LONGEST]; } name_t;
 typedef struct { uint32_t id; float vector[D]; size_t labels; const name_t *names[LABELS]; } echo_t;
@@ -121,14 +121,20 @@ static int same(const index_t *x, const index_t *y) {
     return is;
 }
 
-/* what an accepted add wrote of ids, owners and hashes: vector n, entries from e on */
-static void check_added(const index_t *x, const echo_t *echo, size_t n, size_t e) {
+/* what an accepted add wrote of ids, owners, hashes and label text: vector n, entries from e on, bytes from t on; returns where the bytes end */
+static size_t check_added(const index_t *x, const echo_t *echo, size_t n, size_t e, size_t t) {
     CHECK(x->state[CURATOR_VECTORS_HELD] == n + 1 && x->state[CURATOR_ENTRIES_HELD] == e + echo->labels);
     CHECK(x->numbers[n] == echo->id);
     for (size_t j = 0; j < echo->labels; j++) {
+        const name_t *name = echo->names[j];
         CHECK(x->numbers[V + e + j] == n);
-        CHECK(x->hashes[e + j] == hashed(published[0].hash, echo->names[j]->bytes, echo->names[j]->length));
+        CHECK(x->hashes[e + j] == hashed(published[0].hash, name->bytes, name->length));
+        CHECK(x->numbers[starts_at(x) + e + j] == t && x->numbers[lengths_at(x) + e + j] == name->length);
+        CHECK(memcmp(x->text + t, name->bytes, name->length) == 0);
+        t += name->length;
     }
+    CHECK(x->state[CURATOR_BYTES_HELD] == t);
+    return t;
 }
 
 /* how often each number was returned */
@@ -136,7 +142,7 @@ static size_t times[20];
 
 /* Adds echoes to two indexes that are the same, and compares all of both after each. Returns how many are held; the id of an echo is its number. */
 static size_t grow(index_t *x, index_t *y, echo_t held[V]) {
-    size_t n = 0, e = 0, adds = 1 + below(V + 4);
+    size_t n = 0, e = 0, t = 0, adds = 1 + below(V + 4);
     CHECK(same(x, y));
     for (size_t i = 0; i < adds; i++) {
         echo_t echo = any_echo((uint32_t)n);
@@ -149,7 +155,7 @@ static size_t grow(index_t *x, index_t *y, echo_t held[V]) {
         forget(&before);
         times[expected]++;
         if (expected) continue;
-        check_added(x, &echo, n, e);
+        t = check_added(x, &echo, n, e, t);
         held[n++] = echo;
         e += echo.labels;
     }
@@ -163,6 +169,7 @@ static void check_built(const index_t *x, const index_t *y) {
     CHECK(memcmp(x->floats, y->floats, centres * 4) == 0);
     CHECK(memcmp(x->numbers, y->numbers, (x->numbers_len + SURPLUS) * 4) == 0);
     CHECK(memcmp(x->hashes, y->hashes, (x->hashes_len + SURPLUS) * 8) == 0);
+    CHECK(memcmp(x->text, y->text, x->text_len + SURPLUS) == 0);
     CHECK(surplus_untouched(x) && surplus_untouched(y));
 }
 

@@ -2,20 +2,25 @@
    that keeps the survivors and every place that an add wrote. */
 #include "check.h"
 
-/* an accepted taking back: one vector and so many entries less, and every other number of the state and every place of every list as before */
+/* an accepted taking back: one vector and so many entries less, the bytes held no more than the start of the first of these, and every other number of the
+   state and every place of every list as before */
 static void goes(index_t *x, size_t entries) {
     copy_t c = copy(x);
     c.state[CURATOR_VECTORS_HELD] -= 1;
     c.state[CURATOR_ENTRIES_HELD] -= entries;
+    if (entries > 0) {
+        size_t start = x->numbers[starts_at(x) + c.state[CURATOR_ENTRIES_HELD]];
+        if (start < c.state[CURATOR_BYTES_HELD]) c.state[CURATOR_BYTES_HELD] = start;
+    }
     CHECK(curator_take_back(STATE(x), STORE(x)) == 0);
     CHECK(unchanged(x, &c));
     forget(&c);
 }
 
 /* a refused one, lent so many places of each list: everything as before */
-static void stays(index_t *x, size_t state, size_t floats, size_t numbers, size_t hashes, uint32_t number) {
+static void stays(index_t *x, size_t state, size_t floats, size_t numbers, size_t hashes, size_t text, uint32_t number) {
     copy_t c = copy(x);
-    CHECK(curator_take_back(x->state, state, x->floats, floats, x->numbers, numbers, x->hashes, hashes) == number);
+    CHECK(curator_take_back(x->state, state, x->floats, floats, x->numbers, numbers, x->hashes, hashes, x->text, text) == number);
     CHECK(unchanged(x, &c));
     forget(&c);
 }
@@ -36,9 +41,9 @@ static uint32_t later(int kind) { return kind == NOTHING ? CURATOR_NO_VECTOR_HEL
 
 /* row 4, with full lists and, since it comes before 3, with short ones */
 static void no_state(index_t *x, size_t state) {
-    stays(x, state, x->floats_len, x->numbers_len, x->hashes_len, CURATOR_INVALID_STATE);
-    stays(x, state, x->floats_len - 1, x->numbers_len - 1, x->hashes_len - 1, CURATOR_INVALID_STATE);
-    stays(x, state, 0, 0, 0, CURATOR_INVALID_STATE);
+    stays(x, state, x->floats_len, x->numbers_len, x->hashes_len, x->text_len, CURATOR_INVALID_STATE);
+    stays(x, state, x->floats_len - 1, x->numbers_len - 1, x->hashes_len - 1, x->text_len - 1, CURATOR_INVALID_STATE);
+    stays(x, state, 0, 0, 0, 0, CURATOR_INVALID_STATE);
 }
 
 static void unsound(index_t *x, size_t place, size_t value) {
@@ -51,7 +56,8 @@ static void unsound(index_t *x, size_t place, size_t value) {
 static void test_state(void) {
     static const struct { size_t place, value; } limits[] = {
         {0, 0}, {0, 129}, {1, 0}, {1, 65}, {2, 4097}, {3, 65538}, {4, 65536}, {5, 0}, {5, 4097}, {6, 16385}, {7, 0}, {7, 65538}, {8, 5}, {9, 9}, {10, 17},
-        {11, 2}, {11, SIZE_MAX}, {0, SIZE_MAX}, {5, SIZE_MAX}, {8, SIZE_MAX}, {9, SIZE_MAX}, {10, SIZE_MAX}};
+        {11, 2}, {11, SIZE_MAX}, {0, SIZE_MAX}, {5, SIZE_MAX}, {8, SIZE_MAX}, {9, SIZE_MAX}, {10, SIZE_MAX}, {12, MOST_TEXT + 1}, {12, SIZE_MAX},
+        {13, 4081}, {13, SIZE_MAX}};
     for (int kind = 0; kind < KINDS; kind++) {
         index_t x;
         some(&x, kind);
@@ -60,6 +66,7 @@ static void test_state(void) {
         if (kind != NOTHING) {
             unsound(&x, CURATOR_VECTORS, 2);
             unsound(&x, CURATOR_ENTRIES, 2);
+            unsound(&x, CURATOR_TEXT, 2);
         }
         /* the other flag; nodes in an unbuilt index; none in a built one, and a built one without vectors, which is 4 and neither 5 nor 19 */
         unsound(&x, CURATOR_BUILT, kind != BUILT);
@@ -87,16 +94,17 @@ static void test_lists(void) {
     for (int kind = 0; kind < KINDS; kind++) {
         index_t x;
         some(&x, kind);
-        size_t f = x.floats_len, n = x.numbers_len, h = x.hashes_len;
-        const size_t lengths[][3] = {{f - 1, n, h}, {f, n - 1, h}, {f, n, h - 1}, {0, n, h}, {f, 0, h}, {f, n, 0}, {0, 0, 0}};
+        size_t f = x.floats_len, n = x.numbers_len, h = x.hashes_len, t = x.text_len;
+        const size_t lengths[][4] = {{f - 1, n, h, t}, {f, n - 1, h, t}, {f, n, h - 1, t}, {f, n, h, t - 1},
+                                     {0, n, h, t},     {f, 0, h, t},     {f, n, 0, t},     {f, n, h, 0},     {0, 0, 0, 0}};
         for (size_t i = 0; i < sizeof lengths / sizeof lengths[0]; i++)
-            stays(&x, CURATOR_STATE, lengths[i][0], lengths[i][1], lengths[i][2], CURATOR_LIST_TOO_SHORT);
+            stays(&x, CURATOR_STATE, lengths[i][0], lengths[i][1], lengths[i][2], lengths[i][3], CURATOR_LIST_TOO_SHORT);
         if (later(kind)) {
-            stays(&x, CURATOR_STATE, f, n, h, later(kind));
-            stays(&x, CURATOR_STATE + SURPLUS, f + SURPLUS, n + SURPLUS, h + SURPLUS, later(kind));
+            stays(&x, CURATOR_STATE, f, n, h, t, later(kind));
+            stays(&x, CURATOR_STATE + SURPLUS, f + SURPLUS, n + SURPLUS, h + SURPLUS, t + SURPLUS, later(kind));
         } else {
-            CHECK(curator_take_back(x.state, CURATOR_STATE, x.floats, f, x.numbers, n, x.hashes, h) == 0);
-            CHECK(x.state[CURATOR_VECTORS_HELD] == 2 && x.state[CURATOR_ENTRIES_HELD] == 2);
+            CHECK(curator_take_back(x.state, CURATOR_STATE, x.floats, f, x.numbers, n, x.hashes, h, x.text, t) == 0);
+            CHECK(x.state[CURATOR_VECTORS_HELD] == 2 && x.state[CURATOR_ENTRIES_HELD] == 2 && x.state[CURATOR_BYTES_HELD] == 2);
         }
         CHECK(surplus_untouched(&x));
         drop(&x);
@@ -114,13 +122,13 @@ static void test_example(void) {
     goes(&x, 1);
     CHECK(add(&x, 9, nine, "a") == 0);
     CHECK(build(&x) == 0);
-    static const size_t held[] = {2, 2, 1, 5, 4, 4, 8, 16, 3, 3, 5, 1};
+    static const size_t held[] = {2, 2, 1, 5, 4, 4, 8, 16, 3, 3, 5, 1, 4080, 3};
     CHECK(memcmp(x.state, held, sizeof held) == 0);
     CHECK(search_filtered(&x, &a, query, "a", 4) == 0);
     CHECK(a.answer[CURATOR_HITS] == 2 && a.answer[CURATOR_OPENED] == 5 && a.answer[CURATOR_WHOLE] == 1);
     CHECK(a.ids[0] == 7 && bits_of(a.distances[0]) == 0x00000000u);
     CHECK(a.ids[1] == 9 && bits_of(a.distances[1]) == 0x3ECCCCCCu);
-    stays(&x, CURATOR_STATE, x.floats_len, x.numbers_len, x.hashes_len, CURATOR_ALREADY_BUILT);
+    stays(&x, CURATOR_STATE, x.floats_len, x.numbers_len, x.hashes_len, x.text_len, CURATOR_ALREADY_BUILT);
     CHECK(surplus_untouched(&x));
     drop(&x);
 }
@@ -158,7 +166,7 @@ static void test_no_vector(void) {
     some(&x, THREE);
     put_owners(&x, owners, 3);
     x.state[CURATOR_VECTORS_HELD] = 0;
-    stays(&x, CURATOR_STATE, x.floats_len, x.numbers_len, x.hashes_len, CURATOR_NO_VECTOR_HELD);
+    stays(&x, CURATOR_STATE, x.floats_len, x.numbers_len, x.hashes_len, x.text_len, CURATOR_NO_VECTOR_HELD);
     drop(&x);
 }
 
@@ -192,14 +200,14 @@ static void test_largest(void) {
     for (uint32_t i = 0; i < MOST; i++) CHECK(curator_add(STATE(&x), STORE(&x), i, &one, 1, lengths, 8, bytes, 4) == 0);
     copy_t c = copy(&x);
     for (size_t i = MOST; i-- > 0;) {
-        CHECK(curator_take_back(x.state, CURATOR_STATE, x.floats, x.floats_len, x.numbers, x.numbers_len, x.hashes, x.hashes_len) == 0);
-        CHECK(x.state[CURATOR_VECTORS_HELD] == i && x.state[CURATOR_ENTRIES_HELD] == 4 * i);
+        CHECK(curator_take_back(x.state, CURATOR_STATE, x.floats, x.floats_len, x.numbers, x.numbers_len, x.hashes, x.hashes_len, x.text, x.text_len) == 0);
+        CHECK(x.state[CURATOR_VECTORS_HELD] == i && x.state[CURATOR_ENTRIES_HELD] == 4 * i && x.state[CURATOR_BYTES_HELD] == 4 * i);
     }
     CHECK(curator_take_back(STATE(&x), STORE(&x)) == CURATOR_NO_VECTOR_HELD);
-    c.state[CURATOR_VECTORS_HELD] = c.state[CURATOR_ENTRIES_HELD] = 0;
+    c.state[CURATOR_VECTORS_HELD] = c.state[CURATOR_ENTRIES_HELD] = c.state[CURATOR_BYTES_HELD] = 0;
     CHECK(unchanged(&x, &c));
     x.state[CURATOR_VECTORS_HELD] = MOST;
-    x.state[CURATOR_ENTRIES_HELD] = 4 * MOST;
+    x.state[CURATOR_ENTRIES_HELD] = x.state[CURATOR_BYTES_HELD] = 4 * MOST;
     for (size_t i = 0; i < 4 * MOST; i++) x.numbers[MOST + i] = MOST - 1;
     goes(&x, 4 * MOST);
     forget(&c);
@@ -216,6 +224,9 @@ typedef struct {
     uint8_t lengths[2 * LABELS], bytes[2 * LABELS];
     uint64_t hashes[LABELS];
 } echo_t;
+
+/* a name's length: that of its two parts */
+static size_t name_length(const echo_t *echo, size_t j) { return (size_t)echo->lengths[2 * j] + echo->lengths[2 * j + 1]; }
 
 /* Whole numbers whose squares sum to a square, turned, with signs and times a power of two: the norm is exact and needs no root. Zeros are not divided. */
 static void any_vector(echo_t *echo) {
@@ -249,7 +260,7 @@ static echo_t any_echo(void) {
 }
 
 /* the survivors, and every place of the lists: what it held at first, or what the last add wrote that had it */
-typedef struct { echo_t held[V]; size_t vectors, entries; copy_t lists; } model_t;
+typedef struct { echo_t held[V]; size_t vectors, entries, bytes; copy_t lists; } model_t;
 
 static uint32_t model_add(model_t *m, const echo_t *echo) {
     size_t n = m->vectors, e = m->entries;
@@ -257,9 +268,13 @@ static uint32_t model_add(model_t *m, const echo_t *echo) {
     if (e + echo->labels > E) return CURATOR_ENTRIES_FULL;
     memcpy(m->lists.floats + n * D, echo->stored, sizeof echo->stored);
     m->lists.numbers[n] = echo->id;
+    memcpy(m->lists.text + m->bytes, echo->bytes, echo->bytes_len);
     for (size_t j = 0; j < echo->labels; j++) {
         m->lists.numbers[V + e + j] = (uint32_t)n;
         m->lists.hashes[e + j] = echo->hashes[j];
+        m->lists.numbers[CURATOR_STARTS_AT(V, E, M) + e + j] = (uint32_t)m->bytes;
+        m->lists.numbers[CURATOR_LENGTHS_AT(V, E, M) + e + j] = (uint32_t)name_length(echo, j);
+        m->bytes += name_length(echo, j);
     }
     m->held[m->vectors++] = *echo;
     m->entries += echo->labels;
@@ -269,12 +284,14 @@ static uint32_t model_add(model_t *m, const echo_t *echo) {
 static uint32_t model_take_back(model_t *m) {
     if (m->vectors == 0) return CURATOR_NO_VECTOR_HELD;
     m->entries -= m->held[--m->vectors].labels;
+    m->bytes -= m->held[m->vectors].bytes_len;
     return 0;
 }
 
 static void compare(const index_t *x, model_t *m) {
     m->lists.state[CURATOR_VECTORS_HELD] = m->vectors;
     m->lists.state[CURATOR_ENTRIES_HELD] = m->entries;
+    m->lists.state[CURATOR_BYTES_HELD] = m->bytes;
     CHECK(unchanged(x, &m->lists));
 }
 
@@ -318,15 +335,20 @@ static void check_held(const index_t *x, const index_t *y) {
     CHECK(SAME(x, y, numbers, 2 * V + E, 6 * nodes));
     CHECK(SAME(x, y, numbers, 2 * V + E + 6 * M, nodes - 1));
     CHECK(SAME(x, y, numbers, 2 * V + E + 7 * M, e));
+    CHECK(SAME(x, y, numbers, CURATOR_STARTS_AT(V, E, M), e));
+    CHECK(SAME(x, y, numbers, CURATOR_LENGTHS_AT(V, E, M), e));
     CHECK(SAME(x, y, hashes, 0, e));
     CHECK(SAME(x, y, hashes, E, 4 * nodes));
+    CHECK(SAME(x, y, text, 0, x->state[CURATOR_BYTES_HELD]));
 }
 
 /* a build leaves what the adds wrote, past the counts too */
 static void check_added(const index_t *x, const copy_t *y) {
     CHECK(SAME(x, y, floats, 0, V * D));
     CHECK(SAME(x, y, numbers, 0, V + E));
+    CHECK(SAME(x, y, numbers, CURATOR_STARTS_AT(V, E, M), 2 * E));
     CHECK(SAME(x, y, hashes, 0, E));
+    CHECK(SAME(x, y, text, 0, x->text_len));
 }
 
 static void check_answers(index_t *x, index_t *y) {
@@ -351,7 +373,7 @@ static void check_survivors(index_t *x, const model_t *m, size_t b, size_t leaf,
     check_held(x, &y);
     check_added(x, &m->lists);
     check_answers(x, &y);
-    stays(x, CURATOR_STATE, x->floats_len, x->numbers_len, x->hashes_len, CURATOR_ALREADY_BUILT);
+    stays(x, CURATOR_STATE, x->floats_len, x->numbers_len, x->hashes_len, x->text_len, CURATOR_ALREADY_BUILT);
     check_held(x, &y);
     CHECK(surplus_untouched(x));
     drop(&y);

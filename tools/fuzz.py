@@ -20,7 +20,8 @@ from outcome import LONGEST, Outcome
 TOP = Path(__file__).resolve().parent.parent
 PROGRAM = TOP / "target/bin/echoes"
 SECONDS = 2
-LABELS = [b"", b"a", b"b", b"silt", b"drain", bytes(255)]
+# two of them have one hash
+LABELS = [b"", b"a", b"b", b"silt", b"drain", bytes.fromhex("d56bb95342870836"), b"77kepQFQ8Kl", bytes(255)]
 ANSWER = re.compile(r"(?:\d{1,10} [0-9a-f]{8}\n){0,256}(?:whole|cut) \d{1,3}\n")
 REFUSED = re.compile(r"refused (1|2|5|8|10|11|12|13|14|16|17|18)\n")
 

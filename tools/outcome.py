@@ -1,5 +1,5 @@
 """How many searches of an echo file are answered and which refusal follows, from document 01's table of refusals and their order. Whether a tree has more than
-512 nodes (13) is left open: `builds` tells whether a build was tried."""
+512 nodes (13) is left open: `builds` tells whether a build was tried. 20 cannot hold: there is room for the text of as many labels as 11 allows."""
 import struct
 
 from echo_file import is_search, record_end

@@ -1,5 +1,6 @@
 """Every refusal that an echo file can cause, at its boundary, and what is printed of each file. The expected text is reasoned from document 01 (its table
-of refusals, 'Order', and 'The echo file and its printer'); no program made it. 3, 4, 6, 7, 9, 15 and 19 cannot come from a file."""
+of refusals, 'Order', and 'The echo file and its printer'); no program made it. 3, 4, 6, 7, 9, 15, 19 and 20 cannot come from a file: there is room for the
+text of 256 labels of 255 bytes, so that 11 comes before 20."""
 from echo_file import bits, filtered, settings, unfiltered, vector
 
 CASES = []
@@ -166,6 +167,26 @@ LONG = ONE + vector(7, [b"a" * 255] * 255, [1]) + filtered(1, b"a" * 214, [1])
 assert len(LONG) == 65536
 case("65,536 bytes", LONG, "whole 1\n")
 refused("65,537 bytes", 18, LONG + b"\x5a")
+
+# ---- a label is its bytes (02, K4): labels of one hash, each of which finds its own; a zero byte behind them leaves their hash as it is
+EIGHT_BYTES, LETTERS = bytes.fromhex("d56bb95342870836"), b"77kepQFQ8Kl"
+LONGER = LETTERS + b"\0"
+
+
+def each(*found):
+    """What is printed of searches that find these documents, all at distance 0."""
+    return "".join("".join(f"{document} 00000000\n" for document in documents) + "whole 1\n" for documents in found)
+
+
+case("two labels of one hash", ONE + vector(7, [EIGHT_BYTES], [1]) + vector(8, [LETTERS], [1]) + filtered(9, EIGHT_BYTES, [1]) + filtered(9, LETTERS, [1]),
+     each([7], [8]))
+case("two labels of one hash on one vector", ONE + vector(7, [LETTERS], [1]) + vector(8, [EIGHT_BYTES, LETTERS], [1]) + filtered(9, EIGHT_BYTES, [1])
+     + filtered(9, LETTERS, [1]) + filtered(9, LONGER, [1]), each([8], [7, 8], []))
+case("a label and one that begins with it, of one hash", ONE + vector(7, [LONGER], [1]) + vector(8, [LETTERS], [1]) + filtered(9, LETTERS, [1])
+     + filtered(9, LONGER, [1]), each([8], [7]))
+case("a label and one that begins with it", ONE + vector(7, [b"silt"], [1]) + vector(8, [b"silt/"], [1]) + filtered(9, b"silt", [1]) + filtered(9, b"silt/", [1]),
+     each([7], [8]))
+case("64,771 bytes of label text, the last label found", ONE + vector(7, [b"a" * 255] * 254 + [b"b"], [1]) + filtered(9, b"b", [1]), each([7]))
 
 # ---- labels and ids
 case("the empty label", ONE + vector(7, [b""], [1]) + vector(8, [], [1]) + filtered(9, b"", [1]) + unfiltered(9, [1]),

@@ -1,6 +1,6 @@
 //! Echoes of drain sensors: the nearest to the last one among those of one drain and cause, a label whose name is in two parts.
 
-use curator::{CuratorIndex, CuratorParams, Name, RetrieveError};
+use curator::{Capacities, CuratorIndex, CuratorParams, Name, RetrieveError};
 
 /// An echo of 64 numbers: a pulse at a place, and its tail.
 fn echo(place: usize, tail: f32) -> Vec<f32> {
@@ -15,8 +15,16 @@ fn echo(place: usize, tail: f32) -> Vec<f32> {
         .collect()
 }
 
+/// A month of echoes, two labels each: a drain with its state, of eleven bytes, and the drain, of seven.
+const MONTH: Capacities = Capacities {
+    vectors: 31,
+    entries: 62,
+    nodes: 100,
+    text: 31 * 18,
+};
+
 fn main() -> Result<(), RetrieveError> {
-    let mut index = CuratorIndex::new(64, CuratorParams::default())?;
+    let mut index = CuratorIndex::with_capacities(64, CuratorParams::default(), MONTH)?;
     for day in 0..30 {
         let (drain, state) = if day % 2 == 0 {
             ("kerb-6/", "free")

@@ -38,6 +38,8 @@ pub enum RetrieveError {
     Damaged,
     /// 19: no vector is held, so none can be taken back.
     NoVectorHeld,
+    /// 20: the index has no room for that many bytes of label text more.
+    TextFull,
     /// A label's name has more than 510 bytes. Refused here, before any call: it has no number.
     LabelTooLong,
 }
@@ -62,6 +64,7 @@ const NUMBERED: &[(u32, RetrieveError)] = &[
     (14, AnswerTooShort),
     (15, Damaged),
     (19, NoVectorHeld),
+    (20, TextFull),
 ];
 
 impl RetrieveError {
@@ -102,6 +105,7 @@ impl fmt::Display for RetrieveError {
             AnswerTooShort => "an answer list is too short",
             Damaged => "the store is damaged",
             NoVectorHeld => "no vector is held",
+            TextFull => "no room for the label text",
             LabelTooLong => "a label's name has more than 510 bytes",
         })
     }
@@ -116,7 +120,7 @@ mod tests {
     #[test]
     fn numbers_and_back() {
         assert_eq!(RetrieveError::check(0), Ok(()));
-        for n in (1..=15).chain([19]) {
+        for n in (1..=15).chain([19, 20]) {
             let error = RetrieveError::check(n).unwrap_err();
             assert_eq!(error.number(), Some(n));
             assert!(!error.to_string().is_empty());
@@ -124,7 +128,8 @@ mod tests {
         assert_eq!(LabelTooLong.number(), None);
         assert_eq!(EmptyIndex.number(), Some(12));
         assert_eq!(NoVectorHeld.number(), Some(19));
-        for n in [16, 17, 18, 20, u32::MAX] {
+        assert_eq!(TextFull.number(), Some(20));
+        for n in [16, 17, 18, 21, u32::MAX] {
             assert_eq!(RetrieveError::check(n), Err(InvalidState));
         }
     }

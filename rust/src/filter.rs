@@ -3,7 +3,8 @@
 use crate::sys;
 
 /// A filter: 256 bits in four words. Each label sets two of the bits (or one, where both are the same). A label whose bits
-/// are not all set is nowhere below the filter's node; one whose bits are may be.
+/// are not all set is nowhere below the filter's node; one whose bits are may be. The bits are those of the label's hash, so labels
+/// of one hash are not told apart.
 pub type Filter = [u64; sys::FILTER];
 
 /// The pool of two filters: the bits of both. A region pools the filters of its gateways in any order, and pooling one again

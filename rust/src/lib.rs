@@ -1,4 +1,5 @@
-//! The Curator index: nearest vectors among those with a label, over the proved library `curator_c`.
+//! The Curator index: nearest vectors among those with a label, over the proved library `curator_c`. A label is its bytes: two names
+//! are one label exactly when their bytes are the same.
 //!
 //! A [`CuratorIndex`] owns the lists that the library's functions are lent. What each function does is stated and
 //! proved in the repository's crates; this crate hands lists over and turns numbers into [`Result`]s.
@@ -46,6 +47,7 @@ pub struct CuratorIndex {
     floats: Vec<f32>,
     numbers: Vec<u32>,
     hashes: Vec<u64>,
+    text: Vec<u8>,
 }
 
 /// Places of the state.
@@ -73,12 +75,24 @@ fn with_work<R>(size: usize, call: impl FnOnce(&mut [u32]) -> R) -> R {
 
 impl CuratorIndex {
     /// An index with the largest capacities. Memory is asked for zeroed, so the system hands out pages as they are written:
-    /// at 128 dimensions 40 MB are reserved. [`CuratorIndex::with_capacities`] takes less.
+    /// at 128 dimensions 44 MB are reserved. [`CuratorIndex::with_capacities`] takes less.
     pub fn new(dimension: usize, params: CuratorParams) -> Result<Self, RetrieveError> {
         Self::with_capacities(dimension, params, Capacities::default())
     }
 
-    /// An index with room for so many vectors, label entries and nodes.
+    /// An index with room for so many vectors, label entries, nodes and bytes of label text.
+    ///
+    /// ```
+    /// # use curator::{Capacities, CuratorIndex, CuratorParams, RetrieveError};
+    /// # fn main() -> Result<(), RetrieveError> {
+    /// let capacities = Capacities { vectors: 100, entries: 200, nodes: 400, text: 20 };
+    /// let mut index = CuratorIndex::with_capacities(2, CuratorParams::default(), capacities)?;
+    /// index.add(1, &[1.0, 0.0], &["kerb-7/silt"])?; // 11 of the 20 bytes
+    /// assert_eq!(index.add(2, &[0.0, 1.0], &["kerb-7/silt"]), Err(RetrieveError::TextFull));
+    /// index.add(2, &[0.0, 1.0], &["kerb-7/"])?;
+    /// # Ok(())
+    /// # }
+    /// ```
     pub fn with_capacities(
         dimension: usize,
         params: CuratorParams,
@@ -96,6 +110,7 @@ impl CuratorIndex {
                 capacities.vectors,
                 capacities.entries,
                 capacities.nodes,
+                capacities.text,
                 state.as_mut_ptr(),
                 state.len(),
             )
@@ -105,16 +120,18 @@ impl CuratorIndex {
             vectors,
             entries,
             nodes,
+            text,
         } = capacities;
         Ok(Self {
             state,
             floats: vec![0.0; dimension * (vectors + nodes + params.branching_factor)],
-            numbers: vec![0; 2 * vectors + 2 * entries + 7 * nodes],
+            numbers: vec![0; 2 * vectors + 4 * entries + 7 * nodes],
             hashes: vec![0; entries + 4 * nodes],
+            text: vec![0; text],
         })
     }
 
-    /// Adds a vector under a document id, with labels of at most 510 bytes each.
+    /// Adds a vector under a document id, with labels of at most 510 bytes each, whose bytes are kept.
     pub fn add(
         &mut self,
         doc_id: u32,
@@ -157,6 +174,8 @@ impl CuratorIndex {
                 self.numbers.len(),
                 self.hashes.as_mut_ptr(),
                 self.hashes.len(),
+                self.text.as_mut_ptr(),
+                self.text.len(),
                 doc_id,
                 vector.as_ptr(),
                 vector.len(),
@@ -199,6 +218,8 @@ impl CuratorIndex {
                 self.numbers.len(),
                 self.hashes.as_ptr(),
                 self.hashes.len(),
+                self.text.as_ptr(),
+                self.text.len(),
             )
         };
         RetrieveError::check(number)
@@ -219,6 +240,8 @@ impl CuratorIndex {
                     self.numbers.len(),
                     self.hashes.as_mut_ptr(),
                     self.hashes.len(),
+                    self.text.as_ptr(),
+                    self.text.len(),
                     work.as_mut_ptr(),
                     work.len(),
                 )
@@ -228,7 +251,8 @@ impl CuratorIndex {
     }
 
     /// The nearest k documents that have a vector with the label: document ids and distances, nearest first. The label's name is
-    /// given whole, `"kerb-7/silt"`, or in two parts, `("kerb-7/", "silt")`.
+    /// given whole, `"kerb-7/silt"`, or in two parts, `("kerb-7/", "silt")`. Labels are told apart by their bytes, also where their
+    /// hashes are the same.
     pub fn search_filtered<'a>(
         &self,
         query: &[f32],
@@ -264,6 +288,8 @@ impl CuratorIndex {
                     self.numbers.len(),
                     self.hashes.as_ptr(),
                     self.hashes.len(),
+                    self.text.as_ptr(),
+                    self.text.len(),
                     work.as_mut_ptr(),
                     work.len(),
                     query.as_ptr(),
@@ -299,6 +325,8 @@ impl CuratorIndex {
                     self.numbers.len(),
                     self.hashes.as_ptr(),
                     self.hashes.len(),
+                    self.text.as_ptr(),
+                    self.text.len(),
                     work.as_mut_ptr(),
                     work.len(),
                     query.as_ptr(),

@@ -5,38 +5,35 @@ use crate::RetrieveError;
 
 /// A label's name in two parts, which are joined without anything between them; either may be empty. However a name is parted,
 /// every call answers and writes the same. A name in one piece is `"kerb-7/silt".into()`.
+///
+/// A label is its bytes: text or any others, and two labels are the same exactly when their bytes are.
 #[derive(Clone, Copy, Debug, Default)]
 pub struct Name<'a> {
-    pub first: &'a str,
-    pub second: &'a str,
+    pub first: &'a [u8],
+    pub second: &'a [u8],
 }
 
 impl<'a> Name<'a> {
-    pub fn new(first: &'a str, second: &'a str) -> Self {
-        Self { first, second }
+    /// Each part is text, or bytes.
+    pub fn new<T: AsRef<[u8]> + ?Sized>(first: &'a T, second: &'a T) -> Self {
+        Self {
+            first: first.as_ref(),
+            second: second.as_ref(),
+        }
     }
 }
 
-impl<'a> From<&'a str> for Name<'a> {
-    fn from(name: &'a str) -> Self {
-        Self::new(name, "")
+impl<'a, T: AsRef<[u8]> + ?Sized> From<&'a T> for Name<'a> {
+    fn from(name: &'a T) -> Self {
+        Self {
+            first: name.as_ref(),
+            second: &[],
+        }
     }
 }
 
-impl<'a> From<&&'a str> for Name<'a> {
-    fn from(name: &&'a str) -> Self {
-        Self::new(name, "")
-    }
-}
-
-impl<'a> From<&'a String> for Name<'a> {
-    fn from(name: &'a String) -> Self {
-        Self::new(name, "")
-    }
-}
-
-impl<'a> From<(&'a str, &'a str)> for Name<'a> {
-    fn from((first, second): (&'a str, &'a str)) -> Self {
+impl<'a, T: AsRef<[u8]> + ?Sized> From<(&'a T, &'a T)> for Name<'a> {
+    fn from((first, second): (&'a T, &'a T)) -> Self {
         Self::new(first, second)
     }
 }
@@ -51,8 +48,8 @@ pub(crate) fn lists(names: &[Name<'_>]) -> Result<(Vec<u8>, Vec<u8>), RetrieveEr
         let first = u8::try_from(total).unwrap_or(u8::MAX);
         let second = u8::try_from(total - usize::from(first));
         lengths.extend([first, second.map_err(|_| RetrieveError::LabelTooLong)?]);
-        bytes.extend_from_slice(name.first.as_bytes());
-        bytes.extend_from_slice(name.second.as_bytes());
+        bytes.extend_from_slice(name.first);
+        bytes.extend_from_slice(name.second);
     }
     Ok((lengths, bytes))
 }

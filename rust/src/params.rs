@@ -25,7 +25,7 @@ impl Default for CuratorParams {
     }
 }
 
-/// How many vectors, label entries and nodes an index has room for.
+/// How many vectors, label entries, nodes and bytes of label text an index has room for.
 #[derive(Clone, Copy, Debug, PartialEq, Eq)]
 pub struct Capacities {
     /// 1 to 4,096.
@@ -34,6 +34,8 @@ pub struct Capacities {
     pub entries: usize,
     /// 1 to 65,537.
     pub nodes: usize,
+    /// 0 to 4,177,920. A label's bytes are kept for each vector that has it.
+    pub text: usize,
 }
 
 impl Default for Capacities {
@@ -43,6 +45,7 @@ impl Default for Capacities {
             vectors: 4_096,
             entries: 16_384,
             nodes: 65_537,
+            text: 4_177_920,
         }
     }
 }

@@ -2,7 +2,7 @@
 
 use crate::Hit;
 
-pub const STATE: usize = 12;
+pub const STATE: usize = 14;
 pub const ANSWER: usize = 3;
 pub const FILTER: usize = 4;
 
@@ -16,6 +16,7 @@ extern "C" {
         vectors: usize,
         entries: usize,
         nodes: usize,
+        text: usize,
         state: *mut usize,
         state_len: usize,
     ) -> u32;
@@ -29,6 +30,8 @@ extern "C" {
         numbers_len: usize,
         hashes: *mut u64,
         hashes_len: usize,
+        text: *mut u8,
+        text_len: usize,
         doc_id: u32,
         vector: *const f32,
         vector_len: usize,
@@ -47,6 +50,8 @@ extern "C" {
         numbers_len: usize,
         hashes: *const u64,
         hashes_len: usize,
+        text: *const u8,
+        text_len: usize,
     ) -> u32;
 
     pub fn curator_build(
@@ -58,6 +63,8 @@ extern "C" {
         numbers_len: usize,
         hashes: *mut u64,
         hashes_len: usize,
+        text: *const u8,
+        text_len: usize,
         work: *mut u32,
         work_len: usize,
     ) -> u32;
@@ -71,6 +78,8 @@ extern "C" {
         numbers_len: usize,
         hashes: *const u64,
         hashes_len: usize,
+        text: *const u8,
+        text_len: usize,
         work: *mut u32,
         work_len: usize,
         query: *const f32,
@@ -97,6 +106,8 @@ extern "C" {
         numbers_len: usize,
         hashes: *const u64,
         hashes_len: usize,
+        text: *const u8,
+        text_len: usize,
         work: *mut u32,
         work_len: usize,
         query: *const f32,

@@ -78,6 +78,14 @@ fn settings_refused() {
         new(2, usual, Capacities { nodes: 0, ..SMALL }),
         Err(RetrieveError::InvalidConfig)
     );
+    for (text, answer) in [
+        (0, Ok(())),
+        (4_177_920, Ok(())),
+        (4_177_921, Err(RetrieveError::InvalidConfig)),
+        (usize::MAX, Err(RetrieveError::InvalidConfig)),
+    ] {
+        assert_eq!(new(2, usual, Capacities { text, ..SMALL }), answer);
+    }
     assert_eq!(
         new(
             2,
@@ -256,11 +264,12 @@ fn distance(a: &[f32], b: &[f32]) -> f32 {
     1.0 - sum
 }
 
-/// A budget of all nodes gives a whole answer: the nearest of those with the label, by plain comparison with every vector.
+/// A budget of all nodes gives a whole answer: the nearest of those with the label, by plain comparison with every vector. Two of the
+/// labels have one hash.
 #[test]
 fn whole_answers() {
     let mut number = numbers(7);
-    let names = ["free", "silt", "leaf", "root"];
+    let names = ["free", "77kepQFQ8Kl", "leaf", "!0IC=VloaY"];
     let params = CuratorParams {
         ef_search: 65_537,
         max_leaf_size: 8,

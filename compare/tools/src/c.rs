@@ -9,6 +9,7 @@ extern "C" {
         vectors: usize,
         entries: usize,
         nodes: usize,
+        text: usize,
         state: *mut usize,
         state_len: usize,
     ) -> u32;
@@ -22,6 +23,8 @@ extern "C" {
         numbers_len: usize,
         hashes: *mut u64,
         hashes_len: usize,
+        text: *mut u8,
+        text_len: usize,
         doc_id: u32,
         vector: *const f32,
         vector_len: usize,
@@ -40,6 +43,8 @@ extern "C" {
         numbers_len: usize,
         hashes: *const u64,
         hashes_len: usize,
+        text: *const u8,
+        text_len: usize,
     ) -> u32;
 
     pub fn curator_build(
@@ -51,6 +56,8 @@ extern "C" {
         numbers_len: usize,
         hashes: *mut u64,
         hashes_len: usize,
+        text: *const u8,
+        text_len: usize,
         work: *mut u32,
         work_len: usize,
     ) -> u32;
@@ -64,6 +71,8 @@ extern "C" {
         numbers_len: usize,
         hashes: *const u64,
         hashes_len: usize,
+        text: *const u8,
+        text_len: usize,
         work: *mut u32,
         work_len: usize,
         query: *const f32,
@@ -90,6 +99,8 @@ extern "C" {
         numbers_len: usize,
         hashes: *const u64,
         hashes_len: usize,
+        text: *const u8,
+        text_len: usize,
         work: *mut u32,
         work_len: usize,
         query: *const f32,

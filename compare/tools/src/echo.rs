@@ -1,6 +1,7 @@
 //! Echo files and what is printed of them ('The echo file and its printer' of document 01).
 use crate::case::{Case, Doc, Query};
 use crate::ours::Shape;
+use crate::parting::joined;
 use std::fmt::Write;
 
 fn put_floats(file: &mut Vec<u8>, vector: &[f32]) {
@@ -19,7 +20,7 @@ fn put_doc(file: &mut Vec<u8>, doc: &Doc) {
     file.extend(doc.id.to_le_bytes());
     file.push(doc.labels.len() as u8);
     file.extend(doc.labels.iter().map(|label| label.len() as u8));
-    file.extend(doc.labels.concat().bytes());
+    file.extend(joined(&doc.labels));
     put_floats(file, &doc.vector);
 }
 
@@ -28,7 +29,7 @@ fn put_query(file: &mut Vec<u8>, query: &Query) {
     file.extend((query.k as u16).to_le_bytes());
     if let Some(label) = &query.label {
         file.push(label.len() as u8);
-        file.extend(label.bytes());
+        file.extend(label.iter());
     }
     put_floats(file, &query.vector);
 }

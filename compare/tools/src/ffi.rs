@@ -9,6 +9,7 @@ pub struct Store<'a> {
     pub floats: &'a [f32],
     pub numbers: &'a [u32],
     pub hashes: &'a [u64],
+    pub text: &'a [u8],
 }
 
 /// The store, for the calls that write it.
@@ -16,6 +17,7 @@ pub struct StoreMut<'a> {
     pub floats: &'a mut [f32],
     pub numbers: &'a mut [u32],
     pub hashes: &'a mut [u64],
+    pub text: &'a mut [u8],
 }
 
 /// What an add is given. `lengths` has two bytes a label, the lengths of its parts, which stand in `bytes` one after the other.
@@ -50,9 +52,8 @@ pub struct Filled<'a> {
 
 pub fn new(shape: Shape, state: &mut [usize]) -> u32 {
     let s = shape;
-    unsafe {
-        c::curator_new(s.dimension, s.branching, s.leaf_size, s.ef, s.beam, s.vectors, s.entries, s.nodes, state.as_mut_ptr(), state.len())
-    }
+    let (sp, sl) = (state.as_mut_ptr(), state.len());
+    unsafe { c::curator_new(s.dimension, s.branching, s.leaf_size, s.ef, s.beam, s.vectors, s.entries, s.nodes, s.text, sp, sl) }
 }
 
 pub fn add(state: &mut [usize], store: StoreMut, added: &Added) -> u32 {
@@ -70,6 +71,8 @@ pub fn add_lists(state: &mut [usize], store: StoreMut, id: u32, vector: &[f32], 
             store.numbers.len(),
             store.hashes.as_mut_ptr(),
             store.hashes.len(),
+            store.text.as_mut_ptr(),
+            store.text.len(),
             id,
             vector.as_ptr(),
             vector.len(),
@@ -92,6 +95,8 @@ pub fn take_back(state: &mut [usize], store: Store) -> u32 {
             store.numbers.len(),
             store.hashes.as_ptr(),
             store.hashes.len(),
+            store.text.as_ptr(),
+            store.text.len(),
         )
     }
 }
@@ -107,6 +112,8 @@ pub fn build(state: &mut [usize], store: StoreMut, work: &mut [u32]) -> u32 {
             store.numbers.len(),
             store.hashes.as_mut_ptr(),
             store.hashes.len(),
+            store.text.as_ptr(),
+            store.text.len(),
             work.as_mut_ptr(),
             work.len(),
         )
@@ -119,6 +126,7 @@ pub fn search(state: &[usize], store: Store, work: &mut [u32], asked: Asked, fil
     let (fp, fl) = (store.floats.as_ptr(), store.floats.len());
     let (np, nl) = (store.numbers.as_ptr(), store.numbers.len());
     let (hp, hl) = (store.hashes.as_ptr(), store.hashes.len());
+    let (tp, tl) = (store.text.as_ptr(), store.text.len());
     let (wp, wl) = (work.as_mut_ptr(), work.len());
     let (qp, ql) = (asked.query.as_ptr(), asked.query.len());
     let (ip, il) = (filled.ids.as_mut_ptr(), filled.ids.len());
@@ -128,11 +136,11 @@ pub fn search(state: &[usize], store: Store, work: &mut [u32], asked: Asked, fil
     match asked.label {
         Some(Name { first: x, second: y }) => unsafe {
             c::curator_search_filtered(
-                sp, sl, fp, fl, np, nl, hp, hl, wp, wl, qp, ql, x.as_ptr(), x.len(), y.as_ptr(), y.len(), k, ip, il, dp, dl, ap, al,
+                sp, sl, fp, fl, np, nl, hp, hl, tp, tl, wp, wl, qp, ql, x.as_ptr(), x.len(), y.as_ptr(), y.len(), k, ip, il, dp, dl, ap, al,
             )
         },
         None => unsafe {
-            c::curator_search(sp, sl, fp, fl, np, nl, hp, hl, wp, wl, qp, ql, k, ip, il, dp, dl, ap, al)
+            c::curator_search(sp, sl, fp, fl, np, nl, hp, hl, tp, tl, wp, wl, qp, ql, k, ip, il, dp, dl, ap, al)
         },
     }
 }

@@ -1,8 +1,12 @@
 //! An index of ours with its lists, called through the static library.
+use crate::case::Label;
 use crate::ffi::{self, Added, Asked, Filled, Store, StoreMut};
 use crate::parting::halved;
 
-/// Settings and capacities, in the order of the state.
+/// How many numbers a state has.
+pub const STATE: usize = 14;
+
+/// Settings and capacities, in the order of the state; that of label text comes behind the counts.
 #[derive(Clone, Copy, Debug)]
 pub struct Shape {
     pub dimension: usize,
@@ -13,6 +17,7 @@ pub struct Shape {
     pub vectors: usize,
     pub entries: usize,
     pub nodes: usize,
+    pub text: usize,
 }
 
 impl Shape {
@@ -21,7 +26,16 @@ impl Shape {
     }
 
     pub fn numbers(&self) -> usize {
+        2 * self.vectors + 4 * self.entries + 7 * self.nodes
+    }
+
+    /// Where the starts of the entries' labels stand in the numbers, and their lengths.
+    pub fn starts(&self) -> usize {
         2 * self.vectors + 2 * self.entries + 7 * self.nodes
+    }
+
+    pub fn lengths(&self) -> usize {
+        self.starts() + self.entries
     }
 
     pub fn hashes(&self) -> usize {
@@ -39,6 +53,7 @@ pub struct Lists {
     pub floats: Vec<f32>,
     pub numbers: Vec<u32>,
     pub hashes: Vec<u64>,
+    pub text: Vec<u8>,
     pub work: Vec<u32>,
 }
 
@@ -50,18 +65,19 @@ impl Lists {
             floats: vec![f32::from_bits(junk); shape.floats() + surplus],
             numbers: vec![junk; shape.numbers() + surplus],
             hashes: vec![wide; shape.hashes() + surplus],
+            text: vec![junk as u8; shape.text + surplus],
             work: vec![junk; shape.work() + surplus],
         }
     }
 
     /// The store, to be read.
     pub fn lend(&self) -> Store<'_> {
-        Store { floats: &self.floats, numbers: &self.numbers, hashes: &self.hashes }
+        Store { floats: &self.floats, numbers: &self.numbers, hashes: &self.hashes, text: &self.text }
     }
 
     /// The store and the work list.
     pub fn lend_mut(&mut self) -> (StoreMut<'_>, &mut [u32]) {
-        let store = StoreMut { floats: &mut self.floats, numbers: &mut self.numbers, hashes: &mut self.hashes };
+        let store = StoreMut { floats: &mut self.floats, numbers: &mut self.numbers, hashes: &mut self.hashes, text: &mut self.text };
         (store, &mut self.work)
     }
 }
@@ -77,25 +93,25 @@ pub struct Answer {
 /// The state of an index and its lists.
 #[derive(Clone)]
 pub struct Ours {
-    pub state: [usize; 12],
+    pub state: [usize; STATE],
     pub lists: Lists,
 }
 
 impl Ours {
     /// An empty index over lists.
     pub fn new(shape: Shape, lists: Lists) -> Result<Ours, u32> {
-        let mut state = [0; 12];
+        let mut state = [0; STATE];
         done(ffi::new(shape, &mut state)).map(|()| Ours { state, lists })
     }
 
     /// The settings and capacities of the state.
     pub fn shape(&self) -> Shape {
-        let [dimension, branching, leaf_size, ef, beam, vectors, entries, nodes, ..] = self.state;
-        Shape { dimension, branching, leaf_size, ef, beam, vectors, entries, nodes }
+        let [dimension, branching, leaf_size, ef, beam, vectors, entries, nodes, _, _, _, _, text, _] = self.state;
+        Shape { dimension, branching, leaf_size, ef, beam, vectors, entries, nodes, text }
     }
 
     /// Adds a vector with its labels, each name in two halves.
-    pub fn add(&mut self, id: u32, vector: &[f32], labels: &[String]) -> Result<(), u32> {
+    pub fn add(&mut self, id: u32, vector: &[f32], labels: &[Label]) -> Result<(), u32> {
         self.give(&halved(id, vector, labels))
     }
 
@@ -115,7 +131,7 @@ impl Ours {
 
     pub fn search(&mut self, asked: Asked, filled: Filled) -> u32 {
         let lists = &mut self.lists;
-        let store = Store { floats: &lists.floats, numbers: &lists.numbers, hashes: &lists.hashes };
+        let store = Store { floats: &lists.floats, numbers: &lists.numbers, hashes: &lists.hashes, text: &lists.text };
         ffi::search(&self.state, store, &mut lists.work, asked, filled)
     }
 }

@@ -1,4 +1,5 @@
 //! Names in two parts (K7 of document 02): where a name is cut, and what an add is given of it.
+use crate::case::Label;
 use crate::ffi::Added;
 use crate::random::Random;
 
@@ -56,14 +57,19 @@ pub fn places(random: &mut Random, length: usize, most: usize) -> [usize; 2] {
     [one, another(random, length, most, one)]
 }
 
+/// The bytes of labels, one after the other.
+pub fn joined(labels: &[Label]) -> Vec<u8> {
+    labels.iter().flat_map(|label| label.iter().copied()).collect()
+}
+
 /// What an add is given of names that are cut at these places.
-pub fn added(id: u32, vector: &[f32], labels: &[String], cuts: &[usize]) -> Added {
+pub fn added(id: u32, vector: &[f32], labels: &[Label], cuts: &[usize]) -> Added {
     let lengths = labels.iter().zip(cuts).flat_map(|(label, &at)| [at as u8, (label.len() - at) as u8]);
-    Added { id, vector: vector.to_vec(), lengths: lengths.collect(), bytes: labels.concat().into_bytes() }
+    Added { id, vector: vector.to_vec(), lengths: lengths.collect(), bytes: joined(labels) }
 }
 
 /// The same, with each name cut in the middle.
-pub fn halved(id: u32, vector: &[f32], labels: &[String]) -> Added {
+pub fn halved(id: u32, vector: &[f32], labels: &[Label]) -> Added {
     let cuts: Vec<usize> = labels.iter().map(|label| label.len() / 2).collect();
     added(id, vector, labels, &cuts)
 }

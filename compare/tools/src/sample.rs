@@ -10,8 +10,8 @@ use crate::parting::PART;
 use crate::random::Random;
 use crate::theirs;
 
-/// The sizes of the program `echoes`. An echo file has one length byte a label.
-pub const SIZES: Most = Most { dimension: 16, vectors: 128, entries: 256, name: PART };
+/// The sizes of the program `echoes`. An echo file has one length byte a label. Labels of one hash are left out, since the answers are the original's.
+pub const SIZES: Most = Most { dimension: 16, vectors: 128, entries: 256, name: PART, text: 256 * PART, alike: false };
 pub const NODES: usize = 512;
 const PLACES: usize = 256;
 const LONGEST: usize = 65536;

@@ -13,7 +13,6 @@ use Rattle.lists.specs.Parts.{length-part, part-part}
 use Rattle.record_queue.specs.RecordsLaws.{heap-none}
 use Rattle.store.specs.declared.Shape.{Shape}
 use Rattle.store.specs.Store.{Limits, hitsAt, workSize}
-use Rattle.walk.specs.declared.Wanted.{Wanted}
 use Rattle.store.specs.declared.Counts.{Counts}
 use Rattle.walk.specs.Walk.{View, Progress, State, damaged, going, walk}
 use Rattle.walk.specs.WalkLaws.{found-most}
@@ -21,7 +20,8 @@ use Rattle.walk.specs.Answer.{documentOf, distanceOf, dropRepeats, ranked, answ
 use Rattle.walk.specs.AnswerLaws.{ranked-is}
 use Rattle.lists.specs.Tests.{allPass}
 use Rattle.walk.specs.Contracts.{Answers, SearchEnds}
-use Rattle.walk.specs.Wanted as Wanted′
+use Rattle.walk.specs.Wanted as Wanted
+use Rattle.walk.specs.Wanted.{Sought}
 use Rattle.walk.specs.Contracts.{VectorsLent}
 use Rattle.best_first_walk.specs.Walks.{hitsPart, foundIn, foundAt, foundPart, EndsAs, WalkEnds}
 use Rattle.best_first_walk.specs.WalksLaws.{few-hits}
@@ -69,7 +69,7 @@ module _ (s : Shape) (c : Counts) (hit : ℕ → ℕ) where
       part-part (hitsAt s) (3 * max (s .vectors) (s .entries)) (foundIn s) found work (omega (arith, limits .vectors-low))
       ∙ sym (take-take found (max (s .vectors) (s .entries) + 1) (drop (foundAt s) work) (omega arith))
 
-  module _ (wanted : Wanted) (view : View) (ef k found opened : ℕ) (complete : Bool) (work heap : List ℕ) (from : ℕ) (limits : Limits s) (most : view .most ≡ Wanted′.most wanted c)
+  module _ (wanted : Sought) (view : View) (ef k found opened : ℕ) (complete : Bool) (work heap : List ℕ) (from : ℕ) (limits : Limits s) (most : view .most ≡ Wanted.most wanted c)
       (v : c .vectors ≤ s .vectors) (e : c .entries ≤ s .entries) (size : workSize s ≤ length work) (is : heap ≡ hitsPart s work) (at : from ≡ foundIn s)
       (w : WalkEnds s c hit (walk view ef) (walked.Ended found opened complete) work) where
     few : found ≤ max (s .vectors) (s .entries)

@@ -12,6 +12,7 @@ use walk::Wanted;
 use whole_walk::whole_walk;
 ghost use Rattle.store.specs.Lent.{lent};
 ghost use Rattle.walk.specs.Contracts.{StoreLent, SearchGives};
+ghost use Rattle.walk.specs.Wanted.{sought};
 ghost use Rattle.best_first_walk.specs.Walks.{Walks};
 ghost use Rattle.best_first_search.specs.Ranks.{SearchLent};
 
@@ -23,15 +24,28 @@ fn walk_store(
     floats: &[f32],
     numbers: &[u32],
     hashes: &[u64],
+    text: &[u8],
     work: &mut [u32],
     query: &[f32],
     wanted: Wanted,
+    first: &[u8],
+    second: &[u8],
 ) -> Walked
-    requires { ⌜ StoreLent shape counts (lent floats numbers hashes) (now work) ⌝ }
-    ensures { λ r. ⌜ Walks shape counts «ef_search» (lent (floats .entry) (numbers .entry) (hashes .entry)) (now (query .entry)) wanted (now (work .entry)) r (now (work .exit)) ⌝ }
+    requires { ⌜ StoreLent shape counts (lent floats numbers hashes text) (now work) ⌝ }
+    ensures { λ r. ⌜ Walks shape counts «ef_search» (lent (floats .entry) (numbers .entry) (hashes .entry) (text .entry)) (now (query .entry)) (sought wanted (now (first .entry)) (now (second .entry))) (now (work .entry)) r (now (work .exit)) ⌝ }
 {
     if counts.nodes <= ef_search {
-        return whole_walk(shape, counts, numbers, hashes, work, wanted);
+        return whole_walk(
+            shape,
+            counts,
+            numbers,
+            hashes,
+            text,
+            work,
+            wanted,
+            first,
+            second,
+        );
     }
     best_first_walk(
         shape,
@@ -40,9 +54,12 @@ fn walk_store(
         floats,
         numbers,
         hashes,
+        text,
         work,
         query,
         wanted,
+        first,
+        second,
     )
 }
 
@@ -54,15 +71,18 @@ pub fn best_first_search(
     floats: &[f32],
     numbers: &[u32],
     hashes: &[u64],
+    text: &[u8],
     work: &mut [u32],
     query: &[f32],
     wanted: Wanted,
+    first: &[u8],
+    second: &[u8],
     k: usize,
     ids: &mut [u32],
     distances: &mut [f32],
 ) -> Searched
-    requires { ⌜ SearchLent shape counts (lent floats numbers hashes) (now work) k (now ids) (now distances) ⌝ }
-    ensures { λ r. ⌜ SearchGives shape counts «ef_search» (lent (floats .entry) (numbers .entry) (hashes .entry)) (now (query .entry)) wanted k (now (work .entry)) (now (ids .entry)) (now (distances .entry)) r (now (work .exit)) (now (ids .exit)) (now (distances .exit)) ⌝ }
+    requires { ⌜ SearchLent shape counts (lent floats numbers hashes text) (now work) k (now ids) (now distances) ⌝ }
+    ensures { λ r. ⌜ SearchGives shape counts «ef_search» (lent (floats .entry) (numbers .entry) (hashes .entry) (text .entry)) (now (query .entry)) (sought wanted (now (first .entry)) (now (second .entry))) k (now (work .entry)) (now (ids .entry)) (now (distances .entry)) r (now (work .exit)) (now (ids .exit)) (now (distances .exit)) ⌝ }
 {
     let hits_at = shape.hits_at();
     let hits_end = shape.work_size();
@@ -74,9 +94,12 @@ pub fn best_first_search(
         floats,
         numbers,
         hashes,
+        text,
         work,
         query,
         wanted,
+        first,
+        second,
     );
     match walked {
         Walked::Damaged => Searched::Damaged,

@@ -23,7 +23,7 @@ use Rattle.distance.specs.Distance.{distance}
 use Rattle.total_order.specs.TotalOrder.{keyOf}
 use Rattle.walk.specs.StoreView.{storeView}
 use Rattle.lists.specs.Tests.{allPass, allPass-nil}
-use Rattle.walk.specs.declared.Wanted.{Wanted}
+use Rattle.walk.specs.Wanted.{Sought}
 use Rattle.store.specs.declared.Counts.{Counts}
 use Rattle.walk.specs.Walk.{View, waitingNode, nodeNumber, Progress}
 use Rattle.walk.specs.WalkLaws.{openedOne, addedHits}
@@ -167,7 +167,7 @@ begins s c hit view work work′ nodes some size q =
     }
 
 -- the key of a node's centroid
-pub view-key : (s : Shape) (c : Counts) (floats : List Float) (numbers hashes : List ℕ) (query : List Float) (wanted : Wanted) (i at key : ℕ) → at ≡ s .vectors + i
-    → key ≡ keyOf (distance query (vectorAt (s .dimension) floats at)) → key ≡ storeView s c (storeOf floats numbers hashes) query wanted .key i
+pub view-key : (s : Shape) (c : Counts) (floats : List Float) (numbers hashes text : List ℕ) (query : List Float) (wanted : Sought) (i at key : ℕ) → at ≡ s .vectors + i
+    → key ≡ keyOf (distance query (vectorAt (s .dimension) floats at)) → key ≡ storeView s c (storeOf floats numbers hashes text) query wanted .key i
 unfolding storeView
-view-key s c floats numbers hashes query wanted i at key p e = e ∙ ap (λ (n : ℕ). keyOf (distance query (vectorAt (s .dimension) floats n))) p
+view-key s c floats numbers hashes text query wanted i at key p e = e ∙ ap (λ (n : ℕ). keyOf (distance query (vectorAt (s .dimension) floats n))) p

@@ -13,8 +13,7 @@ use Rattle.lists.specs.Tests.{which, allPass, all-pass}
 use Rattle.store.specs.declared.Shape.{Shape}
 use Rattle.store.specs.declared.Counts.{Counts}
 use Rattle.store.specs.Store.{Store}
-use Rattle.walk.specs.declared.Wanted.{Wanted}
-use Rattle.walk.specs.Wanted.{EntryRead, passes, given, most}
+use Rattle.walk.specs.Wanted.{Sought, EntryRead, passes, given, most}
 use Rattle.walk.specs.WantedLaws.{given-held}
 use Rattle.walk.specs.StoreView.{storeView}
 use Rattle.walk.specs.Walk.{View, Progress, damaged, going, give, hits, damage}
@@ -22,15 +21,15 @@ use Rattle.walk.specs.WalkLaws.{addedHits, give-damage, give-hits, give-over}
 use Rattle.leaf_hits.specs.Contracts.{Gathered, GatherDamage}
 
 -- how many hits a store's view allows
-pub most-is : (s : Shape) (c : Counts) (store : Store) (query : List Float) (wanted : Wanted) → storeView s c store query wanted .most ≡ most wanted c
+pub most-is : (s : Shape) (c : Counts) (store : Store) (query : List Float) (wanted : Sought) → storeView s c store query wanted .most ≡ most wanted c
 unfolding storeView
 most-is s c store query wanted = refl
 
 -- the vectors that a list gives are held, if all its numbers pass
-pub vectors-held : (wanted : Wanted) (c : Counts) (entries : EntryRead) (l : List ℕ) → allPass (passes wanted c entries) l ≡ true
+pub vectors-held : (wanted : Sought) (c : Counts) (entries : EntryRead) (end : ℕ → ℕ) (l : List ℕ) → allPass (passes wanted c entries end) l ≡ true
     → allPass (λ x. ltb x (c .vectors)) (given wanted entries l) ≡ true
-vectors-held wanted c entries l t =
-    all-pass (λ x. ltb x (c .vectors)) (given wanted entries l) (λ v m. lt-ltb v (c .vectors) (given-held wanted c entries l t v m))
+vectors-held wanted c entries end l t =
+    all-pass (λ x. ltb x (c .vectors)) (given wanted entries l) (λ v m. lt-ltb v (c .vectors) (given-held wanted c entries end l t v m))
 
 module _ (view : View) (hit : ℕ → ℕ) (p : Progress) (sound : Bool) (vectors : List ℕ) (found : ℕ) (count : found ≡ length (p .found)) where
   -- a list that is not sound, or has one hit too many

@@ -13,11 +13,11 @@ use Rattle.record_queue.specs.Records.{records, Heap}
 use Rattle.store.specs.declared.Shape.{Shape}
 use Rattle.store.specs.Lent.{storeOf}
 use Rattle.store.specs.Store.{Store, CountsWithin, floatsSize, workSize, marksAt, hitsAt}
-use Rattle.walk.specs.declared.Wanted.{Wanted}
 use Rattle.store.specs.declared.Counts.{Counts}
 use Rattle.best_first_walk.specs.declared.Walked.{Walked}
 use Rattle.walk.specs.WalkLaws.{startProgress}
 use Rattle.walk.specs.Walk.{View, Progress, State, damaged, going, walk, whole}
+use Rattle.walk.specs.Wanted.{Sought}
 use Rattle.walk.specs.StoreView.{hitAt, storeView}
 use Rattle.lists.specs.Tests.{allPass}
 use Rattle.best_first_walk.specs.declared.Walked.the-variants as walked
@@ -86,12 +86,12 @@ WalkEnds s c hit (going p) walked.Damaged work = ⊥
 WalkEnds s c hit (going p) (walked.Ended found opened complete) work = EndsAs s c hit p found opened complete work
 
 -- The walk is the walk of the store's view: damaged exactly where that is, and otherwise with its hits, its opened nodes, whole or cut
-pub record Walks (s : Shape) (c : Counts) (ef : ℕ) (store : Store) (query : List Float) (wanted : Wanted)
+pub record Walks (s : Shape) (c : Counts) (ef : ℕ) (store : Store) (query : List Float) (wanted : Sought)
     (work : List ℕ) (r : Walked) (work′ : List ℕ) : Type 0 where
   pub ends : WalkEnds s c (hitAt s (store .floats) (store .numbers) query) (walk (storeView s c store query wanted) ef) r work′
   pub works : Works s work work′
 
--- a walk from a query has begun, whatever numbers and hashes the store has
+-- a walk from a query has begun, whatever numbers, hashes and label text the store has
 abbrev pub BeginsAny : Shape → Counts → List Float → List Float → List ℕ → List ℕ → Type 0
 BeginsAny s c floats query work work′ =
-    (hit : ℕ → ℕ) (numbers hashes : List ℕ) (wanted : Wanted) → BeginsWalk s c hit (storeView s c (storeOf floats numbers hashes) query wanted) work work′
+    (hit : ℕ → ℕ) (numbers hashes text : List ℕ) (wanted : Sought) → BeginsWalk s c hit (storeView s c (storeOf floats numbers hashes text) query wanted) work work′

@@ -19,6 +19,7 @@ ghost use lib.ListN.{length, getD, replicate};
 ghost use Rattle.store.specs.Store.{Limits};
 ghost use Rattle.store.specs.Lent.{lent};
 ghost use Rattle.walk.specs.Contracts.{StoreLent};
+ghost use Rattle.walk.specs.Wanted.{sought};
 ghost use Rattle.best_first_walk.specs.Walks.{foundAt, rootMarked, RootLent, BeginLent, BeginsAny, Walks};
 
 // How a walk ended: with vectors found, each of them a hit, or at damage. It is whole if no node waited.
@@ -95,12 +96,15 @@ pub fn best_first_walk(
     floats: &[f32],
     numbers: &[u32],
     hashes: &[u64],
+    text: &[u8],
     work: &mut [u32],
     query: &[f32],
     wanted: Wanted,
+    first: &[u8],
+    second: &[u8],
 ) -> Walked
-    requires { ⌜ StoreLent shape counts (lent floats numbers hashes) (now work) ⌝ }
-    ensures { λ r. ⌜ Walks shape counts «ef_search» (lent (floats .entry) (numbers .entry) (hashes .entry)) (now (query .entry)) wanted (now (work .entry)) r (now (work .exit)) ⌝ }
+    requires { ⌜ StoreLent shape counts (lent floats numbers hashes text) (now work) ⌝ }
+    ensures { λ r. ⌜ Walks shape counts «ef_search» (lent (floats .entry) (numbers .entry) (hashes .entry) (text .entry)) (now (query .entry)) (sought wanted (now (first .entry)) (now (second .entry))) (now (work .entry)) r (now (work .exit)) ⌝ }
 {
     let nodes = counts.nodes;
     let marks_at = shape.marks_at();
@@ -144,9 +148,12 @@ pub fn best_first_walk(
                     counts,
                     numbers,
                     hashes,
+                    text,
                     &mut work[found_at..found_end],
                     hits,
                     wanted,
+                    first,
+                    second,
                     list,
                 );
                 match added {

@@ -194,15 +194,15 @@ ready index store work f b =
 
 left-state : (s : Shape) (r : StateRefusal) (store : Store) (work : List ℕ) → Left s (Refusal′.State r) store work store work
 unfolding Freed freeOf
-left-state s r store work = record { floats = refl; numbers = refl; hashes = refl; work = refl }
+left-state s r store work = record { floats = refl; numbers = refl; hashes = refl; text = refl; work = refl }
 
 left-short : (s : Shape) (store : Store) (work : List ℕ) → Left s (Refusal′.Store ListTooShort) store work store work
 unfolding Freed freeOf
-left-short s store work = record { floats = refl; numbers = refl; hashes = refl; work = refl }
+left-short s store work = record { floats = refl; numbers = refl; hashes = refl; text = refl; work = refl }
 
 left-damaged : (s : Shape) (store : Store) (work : List ℕ) → workSize s ≤ length work → Left s (Refusal′.Store Damaged) store work store work
 unfolding Freed freeOf
-left-damaged s store work h = record { floats = refl; numbers = refl; hashes = refl; work = freed-self (workPart s) work (omega (arith, h)) }
+left-damaged s store work h = record { floats = refl; numbers = refl; hashes = refl; text = refl; work = freed-self (workPart s) work (omega (arith, h)) }
 
 same-refusal : {q r : Refusal} → Refused q ≡ Refused r → q ≡ r
 same-refusal e = cc

@@ -1,5 +1,5 @@
--- 'Parts past the counts held are never read', of a build: it reads the lengths of the lists, the vectors held and the entries held. Stores that
--- agree on these, whatever else stands in them and in the work lists, give the same answer, and the same nodes are laid out in both.
+-- 'Parts past the counts held are never read', of a build: it reads the lengths of the lists, the vectors held, and owners and hashes of the entries held.
+-- Stores that agree on these, whatever else stands in them and in the work lists, give the same answer, and the same nodes are laid out in both.
 use Prim.Native.Nat.{ℕ, _-_, _*_}
 use mathlib.Core.Bool.{Bool, true, false, not, _&&_}
 use mathlib.Core.List.{List, [], _∷_}
@@ -39,8 +39,8 @@ use Rattle.build.specs.BuildLaws.{builds-accepted}
 use Rattle.build.specs.FitLaws.{fine-ready, fine-few, vectors-length, owners-length, owners-below, nodes-fit}
 use Rattle.curator.specs.OutcomeLaws.{carried-is, refused-is}
 
--- What a build reads is the same: whether a list is too short, the vectors held, and the owners and hashes of the entries held. Document ids are not
--- read.
+-- What a build reads is the same: whether a list is too short, the vectors held, and the owners and hashes of the entries held. Document ids, the labels'
+-- starts and lengths, and label text are not read.
 pub record SameBuildRead (index : CuratorIndex) (s : Store) (work : List ℕ) (t : Store) (other : List ℕ) : Type 0 where
   pub short : listsShort (indexShape index) (lengthsOf s) (length work) ≡ listsShort (indexShape index) (lengthsOf t) (length other)
   pub vectors : heldVectors index s ≡ heldVectors index t
@@ -53,6 +53,7 @@ pub record LaidBy (s : Shape) (nodes : List Node) (before after : Store) : Type 
   pub floats : after .floats ≡ floatsOf s nodes centres (before .floats)
   pub numbers : after .numbers ≡ numbersOf s nodes (before .numbers)
   pub hashes : after .hashes ≡ hashesOf s nodes (before .hashes)
+  pub text : after .text ≡ before .text
 
 -- What is written is the same: one list of nodes is laid out in both stores.
 pub record SameWritten (s : Shape) (a b a′ b′ : Store) : Type 0 where
@@ -143,6 +144,7 @@ laid-of index store work store′ work′ nodes e l =
       floats = l .floats ∙ ap (λ (n : List Node). floatsOf s n (l .centres) (store .floats)) e;
       numbers = l .numbers ∙ ap (λ (n : List Node). numbersOf s n (store .numbers)) e;
       hashes = l .hashes ∙ ap (λ (n : List Node). hashesOf s n (store .hashes)) e;
+      text = l .text;
     }
 
 -- what stands where in a store with nodes laid out

@@ -6,6 +6,7 @@ pub mod MakeLaws
 pub mod BuildLaws
 pub mod FitLaws
 pub mod HeldLaws
+pub mod LabelLaws
 -- the filters of inner nodes after a build (02, K6)
 pub mod Pooled
 pub mod PooledLaws

@@ -25,7 +25,7 @@ use Rattle.settings.specs.declared.refusal.Refusal.the-variants as Refusal′
 use Rattle.settings.specs.declared.refusal.StoreRefusal.the-variants.{NodesFull}
 use Rattle.curator.specs.Limits.{indexShape}
 use Rattle.curator.specs.Calls.{builtWith}
-use Rattle.store.specs.Lent.{lengthsOf}
+use Rattle.store.specs.Lent.{storeOf, lengthsOf}
 use Rattle.curator.specs.Changes.{buildCheck, heldNodes, LaidOut, BuildsFine, BuildsBy, Builds}
 use Rattle.build.specs.Asked.{buildChecked, BuildReady}
 use Rattle.build.specs.CheckLaws.{left-alone, check-refused, check-full, check-fine}
@@ -84,13 +84,13 @@ made-all index store work floats′ numbers′ work′ made nodes b e = by (ltb 
 pub builds-whole : (index : CuratorIndex) (store : Store) (work : List ℕ) (floats′ : List Float) (numbers′ work′ : List ℕ) (made : Made) (nodes : ℕ)
     → BuildReady index store work → AllOf index store work floats′ numbers′ work′ made nodes → (numbers″ hashes″ work″ : List ℕ)
     → Finished (indexShape index) (index .counts .vectors) (index .counts .entries) nodes numbers′ (store .hashes) work′ numbers″ hashes″ work″
-    → Builds index store work (Changed′.Index (builtWith index nodes)) (record { floats = floats′; numbers = numbers″; hashes = hashes″ }) work″
+    → Builds index store work (Changed′.Index (builtWith index nodes)) (storeOf floats′ numbers″ hashes″ (store .text)) work″
 unfolding BuildsBy
 builds-whole index store work floats′ numbers′ work′ made nodes r a numbers″ hashes″ work″ f =
     let check =
     check-fine index store work (r .passed) (r .unbuilt) (too-many-is index store ∙ le-ltb _ _ (a .fits)) in
     let laid : Succeeded (builtWith index (length (heldNodes index store))) (Changed′.Index (builtWith index nodes))
-    × LaidOut index store work (record { floats = floats′; numbers = numbers″; hashes = hashes″ }) work″ = (
+    × LaidOut index store work (storeOf floats′ numbers″ hashes″ (store .text)) work″ = (
       is-carried _ _ (ap (λ (n : ℕ). Changed′.Index (builtWith index n)) (a .count ∙ sym (length-held index store))),
       laid-out index store work floats′ numbers′ work′ made r (a .whole) nodes (a .count) (a .fits) numbers″ hashes″ work″ f,
     ) in
@@ -98,12 +98,12 @@ builds-whole index store work floats′ numbers′ work′ made nodes r a number
 
 pub builds-full : (index : CuratorIndex) (store : Store) (work : List ℕ) (floats′ : List Float) (numbers′ work′ : List ℕ) (made : Made)
     → BuildReady index store work → TreeMade index store work floats′ numbers′ work′ made → made ≡ Made′.TooMany
-    → Builds index store work (Changed′.Refused (Refusal′.Store NodesFull)) (record { floats = floats′; numbers = numbers′; hashes = store .hashes }) work′
+    → Builds index store work (Changed′.Refused (Refusal′.Store NodesFull)) (storeOf floats′ numbers′ (store .hashes) (store .text)) work′
 unfolding BuildsBy
 builds-full index store work floats′ numbers′ work′ made r b e = by (ltb (index .capacities .nodes) (treeSize index (store .floats))) refl
   where
     by : (t : Bool) → ltb (index .capacities .nodes) (treeSize index (store .floats)) ≡ t
-        → Builds index store work (Changed′.Refused (Refusal′.Store NodesFull)) (record { floats = floats′; numbers = numbers′; hashes = store .hashes }) work′
+        → Builds index store work (Changed′.Refused (Refusal′.Store NodesFull)) (storeOf floats′ numbers′ (store .hashes) (store .text)) work′
     by true h =
         builds-by index store work _ _ _ (Refused (Refusal′.Store NodesFull)) (check-full index store work (r .passed) (r .unbuilt) (too-many-is index store ∙ h))
         (is-refused _ _ refl, left-full index store work numbers′ floats′ work′ made r (b .overfull (ltb-true _ _ h)))
@@ -162,7 +162,7 @@ pub tree-full : (index : CuratorIndex) (store : Store) (work : List ℕ) {s : Sh
     → s ≡ indexShape index → BuildReady index store work
     → Built s (index .params .«max_leaf_size») (index .counts .vectors) (store .floats) floats′ (store .numbers) numbers′ work work′ made
     → made ≡ Made′.TooMany
-    → Builds index store work (Changed′.Refused (Refusal′.Store NodesFull)) (record { floats = floats′; numbers = numbers′; hashes = store .hashes }) work′
+    → Builds index store work (Changed′.Refused (Refusal′.Store NodesFull)) (storeOf floats′ numbers′ (store .hashes) (store .text)) work′
 tree-full index store work e r b told = builds-full index store work _ _ _ _ r (tree-by index store work e b) told
 
 pub finish-room : (index : CuratorIndex) (store : Store) (work : List ℕ) {s : Shape} {floats′ : List Float} {numbers′ work′ : List ℕ} {made : Made} {nodes : ℕ}
@@ -184,10 +184,10 @@ pub finish-builds : (index : CuratorIndex) (store : Store) (work : List ℕ) {s 
     → s ≡ indexShape index → BuildReady index store work → AllOf index store work floats′ numbers′ work′ made nodes
     → Finished s (index .counts .vectors) (index .counts .entries) nodes numbers′ (store .hashes) work′ numbers″ hashes″ work″
     → answer ≡ builtWith index nodes
-    → Builds index store work (Changed′.Index answer) (record { floats = floats′; numbers = numbers″; hashes = hashes″ }) work″
+    → Builds index store work (Changed′.Index answer) (storeOf floats′ numbers″ hashes″ (store .text)) work″
 finish-builds index store work {floats′ = floats′} {numbers′ = numbers′} {work′ = work′} {made = made} {nodes = nodes} {numbers″ = numbers″} {hashes″ = hashes″} {work″ = work″} e r a f g =
     subst
-    (λ (answer : CuratorIndex). Builds index store work (Changed′.Index answer) (record { floats = floats′; numbers = numbers″; hashes = hashes″ }) work″)
+    (λ (answer : CuratorIndex). Builds index store work (Changed′.Index answer) (storeOf floats′ numbers″ hashes″ (store .text)) work″)
     (sym g)
     (builds-whole index store work floats′ numbers′ work′ made nodes r a numbers″ hashes″ work″
     (subst (λ (s : Shape). Finished s (index .counts .vectors) (index .counts .entries) nodes numbers′ (store .hashes) work′ numbers″ hashes″ work″) e f))

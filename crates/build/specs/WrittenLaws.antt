@@ -13,6 +13,7 @@ use Rattle.lists.specs.Frame.{freed-length, freed-more, freed-self, freed-twice
 use Rattle.lists.specs.Parts.{getD-part, part-sets-before, part-sets-same, sets-comm, sets-sets-same}
 use Rattle.store.specs.declared.Shape.{Shape}
 use Rattle.store.specs.Store.{Store, ownersAt, orderAt, nodesAt, linksAt, entryOrderAt, numbersSize, workSize, workPart, orderPart, nodesPart, linksPart, entryOrderPart, filtersPart}
+use Rattle.store.specs.Lent.{storeOf}
 use Rattle.cluster.specs.Vectors.{vectorsIn}
 use Rattle.cluster.specs.VectorsLaws.{length-vectorsIn}
 use Rattle.tree.specs.Tree.{treeOf, size}
@@ -72,7 +73,7 @@ length-held index store = ap length (held-nodes index store) ∙ length-nodesOf 
 -- the parts that no tree was written to are as they were
 pub left-full : (index : CuratorIndex) (store : Store) (work numbers′ : List ℕ) (floats′ : List Float) (work′ : List ℕ) (made : Made)
     → BuildReady index store work → Overfull (indexShape index) (store .floats) floats′ (store .numbers) numbers′ work work′ made
-    → Left (indexShape index) (Refusal′.Store NodesFull) store work (record { floats = floats′; numbers = numbers′; hashes = store .hashes }) work′
+    → Left (indexShape index) (Refusal′.Store NodesFull) store work (storeOf floats′ numbers′ (store .hashes) (store .text)) work′
 unfolding freeOf
 left-full index store work numbers′ floats′ work′ made r o =
     let s = indexShape index in
@@ -83,6 +84,7 @@ left-full index store work numbers′ floats′ work′ made r o =
           freed-more (orderPart s ∷ nodesPart s ∷ linksPart s ∷ []) (entryOrderPart s) (store .numbers) numbers′ (omega arith)
           (freed-more (orderPart s ∷ nodesPart s ∷ []) (linksPart s) (store .numbers) numbers′ (omega arith) (o .numbers-free));
       hashes = freed-self (filtersPart s) (store .hashes) (r .long .hashes);
+      text = refl;
       work = o .work-free;
     }
 
@@ -200,7 +202,7 @@ module _
     pub laid-out : (nodes : ℕ) → nodes ≡ treeSize index (store .floats) → treeSize index (store .floats) ≤ index .capacities .nodes
         → (numbers″ hashes″ work″ : List ℕ)
         → Finished (indexShape index) (index .counts .vectors) (index .counts .entries) nodes numbers′ (store .hashes) work′ numbers″ hashes″ work″
-        → LaidOut index store work (record { floats = floats′; numbers = numbers″; hashes = hashes″ }) work″
+        → LaidOut index store work (storeOf floats′ numbers″ hashes″ (store .text)) work″
     unfolding all-made
     laid-out nodes e fits numbers″ hashes″ work″ f =
         let s = indexShape index in
@@ -224,5 +226,6 @@ module _
               ∙ ap (λ (nodes : List Node). numbersOf s nodes numbers′) same
               ∙ laid-over s (heldNodes index store) (store .numbers) numbers′ few written;
           hashes = f .hashes-are m ∙ ap (λ (nodes : List Node). hashesOf s nodes (store .hashes)) same;
+          text = refl;
           work = freed-twice (workPart s) work work′ work″ (w .work-free) (f .work-free);
         }

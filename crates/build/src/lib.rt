@@ -11,22 +11,24 @@ use curator::CuratorIndex;
 use settings::Check;
 use store::Lengths;
 
-// Makes the tree of what is held, once: a built index stays as it is.
+// Makes the tree of what is held, once: a built index stays as it is. Of the label text only the length is read.
 pub fn build(
     index: CuratorIndex,
     floats: &mut [f32],
     numbers: &mut [u32],
     hashes: &mut [u64],
+    text: &[u8],
     work: &mut [u32],
 ) -> Changed
-    ensures { λ r. ⌜ Builds index (lent (floats .entry) (numbers .entry) (hashes .entry)) (now (work .entry))
+    ensures { λ r. ⌜ Builds index (lent (floats .entry) (numbers .entry) (hashes .entry) (text .entry)) (now (work .entry))
         r
-        (lent (floats .exit) (numbers .exit) (hashes .exit)) (now (work .exit)) ⌝ }
+        (lent (floats .exit) (numbers .exit) (hashes .exit) (text .entry)) (now (work .exit)) ⌝ }
 {
     let lent = Lengths {
         floats: floats.len(),
         numbers: numbers.len(),
         hashes: hashes.len(),
+        text: text.len(),
     };
     let check = check::build_check(index, lent, work.len(), numbers);
     match check {
@@ -35,7 +37,7 @@ pub fn build(
             if index.built {
                 return Changed::Index(index);
             }
-            make::make_index(index, floats, numbers, hashes, work)
+            make::make_index(index, floats, numbers, hashes, text, work)
         }
     }
 }

@@ -17,20 +17,16 @@ use store::Counts;
 fn built_with(index: CuratorIndex, nodes: usize) -> CuratorIndex
     ensures { λ r. ⌜ r ≡ builtWith index nodes ⌝ }
 {
-    let params = index.params;
-    let capacities = index.capacities;
-    let counts = Counts {
-        vectors: index.counts.vectors,
-        entries: index.counts.entries,
-        nodes,
-    };
-    CuratorIndex {
-        dimension: index.dimension,
-        params,
-        capacities,
-        counts,
-        built: true,
-    }
+    let held = index.counts;
+    index.with_counts(
+        Counts {
+            vectors: held.vectors,
+            entries: held.entries,
+            nodes,
+            bytes: held.bytes,
+        },
+        true,
+    )
 }
 
 // Makes the tree and finishes it, or refuses a tree that has more nodes than there is room for.
@@ -39,12 +35,13 @@ pub fn make_index(
     floats: &mut [f32],
     numbers: &mut [u32],
     hashes: &mut [u64],
+    text: &[u8],
     work: &mut [u32],
 ) -> Changed
-    requires { ⌜ BuildReady index (lent floats numbers hashes) (now work) ⌝ }
-    ensures { λ r. ⌜ Builds index (lent (floats .entry) (numbers .entry) (hashes .entry)) (now (work .entry))
+    requires { ⌜ BuildReady index (lent floats numbers hashes text) (now work) ⌝ }
+    ensures { λ r. ⌜ Builds index (lent (floats .entry) (numbers .entry) (hashes .entry) (text .entry)) (now (work .entry))
         r
-        (lent (floats .exit) (numbers .exit) (hashes .exit)) (now (work .exit)) ⌝ }
+        (lent (floats .exit) (numbers .exit) (hashes .exit) (text .entry)) (now (work .exit)) ⌝ }
 {
     let shape = limits::shape_of(index);
     let held = index.counts;

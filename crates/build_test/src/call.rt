@@ -8,10 +8,12 @@ use crate::fixture::at_most;
 use crate::fixture::held_floats;
 use crate::fixture::held_hashes;
 use crate::fixture::held_numbers;
+use crate::fixture::held_text;
 use crate::fixture::lists;
 use crate::fixture::none;
 use crate::fixture::overwrite;
 use crate::fixture::sizes;
+use crate::fixture::starts_at;
 use crate::print::number_of;
 use crate::print::print_answer;
 use crate::print::print_floats;
@@ -25,19 +27,25 @@ use curator::CuratorIndex;
 fn free_ends(index: CuratorIndex, number: u32) -> Lent {
     let all = sizes(index.capacities.nodes, 0);
     if number == 15 {
-        return lists(0, 0, 0, all.work);
+        return lists(0, 0, 0, 0, all.work);
     }
     if (number == 13) | ((number == 0) & !index.built) {
-        return all;
+        return lists(
+            all.floats,
+            starts_at(index.capacities.nodes),
+            all.hashes,
+            0,
+            all.work,
+        );
     }
-    lists(0, 0, 0, 0)
+    lists(0, 0, 0, 0, 0)
 }
 
 // The node parts: centroids; leaf order of vectors, six per node, child links, leaf order of entries; filters.
-fn print_nodes(index: CuratorIndex, floats: &[f32; 50], numbers: &[u32; 144], hashes: &[u64; 78]) {
+fn print_nodes(index: CuratorIndex, floats: &[f32; 50], numbers: &[u32; 152], hashes: &[u64; 78]) {
     let m = at_most(index.capacities.nodes, 18);
     print_floats(floats, 8, 8 + 2 * m);
-    print_numbers(numbers, 8, 8 + 8 + 7 * m);
+    print_numbers(numbers, 8, starts_at(index.capacities.nodes));
     print_hashes(hashes, 4, 4 + 4 * m);
 }
 
@@ -47,11 +55,11 @@ fn print_end(
     answer: Changed,
     garbage: Garbage,
     floats: &[f32; 50],
-    numbers: &[u32; 144],
+    numbers: &[u32; 152],
     hashes: &[u64; 78],
     work: &[u32; 68],
 ) {
-    let mut before = held_numbers();
+    let mut before = held_numbers(index.capacities.nodes);
     overwrite(&mut before, garbage);
     let free = free_ends(index, number_of(answer));
     print_answer(answer);
@@ -66,12 +74,14 @@ fn print_end(
 // A build of the held store: its answer, what it keeps and, if asked, the node parts.
 pub fn try_build(index: CuratorIndex, lent: Lent, garbage: Garbage, shown: bool) {
     let f = at_most(lent.floats, 50);
-    let n = at_most(lent.numbers, 144);
+    let n = at_most(lent.numbers, 152);
     let h = at_most(lent.hashes, 78);
+    let t = at_most(lent.text, 6);
     let w = at_most(lent.work, 68);
     let mut floats = held_floats();
-    let mut numbers = held_numbers();
+    let mut numbers = held_numbers(index.capacities.nodes);
     let mut hashes = held_hashes();
+    let text = held_text();
     let mut work = [900u32; 68];
     overwrite(&mut numbers, garbage);
     let answer = build::build(
@@ -79,6 +89,7 @@ pub fn try_build(index: CuratorIndex, lent: Lent, garbage: Garbage, shown: bool)
         &mut floats[..f],
         &mut numbers[..n],
         &mut hashes[..h],
+        &text[..t],
         &mut work[..w],
     );
     print_end(index, answer, garbage, &floats, &numbers, &hashes, &work);

@@ -10,6 +10,7 @@ pub struct Lent {
     pub floats: usize,
     pub numbers: usize,
     pub hashes: usize,
+    pub text: usize,
     pub work: usize,
 }
 
@@ -28,23 +29,25 @@ pub fn at_most(n: usize, most: usize) -> usize
     most
 }
 
-// 01's sizes with D 2, B 2, V 4, E 4 and M nodes, and some places to spare.
+// 01's sizes with D 2, B 2, V 4, E 4, M nodes and 4 bytes of label text, and some places to spare.
 pub fn sizes(nodes: usize, spare: usize) -> Lent {
     let m = at_most(nodes, 18);
     let s = at_most(spare, 2);
     Lent {
         floats: 2 * (4 + m + 2) + s,
-        numbers: 2 * 4 + 2 * 4 + 7 * m + s,
+        numbers: 2 * 4 + 4 * 4 + 7 * m + s,
         hashes: 4 + 4 * m + s,
+        text: 4 + s,
         work: 3 * m + 3 * 4 + s,
     }
 }
 
-pub fn lists(floats: usize, numbers: usize, hashes: usize, work: usize) -> Lent {
+pub fn lists(floats: usize, numbers: usize, hashes: usize, text: usize, work: usize) -> Lent {
     Lent {
         floats,
         numbers,
         hashes,
+        text,
         work,
     }
 }
@@ -60,14 +63,29 @@ pub fn held_floats() -> [f32; 50] {
     list
 }
 
-pub fn held_numbers() -> [u32; 144] {
-    let mut list = [900u32; 144];
+// Where the labels' starts begin in the numbers: behind the parts of M nodes.
+pub fn starts_at(nodes: usize) -> usize
+    ensures { λ r. ⌜ r ≤ 142 ⌝ }
+{
+    2 * 4 + 2 * 4 + 7 * at_most(nodes, 18)
+}
+
+pub fn held_numbers(nodes: usize) -> [u32; 152] {
+    let starts = starts_at(nodes);
+    let lengths = starts + 4;
+    let mut list = [900u32; 152];
     list[0] = 7;
     list[1] = 8;
     list[2] = 9;
     list[4] = 0;
     list[5] = 1;
     list[6] = 2;
+    list[starts] = 0;
+    list[starts + 1] = 1;
+    list[starts + 2] = 2;
+    list[lengths] = 1;
+    list[lengths + 1] = 1;
+    list[lengths + 2] = 1;
     list
 }
 
@@ -79,6 +97,10 @@ pub fn held_hashes() -> [u64; 78] {
     list
 }
 
+pub fn held_text() -> [u8; 6] {
+    *b"aba..."
+}
+
 pub fn overwrite(numbers: &mut [u32], garbage: Garbage) {
     let place = garbage.place;
     if place < numbers.len() {
@@ -88,7 +110,7 @@ pub fn overwrite(numbers: &mut [u32], garbage: Garbage) {
 
 pub fn none() -> Garbage {
     Garbage {
-        place: 144,
+        place: 152,
         value: 0,
     }
 }
@@ -107,7 +129,7 @@ pub fn params(
     }
 }
 
-// The example, not built, with a leaf size and a capacity of nodes, holding some of its vectors and entries.
+// The example, not built, with a leaf size and a capacity of nodes, holding some of its vectors and entries; a label is one byte.
 pub fn example(leaf_size: usize, room: usize, vectors: usize, entries: usize) -> CuratorIndex {
     CuratorIndex {
         dimension: 2,
@@ -116,11 +138,13 @@ pub fn example(leaf_size: usize, room: usize, vectors: usize, entries: usize) ->
             vectors: 4,
             entries: 4,
             nodes: room,
+            text: 4,
         },
         counts: Counts {
             vectors,
             entries,
             nodes: 0,
+            bytes: entries,
         },
         built: false,
     }

@@ -7,27 +7,27 @@ use crate::fixture::none;
 fn lengths(floats: usize, numbers: usize, hashes: usize, work: usize) {
     try_build(
         example(1, 5, 3, 3),
-        lists(floats, numbers, hashes, work),
+        lists(floats, numbers, hashes, 4, work),
         none(),
         false,
     );
 }
 
-// Row 3: 22 floats, 51 numbers, 24 hashes and 27 places of work are just enough. Before 12 and before the success of a built index.
+// Row 3: 22 floats, 59 numbers, 24 hashes, 4 bytes of label text and 27 places of work are just enough. Before 12 and before the success of a built index.
 pub fn list_lengths() {
-    lengths(21, 51, 24, 27);
-    lengths(22, 50, 24, 27);
-    lengths(22, 51, 23, 27);
-    lengths(22, 51, 24, 26);
-    lengths(22, 51, 24, 27);
-    lengths(23, 51, 24, 27);
-    lengths(22, 52, 24, 27);
-    lengths(22, 51, 25, 27);
-    lengths(22, 51, 24, 28);
-    try_build(example(1, 5, 0, 0), lists(22, 51, 24, 26), none(), false);
+    lengths(21, 59, 24, 27);
+    lengths(22, 58, 24, 27);
+    lengths(22, 59, 23, 27);
+    lengths(22, 59, 24, 26);
+    lengths(22, 59, 24, 27);
+    lengths(23, 59, 24, 27);
+    lengths(22, 60, 24, 27);
+    lengths(22, 59, 25, 27);
+    lengths(22, 59, 24, 28);
+    try_build(example(1, 5, 0, 0), lists(22, 59, 24, 4, 26), none(), false);
     let mut built = example(1, 5, 3, 3);
     built.counts.nodes = 5;
     built.built = true;
-    try_build(built, lists(22, 51, 24, 26), none(), false);
-    try_build(built, lists(22, 51, 24, 27), none(), false);
+    try_build(built, lists(22, 59, 24, 4, 26), none(), false);
+    try_build(built, lists(22, 59, 24, 4, 27), none(), false);
 }

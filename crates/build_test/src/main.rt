@@ -1,10 +1,10 @@
-// Every refusal of `build` below, at and above its boundary, and what all four lists hold after each call. The lists are lent with places to spare and
-// hold marks (900, as a float 9.0) wherever nothing is held.
+// The refusals of `build` below, at and above their boundaries, those of label text apart, and what the four lists that it writes hold after each call. The
+// lists are lent with places to spare and hold marks (900, as a float 9.0, as a byte a dot) wherever nothing is held.
 //
-// The store is that of document 01's worked example: D 2, B 2, V 4, E 4; the vectors (1, 0), (0, 1) and (3, 4) normalised, documents 7, 8 and 9, labels
-// `a`, `b`, `a`. With leaf size 1 its tree has five nodes; with leaf size 2 the root and two leaves; with 3 the root alone. One vector and leaf size 0
-// give 17 nodes. A line has the number that is returned; of an accepted build 0, the counts of vectors, entries and nodes, and whether it is built; then
-// `kept` where every place that 01 does not name as free or written is as it was, and otherwise `changed`.
+// The store is that of document 01's worked example: D 2, B 2, V 4, E 4, with room for 4 bytes of label text; the vectors (1, 0), (0, 1) and (3, 4)
+// normalised, documents 7, 8 and 9, labels `a`, `b`, `a`. With leaf size 1 its tree has five nodes; with leaf size 2 the root and two leaves; with 3 the root
+// alone. One vector and leaf size 0 give 17 nodes. A line has the number that is returned; of an accepted build 0, the counts of vectors, entries and nodes,
+// and whether it is built; then `kept` where every place that 01 does not name as free or written is as it was, and otherwise `changed`.
 //
 // The expected lines are reasoned from 01: sizes and limits from 'The store', numbers and their order from 'Refusals and what they leave', what is
 // written from 'Clusters', 'Tree', 'Entries' and 'Filter' by hand. The hashes of `a` and `b` are published FNV-1a values.
@@ -19,6 +19,7 @@ use fixture::example;
 use fixture::held_floats;
 use fixture::held_hashes;
 use fixture::held_numbers;
+use fixture::held_text;
 use fixture::none;
 use fixture::sizes;
 use lengths::list_lengths;
@@ -46,10 +47,19 @@ fn empty() {
 // Built, and built again over the lists that the first build left.
 fn again(index: CuratorIndex) {
     let mut floats = held_floats();
-    let mut numbers = held_numbers();
+    let mut numbers = held_numbers(index.capacities.nodes);
     let mut hashes = held_hashes();
+    let held = held_text();
+    let text: &[u8] = &held;
     let mut work = [900u32; 68];
-    let made = build::build(index, &mut floats, &mut numbers, &mut hashes, &mut work);
+    let made = build::build(
+        index,
+        &mut floats,
+        &mut numbers,
+        &mut hashes,
+        text,
+        &mut work,
+    );
     let Changed::Index(built) = made else {
         return;
     };
@@ -57,7 +67,14 @@ fn again(index: CuratorIndex) {
     let numbers_left = numbers;
     let hashes_left = hashes;
     let work_left = work;
-    let answer = build::build(built, &mut floats, &mut numbers, &mut hashes, &mut work);
+    let answer = build::build(
+        built,
+        &mut floats,
+        &mut numbers,
+        &mut hashes,
+        text,
+        &mut work,
+    );
     print_answer(answer);
     print_kept(
         same_floats(&floats, &floats_left, 0, 0)

@@ -27,6 +27,7 @@ fn capacity(vectors: usize, entries: usize, nodes: usize) {
         vectors,
         entries,
         nodes,
+        text: 4,
     };
     index.capacities = capacities;
     plain(index);
@@ -38,6 +39,7 @@ fn count(vectors: usize, entries: usize, nodes: usize, built: bool) {
         vectors,
         entries,
         nodes,
+        bytes: 3,
     };
     index.counts = counts;
     index.built = built;
@@ -78,5 +80,5 @@ pub fn states() {
     count(3, 3, 0, true);
     count(0, 0, 1, true);
     count(1, 1, 1, true);
-    try_build(example(1, 5, 5, 3), lists(0, 0, 0, 0), none(), false);
+    try_build(example(1, 5, 5, 3), lists(0, 0, 0, 0, 0), none(), false);
 }

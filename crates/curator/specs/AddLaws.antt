@@ -33,7 +33,7 @@ pub record Accepted (index : CuratorIndex) (store : Store) (call : AddCall) : Ty
 
 accepted-of : (index : CuratorIndex) (store : Store) (call : AddCall) → NoneHolds (rowsOfAdd index store call) → Accepted index store call
 unfolding addRows
-accepted-of index store call (sound, (short, (built, (dimension, (finite, (labels, (full, (entries, _)))))))) =
+accepted-of index store call (sound, (short, (built, (dimension, (finite, (labels, (full, (entries, (text, _))))))))) =
     let s = sound-facts index (not-false _ sound) in
     let below = eqb-false (index .counts .vectors) (index .capacities .vectors) full in
     record {
@@ -48,6 +48,7 @@ accepted-of index store call (sound, (short, (built, (dimension, (finite, (label
             labels = not-false _ labels;
             vectors = omega arith;
             entries = ltb-false _ _ entries;
+            text = ltb-false _ _ text;
           };
     }
 
@@ -63,11 +64,11 @@ adds-by index store call answer store′ check e h = subst (λ (k : Check). Adds
 
 pub adds-accepted : (index : CuratorIndex) (store : Store) (call : AddCall) (index′ : CuratorIndex) (store′ : Store)
     → Adds index store call (Changed′.Index index′) store′
-    → (addCheck index store call ≡ Fine) × (index′ ≡ grown index (length (call .names))) × Wrote index store call store′
+    → (addCheck index store call ≡ Fine) × (index′ ≡ grown index (call .names)) × Wrote index store call store′
 unfolding Adds AddsBy
 adds-accepted index store call index′ store′ h = by (addCheck index store call) refl h
   where
     by : (check : Check) → addCheck index store call ≡ check → AddsBy check index store call (Changed′.Index index′) store′
-        → (addCheck index store call ≡ Fine) × (index′ ≡ grown index (length (call .names))) × Wrote index store call store′
-    by Fine e (a, w) = let same = carried-is (grown index (length (call .names))) (Changed′.Index index′) a in (e, (cc), w)
+        → (addCheck index store call ≡ Fine) × (index′ ≡ grown index (call .names)) × Wrote index store call store′
+    by Fine e (a, w) = let same = carried-is (grown index (call .names)) (Changed′.Index index′) a in (e, (cc), w)
     by (Refused r) e (a, w) = let same = refused-is r (Changed′.Index index′) a in let z : _≡_ {A = ℕ} 0 1 = cc in absurd (omega arith)

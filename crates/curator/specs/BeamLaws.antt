@@ -114,8 +114,8 @@ adds-beam beam index store call answer store′ h g adds =
     by : (check : Check) → AddsBy check index store call answer store′
         → AddsBy check (withBeam beam index) store call (answerWithBeam beam answer) store′
     by Fine (e, w) = (
-      is-carried _ _ (ap (answerWithBeam beam) (carried-is (grown index (length (call .names))) answer e)),
-      record { stored = w .stored; normalized = w .normalized; floats = w .floats; numbers = w .numbers; hashes = w .hashes },
+      is-carried _ _ (ap (answerWithBeam beam) (carried-is (grown index (call .names)) answer e)),
+      record { stored = w .stored; normalized = w .normalized; floats = w .floats; numbers = w .numbers; hashes = w .hashes; text = w .text },
     )
     by (Refused r) (e, same) = (is-refused r _ (ap (answerWithBeam beam) (refused-is r answer e)), same)
 
@@ -159,6 +159,7 @@ builds-beam beam index store work answer store′ work′ h g builds =
         floats = w .floats ∙ ap (λ (n : List Node). floatsOf (indexShape index) n (w .centres) (store .floats)) (sym nodes);
         numbers = w .numbers ∙ ap (λ (n : List Node). numbersOf (indexShape index) n (store .numbers)) (sym nodes);
         hashes = w .hashes ∙ ap (λ (n : List Node). hashesOf (indexShape index) n (store .hashes)) (sym nodes);
+        text = w .text;
         work = w .work;
       },
     )
@@ -167,7 +168,7 @@ builds-beam beam index store work answer store′ work′ h g builds =
         → BuildsBy check (withBeam beam index) store work (answerWithBeam beam answer) store′ work′
     by Fine w = fine (index .built) w
     by (Refused r) (e, l) =
-        (is-refused r _ (ap (answerWithBeam beam) (refused-is r answer e)), record { floats = l .floats; numbers = l .numbers; hashes = l .hashes; work = l .work })
+        (is-refused r _ (ap (answerWithBeam beam) (refused-is r answer e)), record { floats = l .floats; numbers = l .numbers; hashes = l .hashes; text = l .text; work = l .work })
 
 -- ---- search
 

@@ -1,12 +1,15 @@
--- What a call is about: the facts of the state that its rows look at, what the store holds, and the entries of a taking back.
-use Prim.Native.Nat.{ℕ, _+_, _-_}
-use mathlib.Core.Bool.{true, false}
+-- What a call is about: the facts of the state that its rows look at, what the store holds, the entries of a taking back, and the state afterwards.
+use Prim.Native.Nat.{ℕ, zero, suc, _+_, _-_, min}
+use mathlib.Core.Bool.{Bool, true, false}
 use mathlib.Core.List.{List}
 use mathlib.Core.Path.{_≡_}
 use lib.Ieee.{Float}
+use lib.ListN.{length}
 use Rattle.lists.specs.Lists.{part}
 use Rattle.lists.specs.Suffix.{countAtEnd}
-use Rattle.store.specs.Store.{Store, ownersAt}
+use Rattle.store.specs.declared.Counts.{Counts}
+use Rattle.store.specs.Store.{Store, ownersAt, startsAt, lengthsAt, entryStart}
+use Rattle.label.specs.Names.{bytesOfNames}
 use Rattle.cluster.specs.Vectors.{vectorsIn}
 use Rattle.tree.specs.Tree.{Splitting}
 use Rattle.tree.specs.Nodes.{Entries}
@@ -18,7 +21,13 @@ use Rattle.curator.specs.Rows.{Facts}
 
 abbrev pub factsOf : CuratorIndex → Facts
 factsOf index =
-    record { shape = indexShape index; vectors = index .counts .vectors; entries = index .counts .entries; built = index .built }
+    record {
+      shape = indexShape index;
+      vectors = index .counts .vectors;
+      entries = index .counts .entries;
+      bytes = index .counts .bytes;
+      built = index .built;
+    }
 
 -- the vectors, their document ids, and the entries, that a store holds
 unfoldable pub heldVectors : CuratorIndex → Store → List (List Float)
@@ -35,16 +44,40 @@ heldEntries index store =
       hashes = part 0 (index .counts .entries) (store .hashes);
     }
 
+-- the entries' starts and lengths, and the bytes
+unfoldable pub heldStarts : CuratorIndex → Store → List ℕ
+heldStarts index store = part (startsAt (indexShape index)) (index .counts .entries) (store .numbers)
+
+unfoldable pub heldLengths : CuratorIndex → Store → List ℕ
+heldLengths index store = part (lengthsAt (indexShape index)) (index .counts .entries) (store .numbers)
+
+unfoldable pub heldText : CuratorIndex → Store → List ℕ
+heldText index store = part 0 (index .counts .bytes) (store .text)
+
 -- two stores that agree on what an index holds
 pub record SameOfIndex (index : CuratorIndex) (s t : Store) : Type 0 where
   pub vectors : heldVectors index s ≡ heldVectors index t
   pub documents : heldDocuments index s ≡ heldDocuments index t
   pub entries : heldEntries index s ≡ heldEntries index t
+  pub starts : heldStarts index s ≡ heldStarts index t
+  pub lengths : heldLengths index s ≡ heldLengths index t
+  pub text : heldText index s ≡ heldText index t
 
 -- 02, K3: 'The entries taken back are those at the end whose owner is the last vector.' How many they are, for any owners
 unfoldable pub lastEntries : CuratorIndex → Store → ℕ
 unfolding countAtEnd heldEntries
 lastEntries index store = countAtEnd (index .counts .vectors - 1) (heldEntries index store .owners)
+
+-- 02, K4: 'Taking back lowers the bytes held to its first entry's start, if that is lower.' With no entry taken back they stay.
+abbrev pub lowered : ℕ → ℕ → ℕ → ℕ
+lowered zero start held = held
+lowered (suc taken) start held = min start held
+
+unfoldable pub bytesLeft : CuratorIndex → Store → ℕ
+unfolding lastEntries
+bytesLeft index store =
+    let taken = lastEntries index store in
+    lowered taken (entryStart (indexShape index) (store .numbers) (index .counts .entries - taken)) (index .counts .bytes)
 
 abbrev pub splittingOf : ℕ → CuratorParams → Splitting
 splittingOf dimension p = record { dimension = dimension; branching = p .«branching_factor»; leaf-size = p .«max_leaf_size» }
@@ -56,39 +89,33 @@ fresh dimension params capacities =
       dimension = dimension;
       params = params;
       capacities = capacities;
-      counts = record { vectors = 0; entries = 0; nodes = 0 };
+      counts = record { vectors = 0; entries = 0; nodes = 0; bytes = 0 };
       built = false;
     }
 
--- the state after an accepted add with a number of labels
-abbrev pub grown : CuratorIndex → ℕ → CuratorIndex
-grown index labels =
-    record {
-      dimension = index .dimension;
-      params = index .params;
-      capacities = index .capacities;
-      counts = record { vectors = index .counts .vectors + 1; entries = index .counts .entries + labels; nodes = index .counts .nodes };
-      built = index .built;
-    }
+-- the state with other counts, built or not
+abbrev pub withCounts : CuratorIndex → Counts → Bool → CuratorIndex
+withCounts index counts built =
+    record { dimension = index .dimension; params = index .params; capacities = index .capacities; counts = counts; built = built }
 
--- the state after an accepted taking back of a vector with a number of entries
-abbrev pub shrunk : CuratorIndex → ℕ → CuratorIndex
-shrunk index entries =
-    record {
-      dimension = index .dimension;
-      params = index .params;
-      capacities = index .capacities;
-      counts = record { vectors = index .counts .vectors - 1; entries = index .counts .entries - entries; nodes = index .counts .nodes };
-      built = index .built;
-    }
+-- a vector more, with so many labels of so many bytes
+abbrev pub countsMore : Counts → ℕ → ℕ → Counts
+countsMore c labels bytes =
+    record { vectors = c .vectors + 1; entries = c .entries + labels; nodes = c .nodes; bytes = c .bytes + bytes }
+
+-- the state after an accepted add with labels of these names
+abbrev pub grown : CuratorIndex → List (List ℕ) → CuratorIndex
+grown index names = withCounts index (countsMore (index .counts) (length names) (length (bytesOfNames names))) (index .built)
+
+-- a vector less, with so many entries; so many bytes are left
+abbrev pub countsLess : Counts → ℕ → ℕ → Counts
+countsLess c entries bytes = record { vectors = c .vectors - 1; entries = c .entries - entries; nodes = c .nodes; bytes = bytes }
+
+-- the state after an accepted taking back
+abbrev pub shrunk : CuratorIndex → Store → CuratorIndex
+shrunk index store = withCounts index (countsLess (index .counts) (lastEntries index store) (bytesLeft index store)) (index .built)
 
 -- the state after an accepted build with a number of nodes
 abbrev pub builtWith : CuratorIndex → ℕ → CuratorIndex
 builtWith index nodes =
-    record {
-      dimension = index .dimension;
-      params = index .params;
-      capacities = index .capacities;
-      counts = record { vectors = index .counts .vectors; entries = index .counts .entries; nodes = nodes };
-      built = true;
-    }
+    withCounts index (record { vectors = index .counts .vectors; entries = index .counts .entries; nodes = nodes; bytes = index .counts .bytes }) true

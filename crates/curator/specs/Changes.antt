@@ -9,7 +9,8 @@ use lib.ListN.{length, set, replicate}
 use lib.Seq.{sets}
 use Rattle.vector.specs.Vector.{dot, Normalized}
 use Rattle.store.specs.declared.Shape.{Shape}
-use Rattle.store.specs.Store.{Store, ownersAt, centresPart, workPart, centroidsPart, orderPart, nodesPart, linksPart, entryOrderPart, filtersPart}
+use Rattle.store.specs.declared.Counts.{Counts}
+use Rattle.store.specs.Store.{Store, ownersAt, startsAt, lengthsAt, centresPart, workPart, centroidsPart, orderPart, nodesPart, linksPart, entryOrderPart, filtersPart}
 use Rattle.tree.specs.Tree.{treeOf, size}
 use Rattle.tree.specs.Nodes.{Node, nodesOf}
 use Rattle.tree.specs.Layout.{numbersOf, hashesOf, floatsOf}
@@ -25,14 +26,14 @@ use Rattle.curator.specs.declared.Changed.the-variants as Changed′
 use Rattle.settings.specs.declared.refusal.Refusal.{Refusal}
 use Rattle.settings.specs.declared.refusal.Refusal.the-variants as Refusal′
 use Rattle.settings.specs.declared.refusal.StoreRefusal.{StoreRefusal}
-use Rattle.settings.specs.declared.refusal.StoreRefusal.the-variants.{ListTooShort, VectorsFull, EntriesFull, NodesFull, Damaged}
+use Rattle.settings.specs.declared.refusal.StoreRefusal.the-variants.{ListTooShort, VectorsFull, EntriesFull, NodesFull, Damaged, TextFull}
 use Rattle.curator.specs.Outcome.{Succeeded, ChangeRefused}
 use Rattle.curator.specs.Limits.{stateSound, indexShape}
 use Rattle.store.specs.Lent.{lengthsOf}
 use Rattle.curator.specs.Arguments.{AddCall}
 use Rattle.curator.specs.Rows.{firstOf, stateRow, newRows, addRows, takeBackRows, buildRows}
-use Rattle.label.specs.Names.{hashesOfLabels}
-use Rattle.curator.specs.Calls.{factsOf, heldVectors, heldEntries, lastEntries, splittingOf, fresh, grown, shrunk, builtWith}
+use Rattle.label.specs.Names.{hashesOfLabels, startsFrom, lengthsOfNames, bytesOfNames}
+use Rattle.curator.specs.Calls.{factsOf, heldVectors, heldEntries, lastEntries, bytesLeft, splittingOf, fresh, grown, shrunk, builtWith}
 
 -- ---- free parts
 
@@ -57,6 +58,7 @@ freeStore s NodesFull =
       work = workPart s ∷ [];
     }
 freeStore s Damaged = record { floats = []; numbers = []; hashes = []; work = workPart s ∷ [] }
+freeStore s TextFull = record { floats = []; numbers = []; hashes = []; work = [] }
 
 unfoldable pub freeOf : Shape → Refusal → Free
 unfolding freeStore
@@ -70,6 +72,7 @@ pub record Left (s : Shape) (r : Refusal) (store : Store) (lent : List ℕ) (sto
   pub floats : Freed (freeOf s r .floats) (store .floats) (store′ .floats)
   pub numbers : Freed (freeOf s r .numbers) (store .numbers) (store′ .numbers)
   pub hashes : Freed (freeOf s r .hashes) (store .hashes) (store′ .hashes)
+  pub text : store′ .text ≡ store .text
   pub work : Freed (freeOf s r .work) lent lent′
 
 -- ---- new
@@ -99,20 +102,29 @@ unfolding firstOf stateSound addRows
 addCheck index store call =
     firstOf (stateRow (stateSound index) ∷ addRows (factsOf index) (lengthsOf store) call)
 
--- an accepted add writes the normalised vector, the document id, and one owner and hash for each label, after those held; nothing else
+-- the numbers with start and length of each label after those held
+unfoldable pub withLabels : Shape → Counts → List (List ℕ) → List ℕ → List ℕ
+unfolding startsFrom lengthsOfNames
+withLabels s held names numbers =
+    sets (sets numbers (startsAt s + held .entries) (startsFrom (held .bytes) names)) (lengthsAt s + held .entries) (lengthsOfNames names)
+
+-- An accepted add writes the normalised vector, the document id, and one owner and hash for each label, after those held; its start and length, and its
+-- bytes after the bytes held (02, K4); nothing else
 pub record Wrote (index : CuratorIndex) (store : Store) (call : AddCall) (store′ : Store) : Type 0 where
   pub stored : List Float
   pub normalized : Normalized (dot (call .vector) (call .vector)) (call .vector) stored
   pub floats : store′ .floats ≡ sets (store .floats) (index .counts .vectors * index .dimension) stored
   pub numbers :
       store′ .numbers
-      ≡ sets (set (store .numbers) (index .counts .vectors) (call .document)) (ownersAt (indexShape index) + index .counts .entries)
-      (replicate (length (call .names)) (index .counts .vectors))
+      ≡ withLabels (indexShape index) (index .counts) (call .names)
+      (sets (set (store .numbers) (index .counts .vectors) (call .document)) (ownersAt (indexShape index) + index .counts .entries)
+      (replicate (length (call .names)) (index .counts .vectors)))
   pub hashes : store′ .hashes ≡ sets (store .hashes) (index .counts .entries) (hashesOfLabels (call .names))
+  pub text : store′ .text ≡ sets (store .text) (index .counts .bytes) (bytesOfNames (call .names))
 
 unfoldable pub AddsBy : Check → CuratorIndex → Store → AddCall → Changed → Store → Type 0
 AddsBy Check′.Fine index store call answer store′ =
-    Succeeded (grown index (length (call .names))) answer × Wrote index store call store′
+    Succeeded (grown index (call .names)) answer × Wrote index store call store′
 AddsBy (Check′.Refused r) index store call answer store′ = ChangeRefused r answer × (store′ ≡ store)
 
 -- the whole result of an add: state, store and call at entry; answer and store at exit
@@ -126,10 +138,10 @@ unfoldable pub takeBackCheck : CuratorIndex → Store → Check
 unfolding firstOf stateSound takeBackRows
 takeBackCheck index store = firstOf (stateRow (stateSound index) ∷ takeBackRows (factsOf index) (lengthsOf store))
 
--- 02, K3: 'the last accepted add can be taken back': the state has one vector less, and its entries at the end less
+-- 02, K3: 'the last accepted add can be taken back': the state has one vector less, and its entries at the end less; the bytes held are lowered (K4)
 unfoldable pub TakesBackBy : Check → CuratorIndex → Store → Changed → Type 0
-unfolding lastEntries
-TakesBackBy Check′.Fine index store answer = Succeeded (shrunk index (lastEntries index store)) answer
+unfolding lastEntries bytesLeft
+TakesBackBy Check′.Fine index store answer = Succeeded (shrunk index store) answer
 TakesBackBy (Check′.Refused r) index store answer = ChangeRefused r answer
 
 -- The whole result of a taking back: state and store, and the answer. The store is lent to be read: 'places past the counts keep their numbers', and so
@@ -169,6 +181,7 @@ pub record LaidOut (index : CuratorIndex) (store : Store) (lent : List ℕ) (sto
   pub floats : store′ .floats ≡ floatsOf (indexShape index) (heldNodes index store) centres (store .floats)
   pub numbers : store′ .numbers ≡ numbersOf (indexShape index) (heldNodes index store) (store .numbers)
   pub hashes : store′ .hashes ≡ hashesOf (indexShape index) (heldNodes index store) (store .hashes)
+  pub text : store′ .text ≡ store .text
   pub work : Freed (workPart (indexShape index) ∷ []) lent lent′
 
 unfoldable pub BuildsFine : Bool → CuratorIndex → Store → List ℕ → Changed → Store → List ℕ → Type 0

@@ -11,8 +11,8 @@ use lib.Seq.{sets, length-sets, take-suc-set, take-set-le}
 use Rattle.vector.specs.Normalized.{normalized, normalized-is, normalized-holds}
 use Rattle.lists.specs.Counting.{countFrom-snoc}
 use Rattle.lists.specs.Lists.{part, countFrom}
-use Rattle.lists.specs.Parts.{part-append-parts, part-set-before, part-sets-before, part-sets-same}
-use Rattle.store.specs.Store.{Store, vectorAt, ownersAt}
+use Rattle.lists.specs.Parts.{part-append-parts, part-set-before, part-sets-before, part-sets-after, part-sets-same, part-sets-grown}
+use Rattle.store.specs.Store.{Store, vectorAt, ownersAt, startsAt, lengthsAt}
 use Rattle.tree.specs.Nodes.{Entries}
 use Rattle.curator.specs.declared.Changed.{Changed}
 use Rattle.curator.specs.declared.Changed.the-variants as Changed′
@@ -20,10 +20,11 @@ use Rattle.settings.specs.declared.Check.{Check}
 use Rattle.settings.specs.declared.Check.the-variants.{Fine, Refused}
 use Rattle.curator.specs.declared.CuratorIndex.{CuratorIndex}
 use Rattle.curator.specs.AddLaws.{add-facts}
-use Rattle.label.specs.Names.{hashesOfLabels}
-use Rattle.curator.specs.Calls.{factsOf, heldVectors, heldDocuments, heldEntries, SameOfIndex, grown}
+use Rattle.label.specs.Names.{hashesOfLabels, startsFrom, lengthsOfNames, bytesOfNames}
+use Rattle.label.specs.TextLaws.{length-starts, length-lengths}
+use Rattle.curator.specs.Calls.{factsOf, heldVectors, heldDocuments, heldEntries, heldStarts, heldLengths, heldText, SameOfIndex, grown}
 use Rattle.store.specs.Lent.{lengthsOf}
-use Rattle.curator.specs.Changes.{addCheck, Wrote, AddsBy, Adds}
+use Rattle.curator.specs.Changes.{addCheck, withLabels, Wrote, AddsBy, Adds}
 use Rattle.curator.specs.Arguments.{AddCall}
 use Rattle.label.specs.NameLaws.{length-hashesOfLabels}
 use Rattle.curator.specs.Lent.{AddRoom}
@@ -70,8 +71,48 @@ part-grows l s m xs h =
 
 -- ---- an accepted add grows what is held by its line
 
+-- starts and lengths stand behind all other numbers
+pub labels-behind : (index : CuratorIndex) (call : AddCall) (numbers : List ℕ) (at count : ℕ) → at + count ≤ startsAt (indexShape index)
+    → part at count (withLabels (indexShape index) (index .counts) (call .names) numbers) ≡ part at count numbers
+unfolding withLabels
+labels-behind index call numbers at count h =
+    let e = index .counts .entries in
+    let starts = startsFrom (index .counts .bytes) (call .names) in
+    part-sets-before at count (sets numbers (startsAt (indexShape index) + e) starts) (lengthsAt (indexShape index) + e) (lengthsOfNames (call .names)) (omega arith)
+    ∙ part-sets-before at count numbers (startsAt (indexShape index) + e) starts (omega arith)
+
+pub length-labels : (index : CuratorIndex) (call : AddCall) (numbers : List ℕ) → length (withLabels (indexShape index) (index .counts) (call .names) numbers) ≡ length numbers
+unfolding withLabels
+length-labels index call numbers =
+    let e = index .counts .entries in
+    let starts = startsFrom (index .counts .bytes) (call .names) in
+    length-sets (sets numbers (startsAt (indexShape index) + e) starts) (lengthsAt (indexShape index) + e) (lengthsOfNames (call .names))
+    ∙ length-sets numbers (startsAt (indexShape index) + e) starts
+
 module _ (index : CuratorIndex) (store : Store) (call : AddCall) (store′ : Store) (room : AddRoom index store call)
     (wrote : Wrote index store call store′) where
+  -- the numbers with the document id and the owners
+  abbrev pub owned : List ℕ
+  owned =
+      sets (set (store .numbers) (index .counts .vectors) (call .document)) (ownersAt (indexShape index) + index .counts .entries)
+      (replicate (length (call .names)) (index .counts .vectors))
+
+  pub length-owned : length owned ≡ length (store .numbers)
+  length-owned =
+      length-sets (set (store .numbers) (index .counts .vectors) (call .document)) (ownersAt (indexShape index) + index .counts .entries)
+      (replicate (length (call .names)) (index .counts .vectors))
+      ∙ length-set (store .numbers) (index .counts .vectors) (call .document)
+
+  -- behind the owners nothing of them was written
+  pub behind-owners : (at count : ℕ) → ownersAt (indexShape index) + index .capacities .entries ≤ at → part at count owned ≡ part at count (store .numbers)
+  behind-owners at count h =
+      let n = index .counts .vectors in
+      let k = length (call .names) in
+      let many : length (replicate (length (call .names)) (index .counts .vectors)) ≡ length (call .names) = length-replicate (length (call .names)) n in
+      part-sets-after at count (set (store .numbers) n (call .document)) (ownersAt (indexShape index) + index .counts .entries) (replicate k n)
+      (omega (arith, many, h, room .entries))
+      ∙ part-set-before at count (store .numbers) n (call .document) (omega (arith, h, room .vectors))
+
   vectors-fit : index .counts .vectors * index .dimension + index .dimension ≤ length (store .floats)
   vectors-fit =
       let h = room .vectors in
@@ -80,7 +121,7 @@ module _ (index : CuratorIndex) (store : Store) (call : AddCall) (store′ : Sto
       omega (arith, room .long .floats, mul-comm parts (index .dimension))
 
   pub vectors-grown :
-      heldVectors (grown index (length (call .names))) store′ ≡ heldVectors index store ++ (wrote .stored ∷ [])
+      heldVectors (grown index (call .names)) store′ ≡ heldVectors index store ++ (wrote .stored ∷ [])
   unfolding heldVectors
   vectors-grown =
       ap (λ (l : List Float). map (vectorAt (index .dimension) l) (countFrom 0 (index .counts .vectors + 1))) (wrote .floats)
@@ -89,12 +130,13 @@ module _ (index : CuratorIndex) (store : Store) (call : AddCall) (store′ : Sto
       vectors-fit
 
   pub documents-grown :
-      heldDocuments (grown index (length (call .names))) store′ ≡ heldDocuments index store ++ (call .document ∷ [])
+      heldDocuments (grown index (call .names)) store′ ≡ heldDocuments index store ++ (call .document ∷ [])
   unfolding heldDocuments
   documents-grown =
       let h = room .vectors in
       let fits : index .counts .vectors < length (store .numbers) = omega (arith, room .long .numbers) in
       ap (part 0 (index .counts .vectors + 1)) (wrote .numbers)
+      ∙ labels-behind index call owned 0 (index .counts .vectors + 1) (omega arith)
       ∙ part-sets-before 0 (index .counts .vectors + 1) (set (store .numbers) (index .counts .vectors) (call .document))
       (ownersAt (indexShape index) + index .counts .entries)
       (replicate (length (call .names)) (index .counts .vectors))
@@ -103,7 +145,7 @@ module _ (index : CuratorIndex) (store : Store) (call : AddCall) (store′ : Sto
       ∙ take-suc-set (store .numbers) (index .counts .vectors) (call .document) fits
 
   pub owners-grown :
-      heldEntries (grown index (length (call .names))) store′ .owners
+      heldEntries (grown index (call .names)) store′ .owners
       ≡ heldEntries index store .owners ++ replicate (length (call .names)) (index .counts .vectors)
   unfolding heldEntries
   owners-grown =
@@ -114,12 +156,13 @@ module _ (index : CuratorIndex) (store : Store) (call : AddCall) (store′ : Sto
       let start = ownersAt (indexShape index) in
       let fits : start + index .counts .entries + length owners ≤ length numbers = omega (arith, room .long .numbers, room .entries) in
       ap₂ (λ (k : ℕ) (l : List ℕ). part (ownersAt (indexShape index)) (index .counts .entries + k) l) (sym many) (wrote .numbers)
+      ∙ labels-behind index call owned start (index .counts .entries + length owners) (omega (arith, many, room .entries))
       ∙ part-grows numbers (ownersAt (indexShape index)) (index .counts .entries) owners fits
       ∙ ap (λ (l : List ℕ). l ++ owners)
       (part-set-before start (index .counts .entries) (store .numbers) (index .counts .vectors) (call .document) (room .vectors))
 
   pub hashes-grown :
-      heldEntries (grown index (length (call .names))) store′ .hashes
+      heldEntries (grown index (call .names)) store′ .hashes
       ≡ heldEntries index store .hashes ++ hashesOfLabels (call .names)
   unfolding heldEntries
   hashes-grown =
@@ -131,14 +174,78 @@ module _ (index : CuratorIndex) (store : Store) (call : AddCall) (store′ : Sto
       ∙ part-grows (store .hashes) 0 (index .counts .entries) hashes fits
 
   pub entries-grown :
-      heldEntries (grown index (length (call .names))) store′
+      heldEntries (grown index (call .names)) store′
       ≡ record {
         owners = heldEntries index store .owners ++ replicate (length (call .names)) (index .counts .vectors);
         hashes = heldEntries index store .hashes ++ hashesOfLabels (call .names);
       }
   entries-grown = λ i. record { owners = owners-grown i; hashes = hashes-grown i }
 
+  pub starts-grown : heldStarts (grown index (call .names)) store′ ≡ heldStarts index store ++ startsFrom (index .counts .bytes) (call .names)
+  unfolding heldStarts withLabels
+  starts-grown =
+      let e = index .counts .entries in
+      let k = length (call .names) in
+      let start = startsAt (indexShape index) in
+      let new = startsFrom (index .counts .bytes) (call .names) in
+      ap (part start (e + k)) (wrote .numbers)
+      ∙ part-sets-before start (e + k) (sets owned (start + e) new) (lengthsAt (indexShape index) + e) (lengthsOfNames (call .names)) (omega (arith, room .entries))
+      ∙ part-sets-grown start e owned new k (length-starts (index .counts .bytes) (call .names)) (omega (arith, length-owned, room .entries, room .long .numbers))
+      ∙ ap (λ (l : List ℕ). l ++ new) (behind-owners start e (omega arith))
+
+  pub lengths-grown : heldLengths (grown index (call .names)) store′ ≡ heldLengths index store ++ lengthsOfNames (call .names)
+  unfolding heldLengths withLabels
+  lengths-grown =
+      let e = index .counts .entries in
+      let k = length (call .names) in
+      let start = lengthsAt (indexShape index) in
+      let before = sets owned (startsAt (indexShape index) + index .counts .entries) (startsFrom (index .counts .bytes) (call .names)) in
+      let new = lengthsOfNames (call .names) in
+      let long = length-sets owned (startsAt (indexShape index) + index .counts .entries) (startsFrom (index .counts .bytes) (call .names)) in
+      ap (part start (e + k)) (wrote .numbers)
+      ∙ part-sets-grown start e before new k (length-lengths (call .names)) (omega (arith, long, length-owned, room .entries, room .long .numbers))
+      ∙ ap (λ (l : List ℕ). l ++ new)
+      (part-sets-after start e owned (startsAt (indexShape index) + e) (startsFrom (index .counts .bytes) (call .names))
+      (omega (arith, length-starts (index .counts .bytes) (call .names), room .entries))
+      ∙ behind-owners start e (omega arith))
+
+  pub text-grown : heldText (grown index (call .names)) store′ ≡ heldText index store ++ bytesOfNames (call .names)
+  unfolding heldText
+  text-grown =
+      let b = index .counts .bytes in
+      let new = bytesOfNames (call .names) in
+      ap (part 0 (b + length new)) (wrote .text ∙ ap (λ (k : ℕ). sets (store .text) k new) (sym (zero-add b)))
+      ∙ part-sets-grown 0 b (store .text) new (length new) refl (omega (arith, room .text, room .long .text))
+
   -- what was held before stays
+  starts-kept : heldStarts index store′ ≡ heldStarts index store
+  unfolding heldStarts withLabels
+  starts-kept =
+      let e = index .counts .entries in
+      let start = startsAt (indexShape index) in
+      let new = startsFrom (index .counts .bytes) (call .names) in
+      ap (part start e) (wrote .numbers)
+      ∙ part-sets-before start e (sets owned (start + e) new) (lengthsAt (indexShape index) + e) (lengthsOfNames (call .names)) (omega arith)
+      ∙ part-sets-before start e owned (start + e) new (let k : start + e ≤ start + e = omega arith in k)
+      ∙ behind-owners start e (omega arith)
+
+  lengths-kept : heldLengths index store′ ≡ heldLengths index store
+  unfolding heldLengths withLabels
+  lengths-kept =
+      let e = index .counts .entries in
+      let start = lengthsAt (indexShape index) in
+      let starts = startsFrom (index .counts .bytes) (call .names) in
+      ap (part start e) (wrote .numbers)
+      ∙ part-sets-before start e (sets owned (startsAt (indexShape index) + e) starts) (start + e) (lengthsOfNames (call .names)) (let k : start + e ≤ start + e = omega arith in k)
+      ∙ part-sets-after start e owned (startsAt (indexShape index) + e) starts (omega (arith, length-starts (index .counts .bytes) (call .names), room .entries))
+      ∙ behind-owners start e (omega arith)
+
+  text-kept : heldText index store′ ≡ heldText index store
+  unfolding heldText
+  text-kept =
+      ap (part 0 (index .counts .bytes)) (wrote .text)
+      ∙ part-sets-before 0 (index .counts .bytes) (store .text) (index .counts .bytes) (bytesOfNames (call .names)) (omega arith)
+
   pub held-kept : SameOfIndex index store′ store
   unfolding heldVectors heldDocuments heldEntries
   held-kept =
@@ -147,8 +254,9 @@ module _ (index : CuratorIndex) (store : Store) (call : AddCall) (store′ : Sto
       let start = ownersAt (indexShape index) in
       let owners = replicate (length (call .names)) n in
       let numbers = set (store .numbers) n (call .document) in
-      let owned : part start e (store′ .numbers) ≡ part start e (store .numbers) =
-      ap (part start e) (wrote .numbers) ∙ part-sets-before start e numbers (start + e) owners (let k : start + e ≤ start + e = omega arith in k)
+      let owners-kept : part start e (store′ .numbers) ≡ part start e (store .numbers) =
+      ap (part start e) (wrote .numbers) ∙ labels-behind index call owned start e (omega (arith, room .entries))
+      ∙ part-sets-before start e numbers (start + e) owners (let k : start + e ≤ start + e = omega arith in k)
       ∙ part-set-before start e (store .numbers) n (call .document) (room .vectors) in
       let hashed : part 0 e (store′ .hashes) ≡ part 0 e (store .hashes) =
       ap (part 0 e) (wrote .hashes) ∙ part-sets-before 0 e (store .hashes) e (hashesOfLabels (call .names)) (omega arith) in
@@ -157,9 +265,12 @@ module _ (index : CuratorIndex) (store : Store) (call : AddCall) (store′ : Sto
             ap (λ (l : List Float). map (vectorAt (index .dimension) l) (countFrom 0 n)) (wrote .floats)
             ∙ vectors-kept (index .dimension) n (store .floats) (wrote .stored);
         documents =
-            ap (part 0 n) (wrote .numbers) ∙ part-sets-before 0 n numbers (start + e) owners (omega (arith, room .vectors))
+            ap (part 0 n) (wrote .numbers) ∙ labels-behind index call owned 0 n (omega (arith, room .vectors)) ∙ part-sets-before 0 n numbers (start + e) owners (omega (arith, room .vectors))
             ∙ take-set-le n (store .numbers) n (call .document) (omega arith);
-        entries = λ i. record { owners = owned i; hashes = hashed i };
+        entries = λ i. record { owners = owners-kept i; hashes = hashed i };
+        starts = starts-kept;
+        lengths = lengths-kept;
+        text = text-kept;
       }
 
 -- the lists keep their lengths
@@ -170,22 +281,26 @@ wrote-lengths index store call store′ wrote =
     let at = ownersAt (indexShape index) + index .counts .entries in
     let f = sym (ap length (wrote .floats) ∙ length-sets (store .floats) (n * index .dimension) (wrote .stored)) in
     let o =
-    sym (ap length (wrote .numbers) ∙ length-sets one at (replicate (length (call .names)) n) ∙ length-set (store .numbers) n (call .document)) in
+    sym (ap length (wrote .numbers) ∙ length-labels index call (sets one at (replicate (length (call .names)) n)) ∙ length-sets one at (replicate (length (call .names)) n)
+    ∙ length-set (store .numbers) n (call .document)) in
     let h = sym (ap length (wrote .hashes) ∙ length-sets (store .hashes) (index .counts .entries) (hashesOfLabels (call .names))) in
-    λ i. record { floats = f i; numbers = o i; hashes = h i }
+    let t = sym (ap length (wrote .text) ∙ length-sets (store .text) (index .counts .bytes) (bytesOfNames (call .names))) in
+    λ i. record { floats = f i; numbers = o i; hashes = h i; text = t i }
 
 -- ---- the result of an add is a function of state, store and call
 
 -- the store that an accepted add leaves
 unfoldable pub added : CuratorIndex → Store → AddCall → Store
-unfolding normalized hashesOfLabels
+unfolding normalized hashesOfLabels withLabels bytesOfNames
 added index store call =
     record {
       floats = sets (store .floats) (index .counts .vectors * index .dimension) (normalized (call .vector));
       numbers =
-          sets (set (store .numbers) (index .counts .vectors) (call .document)) (ownersAt (indexShape index) + index .counts .entries)
-          (replicate (length (call .names)) (index .counts .vectors));
+          withLabels (indexShape index) (index .counts) (call .names)
+          (sets (set (store .numbers) (index .counts .vectors) (call .document)) (ownersAt (indexShape index) + index .counts .entries)
+          (replicate (length (call .names)) (index .counts .vectors)));
       hashes = sets (store .hashes) (index .counts .entries) (hashesOfLabels (call .names));
+      text = sets (store .text) (index .counts .bytes) (bytesOfNames (call .names));
     }
 
 pub stored-is : (index : CuratorIndex) (store : Store) (call : AddCall) (store′ : Store) (wrote : Wrote index store call store′)
@@ -199,7 +314,7 @@ wrote-added index store call store′ w =
     let floats =
     w .floats
     ∙ ap (λ (v : List Float). sets (store .floats) (index .counts .vectors * index .dimension) v) (stored-is index store call store′ w) in
-    λ i. record { floats = floats i; numbers = w .numbers i; hashes = w .hashes i }
+    λ i. record { floats = floats i; numbers = w .numbers i; hashes = w .hashes i; text = w .text i }
 
 pub added-wrote : (index : CuratorIndex) (store : Store) (call : AddCall) → Wrote index store call (added index store call)
 unfolding added
@@ -210,11 +325,12 @@ added-wrote index store call =
       floats = refl;
       numbers = refl;
       hashes = refl;
+      text = refl;
     }
 
 -- what an add answers, and the store that it leaves, by what its check comes to
 abbrev pub addedAnswer : Check → CuratorIndex → AddCall → Changed
-addedAnswer Fine index call = Changed′.Index (grown index (length (call .names)))
+addedAnswer Fine index call = Changed′.Index (grown index (call .names))
 addedAnswer (Refused r) index call = Changed′.Refused r
 
 abbrev pub addedStore : Check → CuratorIndex → Store → AddCall → Store
@@ -228,7 +344,7 @@ adds-is index store call answer store′ h = by (addCheck index store call) h
   where
     by : (check : Check) → AddsBy check index store call answer store′
         → (answer ≡ addedAnswer check index call) × (store′ ≡ addedStore check index store call)
-    by Fine (e, w) = (carried-is (grown index (length (call .names))) answer e, wrote-added index store call store′ w)
+    by Fine (e, w) = (carried-is (grown index (call .names)) answer e, wrote-added index store call store′ w)
     by (Refused r) (e, same) = (refused-is r answer e, same)
 
 -- every call has a result
@@ -238,7 +354,7 @@ unfolding Adds AddsBy
 adds-has index store call = by (addCheck index store call)
   where
     by : (check : Check) → AddsBy check index store call (addedAnswer check index call) (addedStore check index store call)
-    by Fine = (is-carried (grown index (length (call .names))) (addedAnswer Fine index call) refl, added-wrote index store call)
+    by Fine = (is-carried (grown index (call .names)) (addedAnswer Fine index call) refl, added-wrote index store call)
     by (Refused r) = (is-refused r (Changed′.Refused r) refl, refl)
 
 -- ---- 'Parts past the counts held are never read'
@@ -255,7 +371,7 @@ stateAfter index (Changed′.Index next) = next
 stateAfter index (Changed′.Refused r) = index
 
 grown-same : (index : CuratorIndex) (s t : Store) (call : AddCall) → SameOfIndex index s t → AddRoom index s call → AddRoom index t call
-    → SameOfIndex (grown index (length (call .names))) (added index s call) (added index t call)
+    → SameOfIndex (grown index (call .names)) (added index s call) (added index t call)
 grown-same index s t call h r q =
     let w = added-wrote index s call in
     let v = added-wrote index t call in
@@ -278,6 +394,12 @@ grown-same index s t call h r q =
           })
           (h .entries)
           ∙ sym (entries-grown index t call _ q v);
+      starts =
+          starts-grown index s call _ r w ∙ ap (λ (a : List ℕ). a ++ startsFrom (index .counts .bytes) (call .names)) (h .starts)
+          ∙ sym (starts-grown index t call _ q v);
+      lengths =
+          lengths-grown index s call _ r w ∙ ap (λ (a : List ℕ). a ++ lengthsOfNames (call .names)) (h .lengths) ∙ sym (lengths-grown index t call _ q v);
+      text = text-grown index s call _ r w ∙ ap (λ (a : List ℕ). a ++ bytesOfNames (call .names)) (h .text) ∙ sym (text-grown index t call _ q v);
     }
 
 -- stores that agree on what is held give the same answer, are written alike, and agree afterwards on what is held

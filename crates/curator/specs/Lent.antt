@@ -1,5 +1,5 @@
 -- The records of a call's contract, made of what the call is lent.
-use Prim.Native.Nat.{ℕ, _+_, _≤_, _<_}
+use Prim.Native.Nat.{ℕ, _+_, _/_, _≤_, _<_}
 use mathlib.Core.Bool.{true}
 use mathlib.Core.List.{List, _∷_}
 use mathlib.Core.Path.{_≡_}
@@ -8,8 +8,12 @@ use lib.ListN.{length}
 use lib.Seq.{sets}
 use denote.Ref.{RefT, now}
 use Rattle.vector.specs.Vector.{dot, Normalized}
+use Rattle.lists.specs.Lists.{total}
+use Rattle.store.specs.declared.Shape.{Shape}
+use Rattle.store.specs.declared.Counts.{Counts}
 use Rattle.store.specs.declared.Lengths.{Lengths}
-use Rattle.store.specs.Store.{Store, Limits}
+use Rattle.label.specs.Names.{bytesOfNames}
+use Rattle.store.specs.Store.{Store, Limits, numbersSize}
 use Rattle.store.specs.Lent.{lengthsOf, Long}
 use Rattle.settings.specs.declared.Check.{Check}
 use Rattle.settings.specs.declared.Check.the-variants as Check′
@@ -51,6 +55,14 @@ pub record AddRoom (index : CuratorIndex) (store : Store) (call : AddCall) : Typ
   pub labels : call .lengths-fit ≡ true
   pub vectors : index .counts .vectors < index .capacities .vectors
   pub entries : index .counts .entries + length (call .names) ≤ index .capacities .entries
+  pub text : index .counts .bytes + length (bytesOfNames (call .names)) ≤ index .capacities .text
+
+-- what the writing of starts and lengths relies on
+pub record LabelsRoom (s : Shape) (held : Counts) (numbers lengths : List ℕ) : Type 0 where
+  pub limits : Limits s
+  pub long : numbersSize s ≤ length numbers
+  pub entries : held .entries + length lengths / 2 ≤ s .entries
+  pub text : held .bytes + total lengths ≤ s .text
 
 -- the list with what is stored of a vector at a place
 pub record VectorAt (before : List Float) (place : ℕ) (vector : List Float) (after : List Float) : Type 0 where

@@ -27,6 +27,7 @@ shapeOf dimension p c =
       vectors = c .vectors;
       entries = c .entries;
       nodes = c .nodes;
+      text = c .text;
     }
 
 abbrev pub indexShape : CuratorIndex → Shape

@@ -15,7 +15,7 @@ use Rattle.settings.specs.declared.refusal.Refusal.the-variants.{Settings, Stat
 use Rattle.settings.specs.declared.refusal.SettingsRefusal.the-variants.{InvalidDimension, InvalidConfig}
 use Rattle.settings.specs.declared.refusal.StateRefusal.the-variants.{InvalidState, AlreadyBuilt, NotBuilt, EmptyIndex, NoVectorHeld}
 use Rattle.settings.specs.declared.refusal.InputRefusal.the-variants.{DimensionMismatch, NonFiniteInput, LabelLengths, AnswerTooShort, BadRecord, SettingsOrder, FileTooLong}
-use Rattle.settings.specs.declared.refusal.StoreRefusal.the-variants.{ListTooShort, VectorsFull, EntriesFull, NodesFull, Damaged}
+use Rattle.settings.specs.declared.refusal.StoreRefusal.the-variants.{ListTooShort, VectorsFull, EntriesFull, NodesFull, Damaged, TextFull}
 use Rattle.curator.specs.Outcome.{changedNumber, changedValues, foundNumber, foundValues, Succeeded, ChangeRefused, SearchFound, SearchRefused}
 use Rattle.settings.specs.Refusals.{number}
 
@@ -27,7 +27,7 @@ refusals =
     Settings InvalidDimension ∷ Settings InvalidDimension ∷ Settings InvalidConfig ∷ Store ListTooShort ∷ State InvalidState ∷ State AlreadyBuilt
     ∷ State NotBuilt ∷ Input DimensionMismatch ∷ Input NonFiniteInput ∷ Input LabelLengths ∷ Store VectorsFull ∷ Store EntriesFull
     ∷ State EmptyIndex ∷ Store NodesFull ∷ Input AnswerTooShort ∷ Store Damaged ∷ Input BadRecord ∷ Input SettingsOrder ∷ Input FileTooLong
-    ∷ State NoVectorHeld ∷ []
+    ∷ State NoVectorHeld ∷ Store TextFull ∷ []
 
 refusalOf : ℕ → Refusal
 refusalOf n = getD refusals n (Settings InvalidDimension)
@@ -53,6 +53,7 @@ refusal-of (Store VectorsFull) = refl
 refusal-of (Store EntriesFull) = refl
 refusal-of (Store NodesFull) = refl
 refusal-of (Store Damaged) = refl
+refusal-of (Store TextFull) = refl
 
 pub number-injective : (q r : Refusal) → number q ≡ number r → q ≡ r
 number-injective q r e = sym (refusal-of q) ∙ ap refusalOf e ∙ refusal-of r

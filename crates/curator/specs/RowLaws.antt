@@ -26,7 +26,7 @@ use Rattle.settings.specs.declared.refusal.Refusal.the-variants.{Settings, Stat
 use Rattle.settings.specs.declared.refusal.SettingsRefusal.the-variants.{InvalidDimension, InvalidConfig}
 use Rattle.settings.specs.declared.refusal.StateRefusal.the-variants.{InvalidState, AlreadyBuilt, NotBuilt, EmptyIndex, NoVectorHeld}
 use Rattle.settings.specs.declared.refusal.InputRefusal.the-variants.{DimensionMismatch, NonFiniteInput, LabelLengths, AnswerTooShort, BadRecord, SettingsOrder, FileTooLong}
-use Rattle.settings.specs.declared.refusal.StoreRefusal.the-variants.{ListTooShort, VectorsFull, EntriesFull, NodesFull, Damaged}
+use Rattle.settings.specs.declared.refusal.StoreRefusal.the-variants.{ListTooShort, VectorsFull, EntriesFull, NodesFull, Damaged, TextFull}
 use Rattle.curator.specs.Outcome.{changedNumber}
 use Rattle.settings.specs.Refusals.{number, checkNumber}
 use Rattle.curator.specs.Limits.{stateSound}
@@ -183,6 +183,7 @@ number-positive (StoreR VectorsFull) = omega arith
 number-positive (StoreR EntriesFull) = omega arith
 number-positive (StoreR NodesFull) = omega arith
 number-positive (StoreR Damaged) = omega arith
+number-positive (StoreR TextFull) = omega arith
 
 pub zero-fine : (check : Check) → checkNumber check ≡ 0 → check ≡ Fine
 zero-fine Fine e = refl
@@ -296,14 +297,14 @@ new-returned dimension params capacities answer new i h =
     i
     h
 
--- ---- add: 'Add 4, 3, 5, 7, 8, 9, 10, 11.'
+-- ---- add: 'Add 4, 3, 5, 7, 8, 9, 10, 11', and 20 after 11 (02, K4)
 
 abbrev pub rowsOfAdd : CuratorIndex → Store → AddCall → List Row
 rowsOfAdd index store call =
     stateRow (stateSound index) ∷ addRows (factsOf index) (lengthsOf store) call
 
 abbrev pub addNumbers : List ℕ
-addNumbers = 4 ∷ 3 ∷ 5 ∷ 7 ∷ 8 ∷ 9 ∷ 10 ∷ 11 ∷ []
+addNumbers = 4 ∷ 3 ∷ 5 ∷ 7 ∷ 8 ∷ 9 ∷ 10 ∷ 11 ∷ 20 ∷ []
 
 pub add-order : (index : CuratorIndex) (store : Store) (call : AddCall) → numbersOfRows (rowsOfAdd index store call) ≡ addNumbers
 unfolding addRows
@@ -324,7 +325,7 @@ adds-number index store call answer store′ h = by (addCheck index store call) 
 
 -- each of the numbers exactly if its row's case holds and no earlier row's does
 pub add-returned : (index : CuratorIndex) (store : Store) (call : AddCall) (answer : Changed) (store′ : Store)
-    → Adds index store call answer store′ → (i : ℕ) → i < 8
+    → Adds index store call answer store′ → (i : ℕ) → i < 9
     → (changedNumber answer ≡ getD addNumbers i 0) ↔ FirstAt (rowsOfAdd index store call) i
 unfolding different
 add-returned index store call answer store′ adds i h =

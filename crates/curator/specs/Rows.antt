@@ -1,5 +1,5 @@
 -- Document 01, 'Refusals and what they leave': rows in their order. 'A refusal is returned in its row's case and in no other; where several cases
--- hold, the earliest in the order is returned.' The rows after 4 look at the settings, the number of vectors and entries held, whether it is built,
+-- hold, the earliest in the order is returned.' The rows after 4 look at the settings, the number of vectors, entries and bytes held, whether it is built,
 -- and the call's arguments, list lengths among them, so that the same rows can be asked of a state and of the model of all calls.
 use Prim.Native.Nat.{ℕ, _+_}
 use mathlib.Core.Bool.{Bool, not, _&&_, _||_, cond}
@@ -19,8 +19,9 @@ use Rattle.settings.specs.declared.refusal.Refusal.the-variants.{Settings, Stat
 use Rattle.settings.specs.declared.refusal.SettingsRefusal.the-variants.{InvalidDimension, InvalidConfig}
 use Rattle.settings.specs.declared.refusal.StateRefusal.the-variants.{InvalidState, AlreadyBuilt, NotBuilt, EmptyIndex, NoVectorHeld}
 use Rattle.settings.specs.declared.refusal.InputRefusal.the-variants.{DimensionMismatch, NonFiniteInput, LabelLengths, AnswerTooShort}
-use Rattle.settings.specs.declared.refusal.StoreRefusal.the-variants.{ListTooShort, VectorsFull, EntriesFull, NodesFull, Damaged}
+use Rattle.settings.specs.declared.refusal.StoreRefusal.the-variants.{ListTooShort, VectorsFull, EntriesFull, NodesFull, Damaged, TextFull}
 use Rattle.settings.specs.Limits.{dimensionAllowed, paramsAllowed, capacitiesAllowed}
+use Rattle.label.specs.Names.{bytesOfNames}
 use Rattle.curator.specs.Arguments.{AddCall, Asking}
 
 -- a row: whether its case holds, and what is then returned
@@ -36,11 +37,12 @@ unfoldable pub firstOf : List Row → Check
 firstOf [] = Fine
 firstOf (r ∷ rows) = cond (r .holds) (Refused (r .refusal)) (firstOf rows)
 
--- What the rows after 4 look at of the index: what fixes the sizes, how many vectors and entries are held, and whether it is built.
+-- What the rows after 4 look at of the index: what fixes the sizes, how many vectors, entries and bytes are held, and whether it is built.
 pub record Facts : Type 0 where
   pub shape : Shape
   pub vectors : ℕ
   pub entries : ℕ
+  pub bytes : ℕ
   pub built : Bool
 
 -- rows 1 and 2: 'new: D outside 1 to 128', 'new: another setting or capacity outside its limits'
@@ -59,9 +61,10 @@ stateRow sound = row (not sound) (State InvalidState)
 abbrev pub unbuiltRows : Facts → Lengths → List Row
 unbuiltRows f lent = row (storeShort (f .shape) lent) (Store ListTooShort) ∷ row (f .built) (State AlreadyBuilt) ∷ []
 
--- 'Add 4, 3, 5, 7, 8, 9, 10, 11', after row 4; a name has one entry, however it is parted
+-- 'Add 4, 3, 5, 7, 8, 9, 10, 11', after row 4; a name has one entry, however it is parted; '20 is returned after 11 when the label bytes would not fit'
+-- (02, K4)
 unfoldable pub addRows : Facts → Lengths → AddCall → List Row
-unfolding storeShort allFinite
+unfolding storeShort allFinite bytesOfNames
 addRows f lent call =
     unbuiltRows f lent
     ++ (row (not (eqb (length (call .vector)) (f .shape .dimension))) (Input DimensionMismatch)
@@ -69,6 +72,7 @@ addRows f lent call =
     ∷ row (not (call .lengths-fit)) (Input LabelLengths)
     ∷ row (eqb (f .vectors) (f .shape .vectors)) (Store VectorsFull)
     ∷ row (ltb (f .shape .entries) (f .entries + length (call .names))) (Store EntriesFull)
+    ∷ row (ltb (f .shape .text) (f .bytes + length (bytesOfNames (call .names)))) (Store TextFull)
     ∷ [])
 
 -- 02, K3: 'Taking back is lent what add is, checks 4, 3, 5, and then returns 19 when no vector is held', after row 4

@@ -8,8 +8,7 @@ use lib.Seq.{sets}
 use Rattle.vector.specs.Vector.{dot, Normalized}
 use Rattle.label.specs.Fnv.{fnv}
 use Rattle.store.specs.Store.{Store, workPart}
-use Rattle.walk.specs.declared.Wanted.{Wanted}
-use Rattle.walk.specs.declared.Wanted.the-variants.{Everything, Label}
+use Rattle.walk.specs.Wanted.{Sought, all-vectors, with-label}
 use Rattle.walk.specs.Walk.{State, damaged, going, walk}
 use Rattle.walk.specs.Answer.{Answer, answer}
 use Rattle.walk.specs.StoreView.{storeView}
@@ -28,10 +27,11 @@ use Rattle.curator.specs.Calls.{factsOf}
 use Rattle.store.specs.Lent.{lengthsOf}
 use Rattle.lists.specs.Frame.{Freed}
 
-unfoldable pub wantedOf : Asked → Wanted
+-- a label is its bytes, and their hash (02, K4)
+unfoldable pub wantedOf : Asked → Sought
 unfolding fnv
-wantedOf everything = Everything
-wantedOf (labelled bytes) = Label (fnv bytes)
+wantedOf everything = all-vectors
+wantedOf (labelled bytes) = with-label (fnv bytes) bytes
 
 -- what a search leaves: its answer, the work list and the two answer lists
 pub record SearchEnd : Type 0 where

@@ -56,6 +56,7 @@ pub record Sound (index : CuratorIndex) : Type 0 where
   pub vectors : index .counts .vectors ≤ index .capacities .vectors
   pub entries : index .counts .entries ≤ index .capacities .entries
   pub nodes : index .counts .nodes ≤ index .capacities .nodes
+  pub bytes : index .counts .bytes ≤ index .capacities .text
   pub built : builtAllowed (index .built) (index .counts) ≡ true
 
 -- the tests of a state, group by group
@@ -85,7 +86,7 @@ unfolding paramsAllowed
 params-tests p = refl
 
 abbrev capacitiesTests : Capacities → List Bool
-capacitiesTests c = leb 1 (c .vectors) ∷ leb (c .vectors) 4096 ∷ leb (c .entries) 16384 ∷ leb 1 (c .nodes) ∷ leb (c .nodes) 65537 ∷ []
+capacitiesTests c = leb 1 (c .vectors) ∷ leb (c .vectors) 4096 ∷ leb (c .entries) 16384 ∷ leb 1 (c .nodes) ∷ leb (c .nodes) 65537 ∷ leb (c .text) 4177920 ∷ []
 
 capacities-tests : (c : Capacities) → capacitiesAllowed c ≡ every (capacitiesTests c)
 unfolding capacitiesAllowed
@@ -95,6 +96,7 @@ abbrev countsTests : CuratorIndex → List Bool
 countsTests index =
     leb (index .counts .vectors) (index .capacities .vectors) ∷ leb (index .counts .entries) (index .capacities .entries)
     ∷ leb (index .counts .nodes) (index .capacities .nodes)
+    ∷ leb (index .counts .bytes) (index .capacities .text)
     ∷ []
 
 counts-tests : (index : CuratorIndex) → countsAllowed (index .capacities) (index .counts) ≡ every (countsTests index)
@@ -120,6 +122,7 @@ sound-facts index h =
             entries-high = omega (arith, leb-true);
             nodes-low = omega (arith, leb-true);
             nodes-high = omega (arith, leb-true);
+            text-high = omega (arith, leb-true);
           };
       leaf-size = omega (arith, leb-true);
       ef-search = omega (arith, leb-true);
@@ -127,6 +130,7 @@ sound-facts index h =
       vectors = omega (arith, leb-true);
       entries = omega (arith, leb-true);
       nodes = omega (arith, leb-true);
+      bytes = omega (arith, leb-true);
       built = b;
     }
 
@@ -160,12 +164,12 @@ facts-sound index s =
           le-leb _ _ (l .entries-high),
           (
             le-leb _ _ (l .nodes-low),
-            (le-leb _ _ (l .nodes-high), tt),
+            (le-leb _ _ (l .nodes-high), (le-leb _ _ (l .text-high), tt)),
           ),
         ),
       ),
     ) in
-    let ns = all-every (countsTests index) (le-leb _ _ (s .vectors), (le-leb _ _ (s .entries), (le-leb _ _ (s .nodes), tt))) in
+    let ns = all-every (countsTests index) (le-leb _ _ (s .vectors), (le-leb _ _ (s .entries), (le-leb _ _ (s .nodes), (le-leb _ _ (s .bytes), tt)))) in
     sound-groups index
     ∙ all-every (groups index) (d, (params-tests p ∙ ps, (capacities-tests c ∙ cs, (counts-tests index ∙ ns, (s .built, tt)))))
 
@@ -192,7 +196,7 @@ unfolding newRows builtAllowed
 fresh-sound dimension params capacities (d, (s, _)) =
     let (p, c) = and-both (paramsAllowed params) (capacitiesAllowed capacities) (not-false _ s) in
     let index = fresh dimension params capacities in
-    let ns = all-every (countsTests index) (leb·zero (capacities .vectors), (leb·zero (capacities .entries), (leb·zero (capacities .nodes), tt))) in
+    let ns = all-every (countsTests index) (leb·zero (capacities .vectors), (leb·zero (capacities .entries), (leb·zero (capacities .nodes), (leb·zero (capacities .text), tt)))) in
     sound-groups index ∙ all-every (groups index) (not-false _ d, (p, (c, (counts-tests index ∙ ns, (refl, tt)))))
 
 -- 'A state from an accepted `new`' is sound

@@ -1,6 +1,6 @@
 -- Laws of a taking back: each refusal in its row's case; what is read; and, over one store, that an accepted add followed by a
 -- taking back is the identity on all that is held.
-use Prim.Native.Nat.{ℕ, _+_, _-_, _<_}
+use Prim.Native.Nat.{ℕ, zero, suc, _+_, _-_, _<_, _≤_, min}
 use native.Mathlib.Omega.{arith}
 use mathlib.Core.Bool.{Bool, true, false, not, false≢true}
 use mathlib.Core.List.{List, [], _∷_}
@@ -8,12 +8,14 @@ use mathlib.Core.Logic.{_↔_}
 use mathlib.Core.Path.{_≡_, refl, sym, ap, ap₂, _∙_, subst}
 use borrow.Author.Tests.{not-false, ltb-true, eqb-false, ne-eqb}
 use lib.Dec.{ltb}
-use lib.ListN.{length, getD}
-use Rattle.lists.specs.Suffix.{countAtEnd, at-end-written}
+use lib.ListN.{length, getD, drop, length-take}
+use lib.Seq.{sets}
+use Rattle.lists.specs.Parts.{getD-sets-before, getD-sets-in}
+use Rattle.lists.specs.Suffix.{countAtEnd, at-end-written, at-end-few}
 use Rattle.lists.specs.Tests.{allPass-Memᴰ}
 use Rattle.store.specs.declared.Counts.{Counts}
 use Rattle.store.specs.declared.Lengths.{Lengths}
-use Rattle.store.specs.Store.{Store}
+use Rattle.store.specs.Store.{Store, ownersAt, startsAt, lengthsAt, entryStart}
 use Rattle.store.specs.Lent.{lengthsOf, Long, storeShort}
 use Rattle.store.specs.LentLaws.{store-long}
 use Rattle.settings.specs.declared.Check.{Check}
@@ -21,6 +23,9 @@ use Rattle.settings.specs.declared.Check.the-variants.{Fine, Refused}
 use Rattle.settings.specs.Refusals.{checkNumber}
 use Rattle.settings.specs.Limits.{builtAllowed}
 use Rattle.tree.specs.Nodes.{Entries}
+use Rattle.label.specs.Names.{startsFrom, lengthsOfNames, bytesOfNames}
+use Rattle.label.specs.TextLaws.{length-starts}
+use Rattle.walk.specs.HeldLaws.{same-at}
 use Rattle.curator.specs.declared.CuratorIndex.{CuratorIndex}
 use Rattle.curator.specs.declared.Changed.{Changed}
 use Rattle.curator.specs.declared.Changed.the-variants as Changed′
@@ -28,12 +33,12 @@ use Rattle.curator.specs.Outcome.{changedNumber, Succeeded}
 use Rattle.curator.specs.Limits.{stateSound, indexShape}
 use Rattle.curator.specs.Arguments.{AddCall}
 use Rattle.curator.specs.Rows.{Row, firstOf, stateRow, addRows, takeBackRows}
-use Rattle.curator.specs.Calls.{factsOf, heldEntries, SameOfIndex, lastEntries, grown, shrunk}
-use Rattle.curator.specs.Changes.{addCheck, Adds, Wrote, ownersDamaged, takeBackCheck, TakesBackBy, TakesBack}
+use Rattle.curator.specs.Calls.{factsOf, heldEntries, heldStarts, SameOfIndex, lastEntries, lowered, bytesLeft, withCounts, countsLess, grown, shrunk}
+use Rattle.curator.specs.Changes.{addCheck, Adds, withLabels, Wrote, ownersDamaged, takeBackCheck, TakesBackBy, TakesBack}
 use Rattle.curator.specs.Lent.{AddRoom}
 use Rattle.curator.specs.RowLaws.{FirstAt, numbersOfRows, different, fine-none, none-fine, returned-exactly, rowsOfAdd, add-check-rows}
 use Rattle.curator.specs.AddLaws.{Accepted, add-facts, adds-accepted}
-use Rattle.curator.specs.HeldLaws.{owners-grown, held-kept, wrote-lengths}
+use Rattle.curator.specs.HeldLaws.{owned, length-owned, owners-grown, held-kept, wrote-lengths}
 use Rattle.curator.specs.StateLaws.{Sound, sound-facts, facts-sound}
 use Rattle.curator.specs.OutcomeLaws.{carried-is, refused-is}
 
@@ -100,9 +105,39 @@ takes-back-by index store answer check e h = subst (λ (k : Check). TakesBackBy 
 
 -- ---- what is read: two stores that agree on what is held give the same answer
 
+last-same : (index : CuratorIndex) (s t : Store) → SameOfIndex index s t → lastEntries index s ≡ lastEntries index t
+unfolding lastEntries
+last-same index s t h = ap (λ (e : Entries). countAtEnd (index .counts .vectors - 1) (e .owners)) (h .entries)
+
+-- no more entries are taken back than are held
+pub last-few : (index : CuratorIndex) (store : Store) → lastEntries index store ≤ index .counts .entries
+unfolding lastEntries heldEntries
+last-few index store =
+    let owners = heldEntries index store .owners in
+    omega (arith, at-end-few (index .counts .vectors - 1) owners, length-take (index .counts .entries) (drop (ownersAt (indexShape index)) (store .numbers)))
+
+-- of the starts the first taken back is read, if there is one; it is held
+bytes-left-same : (index : CuratorIndex) (s t : Store) → SameOfIndex index s t → bytesLeft index s ≡ bytesLeft index t
+unfolding bytesLeft heldStarts
+bytes-left-same index s t h =
+    lower (lastEntries index s) (last-few index s)
+    ∙ ap (λ (n : ℕ). lowered n (entryStart (indexShape index) (t .numbers) (index .counts .entries - n)) (index .counts .bytes)) (last-same index s t h)
+  where
+    lower : (n : ℕ) → n ≤ index .counts .entries
+        → lowered n (entryStart (indexShape index) (s .numbers) (index .counts .entries - n)) (index .counts .bytes)
+        ≡ lowered n (entryStart (indexShape index) (t .numbers) (index .counts .entries - n)) (index .counts .bytes)
+    lower zero few = refl
+    lower (suc n) few =
+        ap (λ (start : ℕ). min start (index .counts .bytes))
+        (same-at (startsAt (indexShape index)) (index .counts .entries) (s .numbers) (t .numbers) (h .starts) (index .counts .entries - suc n) 0 (omega arith))
+
+shrunk-same : (index : CuratorIndex) (s t : Store) → SameOfIndex index s t → shrunk index s ≡ shrunk index t
+shrunk-same index s t h =
+    ap₂ (λ (entries bytes : ℕ). withCounts index (countsLess (index .counts) entries bytes) (index .built)) (last-same index s t h) (bytes-left-same index s t h)
+
 pub takes-back-same : (index : CuratorIndex) (s t : Store) (a b : Changed) → lengthsOf s ≡ lengthsOf t → SameOfIndex index s t → TakesBack index s a
     → TakesBack index t b → a ≡ b
-unfolding TakesBack TakesBackBy takeBackCheck lastEntries
+unfolding TakesBack TakesBackBy takeBackCheck
 takes-back-same index s t a b l h x y =
     by (takeBackCheck index s) x (subst (λ (k : Check). TakesBackBy k index t b) (sym check) y)
   where
@@ -110,16 +145,14 @@ takes-back-same index s t a b l h x y =
     check = ap (λ (k : Lengths). firstOf (stateRow (stateSound index) ∷ takeBackRows (factsOf index) k)) l
 
     by : (k : Check) → TakesBackBy k index s a → TakesBackBy k index t b → a ≡ b
-    by Fine x y =
-        carried-is _ a x ∙ ap (λ (e : Entries). Changed′.Index (shrunk index (countAtEnd (index .counts .vectors - 1) (e .owners)))) (h .entries)
-        ∙ sym (carried-is _ b y)
+    by Fine x y = carried-is _ a x ∙ ap Changed′.Index (shrunk-same index s t h) ∙ sym (carried-is _ b y)
     by (Refused r) x y = refused-is r a x ∙ sym (refused-is r b y)
 
 -- ---- an accepted add, then a taking back
 
 -- what an add has written at the end is its owners, where every owner held is below n
 pub last-added : (index : CuratorIndex) (store : Store) (call : AddCall) (store′ : Store) → AddRoom index store call → Wrote index store call store′
-    → ownersDamaged index store ≡ false → lastEntries (grown index (length (call .names))) store′ ≡ length (call .names)
+    → ownersDamaged index store ≡ false → lastEntries (grown index (call .names)) store′ ≡ length (call .names)
 unfolding lastEntries ownersDamaged
 last-added index store call store′ room wrote sound =
     let n = index .counts .vectors in
@@ -129,15 +162,57 @@ last-added index store call store′ room wrote sound =
     ∙ at-end-written n (length (call .names)) owners
     (λ y m. ltb-true y n (allPass-Memᴰ (λ owner. ltb owner n) owners (not-false _ sound) y m))
 
-shrunk-grown : (index : CuratorIndex) (k : ℕ) → shrunk (grown index k) k ≡ index
-shrunk-grown index k =
+-- its first label starts where the bytes held ended
+first-starts : (held : ℕ) (names : List (List ℕ)) → 0 < length names → getD (startsFrom held names) 0 0 ≡ held
+unfolding startsFrom
+first-starts held [] some = absurd (omega arith)
+first-starts held (name ∷ names) some = refl
+
+first-start : (index : CuratorIndex) (store : Store) (call : AddCall) (store′ : Store) (room : AddRoom index store call) (wrote : Wrote index store call store′)
+    → 0 < length (call .names) → entryStart (indexShape index) (store′ .numbers) (index .counts .entries) ≡ index .counts .bytes
+unfolding withLabels
+first-start index store call store′ room wrote some =
+    let e = index .counts .entries in
+    let at = startsAt (indexShape index) + index .counts .entries in
+    let starts = startsFrom (index .counts .bytes) (call .names) in
+    let numbers = owned index store call store′ room wrote in
+    let many = length-starts (index .counts .bytes) (call .names) in
+    ap (λ (l : List ℕ). getD l at 0) (wrote .numbers)
+    ∙ getD-sets-before (sets numbers at starts) (lengthsAt (indexShape index) + e) (lengthsOfNames (call .names)) at 0 (omega (arith, some, room .entries))
+    ∙ ap (λ (k : ℕ). getD (sets numbers at starts) k 0) (let z : at ≡ at + 0 = omega arith in z)
+    ∙ getD-sets-in numbers at starts 0 0 (omega (arith, some, many))
+    (omega (arith, many, length-owned index store call store′ room wrote, room .entries, room .long .numbers))
+    ∙ first-starts (index .counts .bytes) (call .names) some
+
+-- the bytes of names are lowered to where the first of them starts
+pub lower-first : (names : List (List ℕ)) (held start : ℕ) → (0 < length names → start ≡ held)
+    → lowered (length names) start (held + length (bytesOfNames names)) ≡ held
+unfolding bytesOfNames
+lower-first [] held start e = omega arith
+lower-first (name ∷ names) held start e = let is = e (omega arith) in omega (arith, is)
+
+-- so the bytes held are lowered to those before the add
+bytes-added : (index : CuratorIndex) (store : Store) (call : AddCall) (store′ : Store) → AddRoom index store call → Wrote index store call store′
+    → ownersDamaged index store ≡ false → bytesLeft (grown index (call .names)) store′ ≡ index .counts .bytes
+unfolding bytesLeft
+bytes-added index store call store′ room wrote sound =
+    let k = length (call .names) in
+    let back : index .counts .entries + length (call .names) - length (call .names) ≡ index .counts .entries = omega arith in
+    ap (λ (n : ℕ). lowered n (entryStart (indexShape index) (store′ .numbers) (index .counts .entries + k - n)) (index .counts .bytes + length (bytesOfNames (call .names))))
+    (last-added index store call store′ room wrote sound)
+    ∙ ap (λ (e : ℕ). lowered k (entryStart (indexShape index) (store′ .numbers) e) (index .counts .bytes + length (bytesOfNames (call .names)))) back
+    ∙ lower-first (call .names) (index .counts .bytes) (entryStart (indexShape index) (store′ .numbers) (index .counts .entries)) (first-start index store call store′ room wrote)
+
+shrunk-grown : (index : CuratorIndex) (names : List (List ℕ)) (taken bytes : ℕ) → taken ≡ length names → bytes ≡ index .counts .bytes
+    → withCounts (grown index names) (countsLess (grown index names .counts) taken bytes) (index .built) ≡ index
+shrunk-grown index names taken bytes t b =
     let v : index .counts .vectors + 1 - 1 ≡ index .counts .vectors = omega arith in
-    let e : index .counts .entries + k - k ≡ index .counts .entries = omega arith in
+    let e : index .counts .entries + length names - taken ≡ index .counts .entries = omega arith in
     λ i. record {
       dimension = index .dimension;
       params = index .params;
       capacities = index .capacities;
-      counts = record { vectors = v i; entries = e i; nodes = index .counts .nodes };
+      counts = record { vectors = v i; entries = e i; nodes = index .counts .nodes; bytes = b i };
       built = index .built;
     }
 
@@ -147,10 +222,10 @@ unfolding builtAllowed
 unbuilt-nodes true held next b e h = absurd (false≢true (sym b))
 unbuilt-nodes false held next b e h = rw (sym e) h
 
-grown-sound : (index : CuratorIndex) (store : Store) (call : AddCall) → Accepted index store call → stateSound (grown index (length (call .names))) ≡ true
+grown-sound : (index : CuratorIndex) (store : Store) (call : AddCall) → Accepted index store call → stateSound (grown index (call .names)) ≡ true
 grown-sound index store call a =
     let s = a .sound in
-    facts-sound (grown index (length (call .names)))
+    facts-sound (grown index (call .names))
     (record {
       limits = s .limits;
       leaf-size = s .leaf-size;
@@ -159,17 +234,18 @@ grown-sound index store call a =
       vectors = omega (arith, a .room .vectors);
       entries = a .room .entries;
       nodes = s .nodes;
-      built = unbuilt-nodes (index .built) (index .counts) (grown index (length (call .names)) .counts) (a .unbuilt) refl (s .built);
+      bytes = a .room .text;
+      built = unbuilt-nodes (index .built) (index .counts) (grown index (call .names) .counts) (a .unbuilt) refl (s .built);
     })
 
 -- so it is accepted
 grown-fine : (index : CuratorIndex) (store : Store) (call : AddCall) (store′ : Store) → addCheck index store call ≡ Fine → Wrote index store call store′
-    → takeBackCheck (grown index (length (call .names))) store′ ≡ Fine
+    → takeBackCheck (grown index (call .names)) store′ ≡ Fine
 unfolding addRows takeBackRows
 grown-fine index store call store′ fine wrote =
     let (_, (short, (built, _))) = fine-none (rowsOfAdd index store call) (sym (add-check-rows index store call) ∙ fine) in
     let sound = grown-sound index store call (add-facts index store call fine) in
-    let index′ = grown index (length (call .names)) in
+    let index′ = grown index (call .names) in
     let short′ : storeShort (indexShape index) (lengthsOf store′) ≡ false =
     ap (storeShort (indexShape index)) (sym (wrote-lengths index store call store′ wrote)) ∙ short in
     take-back-rows index′ store′
@@ -184,13 +260,13 @@ unfolding TakesBack TakesBackBy
 add-taken-back index store call index′ store′ answer sound adds takes =
     let (fine, is, wrote) = adds-accepted index store call index′ store′ adds in
     let room = add-facts index store call fine .room in
-    let k = length (call .names) in
     let check : takeBackCheck index′ store′ ≡ Fine =
     ap (λ (i : CuratorIndex). takeBackCheck i store′) is ∙ grown-fine index store call store′ fine wrote in
-    let state : shrunk index′ (lastEntries index′ store′) ≡ index =
-    ap (λ (i : CuratorIndex). shrunk i (lastEntries i store′)) is
-    ∙ ap (shrunk (grown index k)) (last-added index store call store′ room wrote sound)
-    ∙ shrunk-grown index k in (
+    let state : shrunk index′ store′ ≡ index =
+    ap (λ (i : CuratorIndex). shrunk i store′) is
+    ∙ shrunk-grown index (call .names) (lastEntries (grown index (call .names)) store′) (bytesLeft (grown index (call .names)) store′)
+    (last-added index store call store′ room wrote sound)
+    (bytes-added index store call store′ room wrote sound) in (
       subst (λ (i : CuratorIndex). Succeeded i answer) state (subst (λ (c : Check). TakesBackBy c index′ store′ answer) check takes),
       held-kept index store call store′ room wrote,
     )

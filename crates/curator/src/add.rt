@@ -4,9 +4,11 @@ ghost use Prim.Native.Nat.{_+_, _≤_, _<_};
 ghost use lib.ListN.{length, set, replicate};
 ghost use lib.Seq.{sets};
 ghost use Rattle.vector.specs.Vector.{dot};
-ghost use Rattle.curator.specs.Calls.{grown};
+ghost use Rattle.curator.specs.Calls.{withCounts, countsMore};
 ghost use Rattle.curator.specs.Changes.{Wrote};
-ghost use Rattle.curator.specs.Lent.{adding, addChecked, AddRoom, VectorAt};
+ghost use Rattle.curator.specs.Lent.{adding, addChecked, AddRoom, LabelsRoom, VectorAt};
+ghost use Rattle.label.specs.Names.{summedPairs, startsByLengths};
+ghost use Rattle.store.specs.Store.{startsAt, lengthsAt};
 ghost use Rattle.store.specs.Lent.{lent};
 use crate::CuratorIndex;
 use crate::VectorCheck;
@@ -18,6 +20,7 @@ use settings::refusal::Refusal;
 use settings::refusal::StoreRefusal;
 use store::Counts;
 use store::Lengths;
+use store::Shape;
 
 // The first refusal whose case holds, or the sum of the vector's squares. One pass looks at the components. No row looks at the document id.
 pub fn add_check(
@@ -47,6 +50,9 @@ pub fn add_check(
     }
     if index.capacities.entries < index.counts.entries + label::names::label_count(lengths) {
         return VectorCheck::Refused(Refusal::Store(StoreRefusal::EntriesFull));
+    }
+    if index.capacities.text < index.counts.bytes + bytes.len() {
+        return VectorCheck::Refused(Refusal::Store(StoreRefusal::TextFull));
     }
     VectorCheck::Squares(scanned.squares)
 }
@@ -83,6 +89,21 @@ fn write_numbers(numbers: &mut [u32], vector: usize, doc_id: u32, place: usize, 
     write_all(numbers, place, count, owner);
 }
 
+// Writes start and length of each label's text, after those held.
+fn write_labels(numbers: &mut [u32], shape: Shape, held: Counts, lengths: &[u8])
+    requires { ⌜ LabelsRoom shape held (now numbers) (now lengths) ⌝ }
+    ensures { λ _. ⌜ now (numbers .exit) ≡ sets (sets (now (numbers .entry)) (startsAt shape + held .entries) (startsByLengths (held .bytes) (summedPairs (now (lengths .entry)))))
+        (lengthsAt shape + held .entries) (summedPairs (now (lengths .entry))) ⌝ }
+{
+    label::names::write_starts(
+        numbers,
+        shape.starts_at() + held.entries,
+        held.bytes,
+        lengths,
+    );
+    label::names::write_lengths(numbers, shape.lengths_at() + held.entries, lengths);
+}
+
 // Writes what an accepted add writes, after what is held; `squares` is the sum of the vector's squares. The vector comes last: nothing else waits for the
 // sum, so that hashing goes on while it is made.
 pub fn write_add(
@@ -90,48 +111,47 @@ pub fn write_add(
     floats: &mut [f32],
     numbers: &mut [u32],
     hashes: &mut [u64],
+    text: &mut [u8],
     doc_id: u32,
     vector: &[f32],
     squares: f32,
     lengths: &[u8],
     bytes: &[u8],
 )
-    requires { ⌜ AddRoom index (lent floats numbers hashes) (adding «doc_id» vector lengths bytes) ⌝ }
+    requires { ⌜ AddRoom index (lent floats numbers hashes text) (adding «doc_id» vector lengths bytes) ⌝ }
     requires { ⌜ squares ≡ dot (now vector) (now vector) ⌝ }
-    ensures { λ _. ⌜ Wrote index (lent (floats .entry) (numbers .entry) (hashes .entry))
+    ensures { λ _. ⌜ Wrote index (lent (floats .entry) (numbers .entry) (hashes .entry) (text .entry))
         (adding «doc_id» (vector .entry) (lengths .entry) (bytes .entry))
-        (lent (floats .exit) (numbers .exit) (hashes .exit)) ⌝ }
+        (lent (floats .exit) (numbers .exit) (hashes .exit) (text .exit)) ⌝ }
 {
     let held = index.counts;
-    let owners = limits::shape_of(index).owners_at() + held.entries;
+    let shape = limits::shape_of(index);
     write_numbers(
         numbers,
         held.vectors,
         doc_id,
-        owners,
+        shape.owners_at() + held.entries,
         label::names::label_count(lengths),
     );
+    write_labels(numbers, shape, held, lengths);
     label::names::write_hashes(hashes, held.entries, lengths, bytes);
+    label::names::write_text(text, held.bytes, bytes);
     write_vector(floats, held.vectors * index.dimension, vector, squares);
 }
 
-// The state after an accepted add.
-pub fn grown(index: CuratorIndex, labels: usize) -> CuratorIndex
-    requires { ⌜ (index .counts .vectors < 4096) × (index .counts .entries + labels ≤ 16384) ⌝ }
-    ensures { λ r. ⌜ r ≡ grown index labels ⌝ }
+// The state after an accepted add with so many labels of so many bytes.
+pub fn grown(index: CuratorIndex, labels: usize, bytes: usize) -> CuratorIndex
+    requires { ⌜ (index .counts .vectors < 4096) × (index .counts .entries + labels ≤ 16384) × (index .counts .bytes + bytes ≤ 4177920) ⌝ }
+    ensures { λ r. ⌜ r ≡ withCounts index (countsMore (index .counts) labels bytes) (index .built) ⌝ }
 {
-    let params = index.params;
-    let capacities = index.capacities;
-    let counts = Counts {
-        vectors: index.counts.vectors + 1,
-        entries: index.counts.entries + labels,
-        nodes: index.counts.nodes,
-    };
-    CuratorIndex {
-        dimension: index.dimension,
-        params,
-        capacities,
-        counts,
-        built: index.built,
-    }
+    let held = index.counts;
+    index.with_counts(
+        Counts {
+            vectors: held.vectors + 1,
+            entries: held.entries + labels,
+            nodes: held.nodes,
+            bytes: held.bytes + bytes,
+        },
+        index.built,
+    )
 }

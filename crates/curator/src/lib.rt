@@ -1,7 +1,9 @@
 // The index: settings, state, refusals and the entry points.
 ghost use Rattle.curator.specs.Changes.{Creates, Adds, TakesBack};
 ghost use Rattle.curator.specs.Lent.{adding};
+ghost use Rattle.curator.specs.Calls.{withCounts};
 ghost use Rattle.store.specs.Lent.{lent};
+ghost use mathlib.Core.Path.{_≡_};
 
 mod add;
 mod check;
@@ -48,6 +50,21 @@ pub enum Found {
 }
 
 impl CuratorIndex {
+    // The state with other counts, built or not.
+    pub fn with_counts(self, counts: Counts, built: bool) -> CuratorIndex
+        ensures { λ r. ⌜ r ≡ withCounts self counts built ⌝ }
+    {
+        let params = self.params;
+        let capacities = self.capacities;
+        CuratorIndex {
+            dimension: self.dimension,
+            params,
+            capacities,
+            counts,
+            built,
+        }
+    }
+
     // An index that holds nothing.
     pub fn new(dimension: usize, params: CuratorParams, capacities: Capacities) -> Changed
         ensures { λ r. ⌜ Creates dimension params capacities r ⌝ }
@@ -63,6 +80,7 @@ impl CuratorIndex {
             vectors: 0,
             entries: 0,
             nodes: 0,
+            bytes: 0,
         };
         Changed::Index(CuratorIndex {
             dimension,
@@ -79,20 +97,22 @@ impl CuratorIndex {
         floats: &mut [f32],
         numbers: &mut [u32],
         hashes: &mut [u64],
+        text: &mut [u8],
         doc_id: u32,
         vector: &[f32],
         lengths: &[u8],
         bytes: &[u8],
     ) -> Changed
-        ensures { λ r. ⌜ Adds self (lent (floats .entry) (numbers .entry) (hashes .entry))
+        ensures { λ r. ⌜ Adds self (lent (floats .entry) (numbers .entry) (hashes .entry) (text .entry))
             (adding «doc_id» (vector .entry) (lengths .entry) (bytes .entry))
             r
-            (lent (floats .exit) (numbers .exit) (hashes .exit)) ⌝ }
+            (lent (floats .exit) (numbers .exit) (hashes .exit) (text .exit)) ⌝ }
     {
         let lent = Lengths {
             floats: floats.len(),
             numbers: numbers.len(),
             hashes: hashes.len(),
+            text: text.len(),
         };
         let check = add::add_check(self, lent, vector, lengths, bytes);
         match check {
@@ -103,34 +123,38 @@ impl CuratorIndex {
                     floats,
                     numbers,
                     hashes,
+                    text,
                     doc_id,
                     vector,
                     squares,
                     lengths,
                     bytes,
                 );
-                Changed::Index(add::grown(self, label::names::label_count(lengths)))
+                Changed::Index(add::grown(self, label::names::label_count(lengths), bytes.len()))
             }
         }
     }
 
     // Takes back the last vector that is held, with its entries at the end. The lists are read only: the counts go down.
-    pub fn take_back(self, floats: &[f32], numbers: &[u32], hashes: &[u64]) -> Changed
-        ensures { λ r. ⌜ TakesBack self (lent (floats .entry) (numbers .entry) (hashes .entry)) r ⌝ }
+    pub fn take_back(self, floats: &[f32], numbers: &[u32], hashes: &[u64], text: &[u8]) -> Changed
+        ensures { λ r. ⌜ TakesBack self (lent (floats .entry) (numbers .entry) (hashes .entry) (text .entry)) r ⌝ }
     {
         let lent = Lengths {
             floats: floats.len(),
             numbers: numbers.len(),
             hashes: hashes.len(),
+            text: text.len(),
         };
         let check = take_back::take_back_check(self, lent);
         match check {
             Check::Refused(refusal) => Changed::Refused(refusal),
             Check::Fine => {
                 let held = self.counts;
-                let owners = limits::shape_of(self).owners_at();
+                let shape = limits::shape_of(self);
+                let owners = shape.owners_at();
                 let entries = take_back::last_entries(numbers, owners, held.entries, held.vectors);
-                Changed::Index(take_back::shrunk(self, entries))
+                let bytes = take_back::bytes_left(numbers, shape.starts_at(), held, entries);
+                Changed::Index(take_back::shrunk(self, entries, bytes))
             }
         }
     }

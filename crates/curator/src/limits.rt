@@ -29,5 +29,6 @@ pub fn shape_of(index: CuratorIndex) -> Shape
         vectors: index.capacities.vectors,
         entries: index.capacities.entries,
         nodes: index.capacities.nodes,
+        text: index.capacities.text,
     }
 }

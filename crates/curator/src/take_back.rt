@@ -1,10 +1,10 @@
 // What a taking back asks, and how much it takes back. It writes no list.
 ghost use mathlib.Core.Path.{_≡_};
 ghost use Prim.Native.Nat.{_+_, _-_, _≤_, _<_};
-ghost use lib.ListN.{length};
+ghost use lib.ListN.{length, getD};
 ghost use Rattle.lists.specs.Lists.{part};
 ghost use Rattle.lists.specs.Suffix.{countAtEnd};
-ghost use Rattle.curator.specs.Calls.{shrunk};
+ghost use Rattle.curator.specs.Calls.{lowered, withCounts, countsLess};
 ghost use Rattle.curator.specs.Lent.{takeBackChecked};
 use crate::CuratorIndex;
 use crate::check;
@@ -13,6 +13,7 @@ use settings::refusal::Refusal;
 use settings::refusal::StateRefusal;
 use store::Counts;
 use store::Lengths;
+use store::wide;
 
 // The first refusal whose case holds.
 pub fn take_back_check(index: CuratorIndex, lent: Lengths) -> Check
@@ -52,23 +53,34 @@ pub fn last_entries(numbers: &[u32], start: usize, entries: usize, vectors: usiz
     count_at_end(&numbers[start..end], last)
 }
 
-// The state after an accepted taking back.
-pub fn shrunk(index: CuratorIndex, entries: usize) -> CuratorIndex
-    requires { ⌜ (0 < index .counts .vectors) × (entries ≤ index .counts .entries) ⌝ }
-    ensures { λ r. ⌜ r ≡ shrunk index entries ⌝ }
+// How many bytes are left once so many entries are taken back: those before the first of them, whose starts begin at `starts`, if they are fewer.
+pub fn bytes_left(numbers: &[u32], starts: usize, held: Counts, entries: usize) -> usize
+    requires { ⌜ (entries ≤ held .entries) × (starts + held .entries ≤ length (now numbers)) ⌝ }
+    ensures { λ r. ⌜ r ≡ lowered entries (getD (now (numbers .entry)) (starts + (held .entries - entries)) 0) (held .bytes) ⌝ }
 {
-    let params = index.params;
-    let capacities = index.capacities;
-    let counts = Counts {
-        vectors: index.counts.vectors - 1,
-        entries: index.counts.entries - entries,
-        nodes: index.counts.nodes,
-    };
-    CuratorIndex {
-        dimension: index.dimension,
-        params,
-        capacities,
-        counts,
-        built: index.built,
+    if entries == 0 {
+        return held.bytes;
     }
+    let start = wide(numbers[starts + (held.entries - entries)]);
+    if start < held.bytes {
+        return start;
+    }
+    held.bytes
+}
+
+// The state after an accepted taking back of so many entries, with so many bytes left.
+pub fn shrunk(index: CuratorIndex, entries: usize, bytes: usize) -> CuratorIndex
+    requires { ⌜ (0 < index .counts .vectors) × (entries ≤ index .counts .entries) ⌝ }
+    ensures { λ r. ⌜ r ≡ withCounts index (countsLess (index .counts) entries bytes) (index .built) ⌝ }
+{
+    let held = index.counts;
+    index.with_counts(
+        Counts {
+            vectors: held.vectors - 1,
+            entries: held.entries - entries,
+            nodes: held.nodes,
+            bytes,
+        },
+        index.built,
+    )
 }

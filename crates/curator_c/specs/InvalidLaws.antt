@@ -90,11 +90,8 @@ take-back-invalid state store n state′ u result =
     by Nothing e takes = takes
     by (State index) e takes = subst (λ (check : Check). TakesBackBy check index store (result .answer)) (take-back-first index store e) takes
 
-same-store : (s t : Store) → s .floats ≡ t .floats → s .numbers ≡ t .numbers → s .hashes ≡ t .hashes → s ≡ t
-same-store s t f n h =
-    ap (λ (l : List Float). record { floats = l; numbers = s .numbers; hashes = s .hashes }) f
-    ∙ ap (λ (l : List ℕ). record { floats = t .floats; numbers = l; hashes = s .hashes }) n
-    ∙ ap (λ (l : List ℕ). record { floats = t .floats; numbers = t .numbers; hashes = l }) h
+same-store : (s t : Store) → s .floats ≡ t .floats → s .numbers ≡ t .numbers → s .hashes ≡ t .hashes → s .text ≡ t .text → s ≡ t
+same-store s t f n h x = λ i. record { floats = f i; numbers = n i; hashes = h i; text = x i }
 
 pub build-invalid : (state : List ℕ) (store : Store) (work : List ℕ) (n : ℕ) (state′ : List ℕ) (store′ : Store) (work′ : List ℕ)
     → soundIn (stateIn state) ≡ false → BuildResult state store work n state′ store′ work′
@@ -111,7 +108,7 @@ build-invalid state store work n state′ store′ work′ u result =
     by (State index) e builds =
         let (refused, left) =
         subst (λ (check : Check). BuildsBy check index store work (result .answer) store′ work′) (build-first index store work e) builds in
-        (refused, same-store store′ store (left .floats) (left .numbers) (left .hashes), left .work)
+        (refused, same-store store′ store (left .floats) (left .numbers) (left .hashes) (left .text), left .work)
 
 pub search-invalid : (state : List ℕ) (store : Store) (work : List ℕ) (call : SearchCall) (answer : List ℕ) (n : ℕ) (work′ ids′ : List ℕ) (distances′ : List Float) (answer′ : List ℕ)
     → soundIn (stateIn state) ≡ false → SearchResult state store work call answer n work′ ids′ distances′ answer′

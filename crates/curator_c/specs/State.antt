@@ -10,9 +10,10 @@ use Rattle.curator_c.specs.declared.state.StateRead.the-variants.{State,
 
 -- how many places a state takes
 abbrev pub places : ℕ
-places = 12
+places = 14
 
--- The layout: dimension, branching_factor, max_leaf_size, ef_search, beam_width, V, E, M, vectors held, entries held, nodes, built (1) or not (0).
+-- The layout: dimension, branching_factor, max_leaf_size, ef_search, beam_width, V, E, M, vectors held, entries held, nodes, built (1) or not (0), the
+-- capacity of label text, bytes held.
 abbrev pub stateList : CuratorIndex → List ℕ
 stateList index =
     index .dimension ∷ index .params .«branching_factor» ∷ index .params .«max_leaf_size» ∷ index .params .«ef_search»
@@ -24,9 +25,11 @@ stateList index =
     ∷ index .counts .entries
     ∷ index .counts .nodes
     ∷ cond (index .built) 1 0
+    ∷ index .capacities .text
+    ∷ index .counts .bytes
     ∷ []
 
--- the state whose numbers stand in the first eleven places
+-- the state whose numbers stand in a list, but for whether it is built
 abbrev pub stateOf : List ℕ → Bool → CuratorIndex
 stateOf list built =
     record {
@@ -38,8 +41,8 @@ stateOf list built =
             «ef_search» = getD list 3 0;
             «beam_width» = getD list 4 0;
           };
-      capacities = record { vectors = getD list 5 0; entries = getD list 6 0; nodes = getD list 7 0 };
-      counts = record { vectors = getD list 8 0; entries = getD list 9 0; nodes = getD list 10 0 };
+      capacities = record { vectors = getD list 5 0; entries = getD list 6 0; nodes = getD list 7 0; text = getD list 12 0 };
+      counts = record { vectors = getD list 8 0; entries = getD list 9 0; nodes = getD list 10 0; bytes = getD list 13 0 };
       built = built;
     }
 

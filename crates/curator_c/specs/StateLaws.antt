@@ -18,12 +18,12 @@ unfolding stateIn
 in-front index rest = by (index .built) refl
   where
     by : (b : Bool) → index .built ≡ b → stateIn (stateList index ++ rest) ≡ State index
-    by true e = rw (le-ltb (length (stateList index ++ rest)) 12 (omega arith), e) refl
-    by false e = rw (le-ltb (length (stateList index ++ rest)) 12 (omega arith), e) refl
+    by true e = rw (le-ltb (length (stateList index ++ rest)) 14 (omega arith), e) refl
+    by false e = rw (le-ltb (length (stateList index ++ rest)) 14 (omega arith), e) refl
 
 -- the state that was written is the one that is held, whatever stands behind it
 pub in-written : (list : List ℕ) (index : CuratorIndex) → places ≤ length list → stateIn (sets list 0 (stateList index)) ≡ State index
-in-written list index h = ap stateIn (sets-eq (stateList index) list 0 h) ∙ in-front index (drop 12 list)
+in-written list index h = ap stateIn (sets-eq (stateList index) list 0 h) ∙ in-front index (drop 14 list)
 
 -- What a list that holds a state is like: it has places for one, its flag is 0 or 1, and the state is read from it.
 pub record HoldsState (list : List ℕ) (index : CuratorIndex) : Type 0 where
@@ -57,7 +57,7 @@ take-numbers list at (suc n) h =
     ap (take (suc n)) (drop-cons list at 0 (omega (arith, h)))
     ∙ ap (λ (l : List ℕ). getD list at 0 ∷ l) (take-numbers list (suc at) n (omega (arith, h)))
 
--- a list that holds a state begins with its numbers, so no other list of twelve numbers holds it
+-- a list that holds a state begins with its numbers, so no other list of fourteen numbers holds it
 pub in-only : (list : List ℕ) (index : CuratorIndex) → stateIn list ≡ State index → take places list ≡ stateList index
 in-only list index h =
     let held = in-holds list index h in

@@ -56,9 +56,10 @@ pub extern "C" fn curator_new(
     vectors: usize,
     entries: usize,
     nodes: usize,
+    text: usize,
     state: &mut [usize],
 ) -> u32
-    ensures { λ r. ⌜ NewResult dimension (paramsOf «branching_factor» «max_leaf_size» «ef_search» «beam_width») (capacitiesOf vectors entries nodes)
+    ensures { λ r. ⌜ NewResult dimension (paramsOf «branching_factor» «max_leaf_size» «ef_search» «beam_width») (capacitiesOf vectors entries nodes text)
         (now (state .entry))
         r
         (now (state .exit)) ⌝ }
@@ -73,6 +74,7 @@ pub extern "C" fn curator_new(
         vectors,
         entries,
         nodes,
+        text,
     };
     keep(CuratorIndex::new(dimension, params, capacities), state)
 }
@@ -84,20 +86,30 @@ pub extern "C" fn curator_add(
     floats: &mut [f32],
     numbers: &mut [u32],
     hashes: &mut [u64],
+    text: &mut [u8],
     doc_id: u32,
     vector: &[f32],
     lengths: &[u8],
     bytes: &[u8],
 ) -> u32
-    ensures { λ r. ⌜ AddResult (now (state .entry)) (lent (floats .entry) (numbers .entry) (hashes .entry))
+    ensures { λ r. ⌜ AddResult (now (state .entry)) (lent (floats .entry) (numbers .entry) (hashes .entry) (text .entry))
         (adding «doc_id» (vector .entry) (lengths .entry) (bytes .entry))
         r
-        (now (state .exit)) (lent (floats .exit) (numbers .exit) (hashes .exit)) ⌝ }
+        (now (state .exit)) (lent (floats .exit) (numbers .exit) (hashes .exit) (text .exit)) ⌝ }
 {
     match state::state_in(state) {
         StateRead::Nothing => INVALID_STATE,
         StateRead::State(index) => keep(
-            index.add(floats, numbers, hashes, doc_id, vector, lengths, bytes),
+            index.add(
+                floats,
+                numbers,
+                hashes,
+                text,
+                doc_id,
+                vector,
+                lengths,
+                bytes,
+            ),
             state,
         ),
     }
@@ -110,14 +122,15 @@ pub extern "C" fn curator_take_back(
     floats: &[f32],
     numbers: &[u32],
     hashes: &[u64],
+    text: &[u8],
 ) -> u32
-    ensures { λ r. ⌜ TakeBackResult (now (state .entry)) (lent (floats .entry) (numbers .entry) (hashes .entry))
+    ensures { λ r. ⌜ TakeBackResult (now (state .entry)) (lent (floats .entry) (numbers .entry) (hashes .entry) (text .entry))
         r
         (now (state .exit)) ⌝ }
 {
     match state::state_in(state) {
         StateRead::Nothing => INVALID_STATE,
-        StateRead::State(index) => keep(index.take_back(floats, numbers, hashes), state),
+        StateRead::State(index) => keep(index.take_back(floats, numbers, hashes, text), state),
     }
 }
 
@@ -128,15 +141,19 @@ pub extern "C" fn curator_build(
     floats: &mut [f32],
     numbers: &mut [u32],
     hashes: &mut [u64],
+    text: &[u8],
     work: &mut [u32],
 ) -> u32
-    ensures { λ r. ⌜ BuildResult (now (state .entry)) (lent (floats .entry) (numbers .entry) (hashes .entry)) (now (work .entry))
+    ensures { λ r. ⌜ BuildResult (now (state .entry)) (lent (floats .entry) (numbers .entry) (hashes .entry) (text .entry)) (now (work .entry))
         r
-        (now (state .exit)) (lent (floats .exit) (numbers .exit) (hashes .exit)) (now (work .exit)) ⌝ }
+        (now (state .exit)) (lent (floats .exit) (numbers .exit) (hashes .exit) (text .entry)) (now (work .exit)) ⌝ }
 {
     match state::state_in(state) {
         StateRead::Nothing => INVALID_STATE,
-        StateRead::State(index) => keep(build::build(index, floats, numbers, hashes, work), state),
+        StateRead::State(index) => keep(
+            build::build(index, floats, numbers, hashes, text, work),
+            state,
+        ),
     }
 }
 
@@ -176,6 +193,7 @@ pub extern "C" fn curator_search_filtered(
     floats: &[f32],
     numbers: &[u32],
     hashes: &[u64],
+    text: &[u8],
     work: &mut [u32],
     query: &[f32],
     first: &[u8],
@@ -185,7 +203,7 @@ pub extern "C" fn curator_search_filtered(
     distances: &mut [f32],
     answer: &mut [usize],
 ) -> u32
-    ensures { λ r. ⌜ SearchResult (now (state .entry)) (lent (floats .entry) (numbers .entry) (hashes .entry)) (now (work .entry))
+    ensures { λ r. ⌜ SearchResult (now (state .entry)) (lent (floats .entry) (numbers .entry) (hashes .entry) (text .entry)) (now (work .entry))
         (filtered (query .entry) (first .entry) (second .entry) k (ids .entry) (distances .entry)) (now (answer .entry))
         r
         (now (work .exit)) (now (ids .exit)) (now (distances .exit)) (now (answer .exit)) ⌝ }
@@ -200,6 +218,7 @@ pub extern "C" fn curator_search_filtered(
                     floats,
                     numbers,
                     hashes,
+                    text,
                     work,
                     query,
                     first,
@@ -221,6 +240,7 @@ pub extern "C" fn curator_search(
     floats: &[f32],
     numbers: &[u32],
     hashes: &[u64],
+    text: &[u8],
     work: &mut [u32],
     query: &[f32],
     k: usize,
@@ -228,7 +248,7 @@ pub extern "C" fn curator_search(
     distances: &mut [f32],
     answer: &mut [usize],
 ) -> u32
-    ensures { λ r. ⌜ SearchResult (now (state .entry)) (lent (floats .entry) (numbers .entry) (hashes .entry)) (now (work .entry))
+    ensures { λ r. ⌜ SearchResult (now (state .entry)) (lent (floats .entry) (numbers .entry) (hashes .entry) (text .entry)) (now (work .entry))
         (unfiltered (query .entry) k (ids .entry) (distances .entry)) (now (answer .entry))
         r
         (now (work .exit)) (now (ids .exit)) (now (distances .exit)) (now (answer .exit)) ⌝ }
@@ -243,6 +263,7 @@ pub extern "C" fn curator_search(
                     floats,
                     numbers,
                     hashes,
+                    text,
                     work,
                     query,
                     hits,

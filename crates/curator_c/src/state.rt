@@ -12,7 +12,7 @@ use settings::CuratorParams;
 use store::Counts;
 
 // How many places a state takes.
-pub const STATE: usize = 12;
+pub const STATE: usize = 14;
 
 // What a list holds: a state, sound or not, or none.
 pub enum StateRead {
@@ -27,7 +27,7 @@ pub fn flag(b: bool) -> usize
     if b { 1 } else { 0 }
 }
 
-// The state whose numbers stand in the first eleven places.
+// The state whose numbers stand in a list, but for whether it is built.
 fn state_of(state: &[usize], built: bool) -> CuratorIndex
     requires { ⌜ places ≤ length (now state) ⌝ }
     ensures { λ r. ⌜ r ≡ stateOf (now (state .entry)) built ⌝ }
@@ -42,11 +42,13 @@ fn state_of(state: &[usize], built: bool) -> CuratorIndex
         vectors: state[5],
         entries: state[6],
         nodes: state[7],
+        text: state[12],
     };
     let counts = Counts {
         vectors: state[8],
         entries: state[9],
         nodes: state[10],
+        bytes: state[13],
     };
     CuratorIndex {
         dimension: state[0],
@@ -73,7 +75,7 @@ pub fn state_in(state: &[usize]) -> StateRead
     StateRead::Nothing
 }
 
-// Writes a state into the first twelve places.
+// Writes a state into the first places.
 pub fn write_state(index: CuratorIndex, state: &mut [usize])
     requires { ⌜ places ≤ length (now state) ⌝ }
     ensures { λ _. ⌜ now (state .exit) ≡ sets (now (state .entry)) 0 (stateList index) ⌝ }
@@ -90,4 +92,6 @@ pub fn write_state(index: CuratorIndex, state: &mut [usize])
     state[9] = index.counts.entries;
     state[10] = index.counts.nodes;
     state[11] = flag(index.built);
+    state[12] = index.capacities.text;
+    state[13] = index.counts.bytes;
 }

@@ -56,12 +56,13 @@ fn fill_and_print(ids: &[u32], distances: &[f32], count: usize) {
 fn added(
     index: CuratorIndex,
     floats: &mut [f32; 50],
-    numbers: &mut [u32; 51],
+    numbers: &mut [u32; 59],
     hashes: &mut [u64; 24],
+    text: &mut [u8; 4],
     doc_id: u32,
     vector: &[f32],
 ) -> CuratorIndex {
-    let changed = index.add(floats, numbers, hashes, doc_id, vector, &[1, 0], b"a");
+    let changed = index.add(floats, numbers, hashes, text, doc_id, vector, &[1, 0], b"a");
     match changed {
         Changed::Index(next) => next,
         Changed::Refused(refusal) => index,
@@ -72,22 +73,24 @@ fn added(
 fn three_built(
     fresh: CuratorIndex,
     floats: &mut [f32; 50],
-    numbers: &mut [u32; 51],
+    numbers: &mut [u32; 59],
     hashes: &mut [u64; 24],
+    text: &mut [u8; 4],
     work: &mut [u32; 27],
 ) -> Changed {
-    let one = added(fresh, floats, numbers, hashes, 7, &[1.0, 0.0]);
-    let two = added(one, floats, numbers, hashes, 8, &[0.0, 2.0]);
-    let three = added(two, floats, numbers, hashes, 9, &[3.0, 4.0]);
-    build::build(three, floats, numbers, hashes, work)
+    let one = added(fresh, floats, numbers, hashes, text, 7, &[1.0, 0.0]);
+    let two = added(one, floats, numbers, hashes, text, 8, &[0.0, 2.0]);
+    let three = added(two, floats, numbers, hashes, text, 9, &[3.0, 4.0]);
+    build::build(three, floats, numbers, hashes, text, work)
 }
 
 // The records of the four nearest to 1 and 0.
 fn print_nearest(
     built: CuratorIndex,
     floats: &[f32; 50],
-    numbers: &[u32; 51],
+    numbers: &[u32; 59],
     hashes: &[u64; 24],
+    text: &[u8; 4],
     work: &mut [u32; 27],
 ) {
     let mut ids = [0u32; 4];
@@ -97,6 +100,7 @@ fn print_nearest(
         floats,
         numbers,
         hashes,
+        text,
         work,
         &[1.0, 0.0],
         4,
@@ -116,14 +120,22 @@ fn print_nearest(
 
 fn records_of_a_search(fresh: CuratorIndex) {
     let mut floats = [0.0f32; 50];
-    let mut numbers = [0u32; 51];
+    let mut numbers = [0u32; 59];
     let mut hashes = [0u64; 24];
+    let mut text = [0u8; 4];
     let mut work = [0u32; 27];
-    let changed = three_built(fresh, &mut floats, &mut numbers, &mut hashes, &mut work);
+    let changed = three_built(
+        fresh,
+        &mut floats,
+        &mut numbers,
+        &mut hashes,
+        &mut text,
+        &mut work,
+    );
     let Changed::Index(built) = changed else {
         return;
     };
-    print_nearest(built, &floats, &numbers, &hashes, &mut work);
+    print_nearest(built, &floats, &numbers, &hashes, &text, &mut work);
 }
 
 fn main() {
@@ -131,6 +143,7 @@ fn main() {
         vectors: 4,
         entries: 4,
         nodes: 5,
+        text: 4,
     };
     let made = CuratorIndex::new(2, CuratorParams::default(), capacities);
     let Changed::Index(fresh) = made else {

@@ -1,4 +1,4 @@
--- Steps of the loops over names: a test that counts down, and the hashes place by place.
+-- Steps of the loops over names: a test that counts down; the hashes, lengths and starts place by place.
 use Prim.Native.Nat.{ℕ, suc, _+_, _-_, _*_, _/_, _<_, _≤_}
 use mathlib.Core.Bool.{Bool, true, false}
 use mathlib.Core.Path.{_≡_, refl, sym, ap, _∙_}
@@ -12,8 +12,8 @@ use lib.Seq.{sets, sets-eq, drop-cons}
 use Rattle.lists.specs.Lists.{part}
 use Rattle.lists.specs.Parts.{part-append-parts}
 use Rattle.label.specs.Fnv.{fnv}
-use Rattle.label.specs.Names.{namesOf, wholeLengths, hashesOfLabels}
-use Rattle.label.specs.NameLaws.{names-drop, length-names, length-whole}
+use Rattle.label.specs.Names.{namesOf, wholeLengths, hashesOfLabels, summedPairs, startsByLengths}
+use Rattle.label.specs.NameLaws.{names-drop, two-lengths, length-names, length-whole}
 
 -- two tests that follow from each other
 same-test : (s t : Bool) → (s ≡ true → t ≡ true) → (t ≡ true → s ≡ true) → s ≡ t
@@ -62,6 +62,51 @@ pub hash-end : (l lengths rest : List ℕ) (place i : ℕ) → length lengths / 
 hash-end l lengths rest place i h =
     let left = length-drop (2 * i) lengths in
     no-names l place (namesOf (drop (2 * i) lengths) rest) (length-names (drop (2 * i) lengths) rest ∙ omega arith)
+
+-- ---- lengths and starts by the lengths list
+
+-- the name lengths from a place on: `n` is that of its name
+summed-drop : (lengths : List ℕ) (i n : ℕ) → i < length lengths / 2 → n ≡ getD lengths (2 * i) 0 + getD lengths (2 * i + 1) 0
+    → summedPairs (drop (2 * i) lengths) ≡ n ∷ summedPairs (drop (2 * (i + 1)) lengths)
+unfolding summedPairs
+summed-drop lengths i n h e =
+    let next : 2 * i + 1 ≡ suc (2 * i) = omega arith in
+    let on : 2 * (i + 1) ≡ suc (suc (2 * i)) = omega arith in
+    ap summedPairs (two-lengths lengths (2 * i) (omega arith)) ∙ rw (e, next, on)
+
+-- past the last name there are none
+summed-none : (lengths : List ℕ) → length lengths ≤ 1 → summedPairs lengths ≡ []
+unfolding summedPairs
+summed-none [] h = refl
+summed-none (first ∷ []) h = refl
+summed-none (first ∷ second ∷ lengths) h = absurd (omega arith)
+
+summed-past : (lengths : List ℕ) (i : ℕ) → length lengths / 2 ≤ i → summedPairs (drop (2 * i) lengths) ≡ []
+summed-past lengths i h = let left = length-drop (2 * i) lengths in summed-none (drop (2 * i) lengths) (omega arith)
+
+-- one place more of the lengths, and none left
+pub length-step : (l lengths : List ℕ) (place i n : ℕ) → i < length lengths / 2 → n ≡ getD lengths (2 * i) 0 + getD lengths (2 * i + 1) 0
+    → sets l (place + i) (summedPairs (drop (2 * i) lengths)) ≡ sets (set l (place + i) n) (place + (i + 1)) (summedPairs (drop (2 * (i + 1)) lengths))
+length-step l lengths place i n h e =
+    let at : place + (i + 1) ≡ suc (place + i) = omega arith in
+    ap (λ (ns : List ℕ). sets l (place + i) ns) (summed-drop lengths i n h e) ∙ rw at
+
+pub length-end : (l lengths : List ℕ) (place i : ℕ) → length lengths / 2 ≤ i → sets l place (summedPairs (drop (2 * i) lengths)) ≡ l
+length-end l lengths place i h = ap (λ (ns : List ℕ). sets l place ns) (summed-past lengths i h)
+
+-- one place more of the starts, and none left
+pub start-step : (l lengths : List ℕ) (place i start n : ℕ) → i < length lengths / 2 → n ≡ getD lengths (2 * i) 0 + getD lengths (2 * i + 1) 0
+    → sets l (place + i) (startsByLengths start (summedPairs (drop (2 * i) lengths)))
+    ≡ sets (set l (place + i) start) (place + (i + 1)) (startsByLengths (start + n) (summedPairs (drop (2 * (i + 1)) lengths)))
+unfolding startsByLengths
+start-step l lengths place i start n h e =
+    let at : place + (i + 1) ≡ suc (place + i) = omega arith in
+    ap (λ (ns : List ℕ). sets l (place + i) (startsByLengths start ns)) (summed-drop lengths i n h e) ∙ rw at
+
+pub start-end : (l lengths : List ℕ) (place i start : ℕ) → length lengths / 2 ≤ i
+    → sets l place (startsByLengths start (summedPairs (drop (2 * i) lengths))) ≡ l
+unfolding startsByLengths
+start-end l lengths place i start h = ap (λ (ns : List ℕ). sets l place (startsByLengths start ns)) (summed-past lengths i h)
 
 -- ---- lengths of names whose second part is empty
 

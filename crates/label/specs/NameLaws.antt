@@ -48,7 +48,7 @@ unfolding hashesOfLabels
 length-hashesOfLabels names = length-map names fnv
 
 -- the lengths from a place on are its name's two and those after it
-two-lengths : (lengths : List ℕ) (i : ℕ) → suc i < length lengths → drop i lengths ≡ getD lengths i 0 ∷ getD lengths (suc i) 0 ∷ drop (suc (suc i)) lengths
+pub two-lengths : (lengths : List ℕ) (i : ℕ) → suc i < length lengths → drop i lengths ≡ getD lengths i 0 ∷ getD lengths (suc i) 0 ∷ drop (suc (suc i)) lengths
 two-lengths lengths i h = drop-cons lengths i 0 (omega arith) ∙ ap (λ (l : List ℕ). getD lengths i 0 ∷ l) (drop-cons lengths (suc i) 0 h)
 
 -- the names from a place on: `first` and `second` are its name's two lengths, and its first part starts at `start`

@@ -1,11 +1,11 @@
 -- 02, K7: names in two parts, as an add brings them. 'In add the lengths list has two bytes a label, first part's then second's; 9 and 20 read the sum, and
 -- an odd list is 9.'
-use Prim.Native.Nat.{ℕ, _%_}
+use Prim.Native.Nat.{ℕ, _+_, _%_}
 use mathlib.Core.Bool.{Bool, _&&_}
 use mathlib.Core.List.{List, [], _∷_, _++_, map}
 use lib.Dec.{eqb}
 use lib.ListN.{length}
-use Rattle.lists.specs.Lists.{total, pieces}
+use Rattle.lists.specs.Lists.{total, pieces, joined}
 use Rattle.label.specs.Fnv.{fnv}
 
 -- two parts make a name: the first with the second after it; a part left over makes none
@@ -33,6 +33,32 @@ wholeLengths (n ∷ lengths) = n ∷ 0 ∷ wholeLengths lengths
 unfoldable pub hashesOfLabels : List (List ℕ) → List ℕ
 unfolding fnv
 hashesOfLabels names = map fnv names
+
+-- ---- label text. 02, K4: 'an entry also has its start, the bytes held before it, and its length'
+
+-- the start of each name: the bytes held before it, the first ones `held`
+unfoldable pub startsFrom : ℕ → List (List ℕ) → List ℕ
+startsFrom held [] = []
+startsFrom held (name ∷ names) = held ∷ startsFrom (held + length name) names
+
+-- the length of each
+unfoldable pub lengthsOfNames : List (List ℕ) → List ℕ
+lengthsOfNames names = map length names
+
+-- the bytes, name after name
+unfoldable pub bytesOfNames : List (List ℕ) → List ℕ
+unfolding joined
+bytesOfNames names = joined (λ name. name) names
+
+-- lengths and starts by the lengths list alone: two lengths a name, and a name starts where the one before it ends
+unfoldable pub summedPairs : List ℕ → List ℕ
+summedPairs [] = []
+summedPairs (first ∷ []) = []
+summedPairs (first ∷ second ∷ lengths) = (first + second) ∷ summedPairs lengths
+
+unfoldable pub startsByLengths : ℕ → List ℕ → List ℕ
+startsByLengths held [] = []
+startsByLengths held (n ∷ lengths) = held ∷ startsByLengths (held + n) lengths
 
 -- ---- the other way round: names that are parted somehow, and the lists of an add that brings them
 

@@ -1,9 +1,10 @@
--- Values beside document 01's trial echoes (those are crates/trial_table/specs/Table.antt): two of the published FNV-1a vectors, and names in two parts.
+-- Values beside document 01's trial echoes (those are crates/trial_table/specs/Table.antt): two of the published FNV-1a vectors, names in two parts,
+-- and their text.
 use mathlib.Core.Bool.{true, false}
 use mathlib.Core.List.{[], _∷_}
 use mathlib.Core.Path.{_≡_, refl, _∙_}
 use Rattle.label.specs.Fnv.{fnv}
-use Rattle.label.specs.Names.{namesOf, lengthsFit}
+use Rattle.label.specs.Names.{namesOf, lengthsFit, startsFrom, lengthsOfNames, bytesOfNames, summedPairs, startsByLengths}
 use Rattle.label.specs.FnvLaws.{fnv-computes, fnvBytes}
 
 -- The labels "a" and "foobar".
@@ -29,3 +30,15 @@ trial-lengths :
     × (lengthsFit [] 0 ≡ true)
 unfolding lengthsFit
 trial-lengths = (refl, refl, refl, refl, refl, refl, refl, refl)
+
+-- ---- label text
+
+-- the names `ab`, an empty one and `c`, with 5 bytes held; the same by their lengths, parted in two
+trial-text :
+    (startsFrom 5 ((97 ∷ 98 ∷ []) ∷ [] ∷ (99 ∷ []) ∷ []) ≡ 5 ∷ 7 ∷ 7 ∷ [])
+    × (lengthsOfNames ((97 ∷ 98 ∷ []) ∷ [] ∷ (99 ∷ []) ∷ []) ≡ 2 ∷ 0 ∷ 1 ∷ [])
+    × (bytesOfNames ((97 ∷ 98 ∷ []) ∷ [] ∷ (99 ∷ []) ∷ []) ≡ 97 ∷ 98 ∷ 99 ∷ [])
+    × (startsByLengths 5 (summedPairs (1 ∷ 1 ∷ 0 ∷ 0 ∷ 0 ∷ 1 ∷ [])) ≡ 5 ∷ 7 ∷ 7 ∷ [])
+    × (summedPairs (1 ∷ 1 ∷ 0 ∷ 0 ∷ 0 ∷ 1 ∷ []) ≡ 2 ∷ 0 ∷ 1 ∷ [])
+unfolding startsFrom lengthsOfNames bytesOfNames summedPairs startsByLengths
+trial-text = (refl, refl, refl, refl, refl)

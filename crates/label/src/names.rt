@@ -1,4 +1,4 @@
-// The names of an add, each in two parts: two lengths a name cut them from the label bytes.
+// The names of an add, each in two parts: two lengths a name cut them from the label bytes. Their hashes, and their text with its starts and lengths.
 ghost use mathlib.Core.Path.{_≡_};
 ghost use Prim.Native.Nat.{_+_, _-_, _*_, _/_, _≤_};
 ghost use lib.Dec.{eqb};
@@ -6,7 +6,7 @@ ghost use lib.ListN.{length};
 ghost use lib.Seq.{sets};
 ghost use Rattle.lists.specs.Lists.{part, total};
 ghost use Rattle.label.specs.Fnv.{fnv};
-ghost use Rattle.label.specs.Names.{namesOf, lengthsFit, hashesOfLabels, wholeLengths};
+ghost use Rattle.label.specs.Names.{namesOf, lengthsFit, hashesOfLabels, wholeLengths, summedPairs, startsByLengths};
 use crate::OFFSET_BASIS;
 use crate::hash_label;
 
@@ -69,6 +69,54 @@ pub fn write_hashes(hashes: &mut [u64], place: usize, lengths: &[u8], bytes: &[u
         let end = middle + wide(lengths[2 * i + 1]);
         hashes[place + i] = name_hash(bytes, start, end);
         start = end;
+        i += 1;
+    }
+}
+
+// The length of a name by those of its two parts.
+fn name_length(first: u8, second: u8) -> u32
+    ensures { λ r. ⌜ r ≡ first + second ⌝ }
+{
+    first as u32 + second as u32
+}
+
+// Writes where each name's text starts, `held` bytes standing before the first. A name starts where the one before it ended. Label text has at most
+// 4,177,920 bytes (02, K4), so a start fits 32 bits.
+pub fn write_starts(numbers: &mut [u32], place: usize, held: usize, lengths: &[u8])
+    requires { ⌜ (place + length (now lengths) / 2 ≤ length (now numbers)) × (held + total (now lengths) ≤ 4177920) ⌝ }
+    ensures { λ _. ⌜ now (numbers .exit) ≡ sets (now (numbers .entry)) place (startsByLengths held (summedPairs (now (lengths .entry)))) ⌝ }
+{
+    let labels = label_count(lengths);
+    let mut start = held;
+    let mut i = 0;
+    while i < labels {
+        numbers[place + i] = start as u32;
+        start += name_length(lengths[2 * i], lengths[2 * i + 1]) as usize;
+        i += 1;
+    }
+}
+
+// Writes each name's length.
+pub fn write_lengths(numbers: &mut [u32], place: usize, lengths: &[u8])
+    requires { ⌜ place + length (now lengths) / 2 ≤ length (now numbers) ⌝ }
+    ensures { λ _. ⌜ now (numbers .exit) ≡ sets (now (numbers .entry)) place (summedPairs (now (lengths .entry))) ⌝ }
+{
+    let labels = label_count(lengths);
+    let mut i = 0;
+    while i < labels {
+        numbers[place + i] = name_length(lengths[2 * i], lengths[2 * i + 1]);
+        i += 1;
+    }
+}
+
+// Writes the bytes of the names, which stand one behind the other as they came.
+pub fn write_text(text: &mut [u8], place: usize, bytes: &[u8])
+    requires { ⌜ place + length (now bytes) ≤ length (now text) ⌝ }
+    ensures { λ _. ⌜ now (text .exit) ≡ sets (now (text .entry)) place (now (bytes .entry)) ⌝ }
+{
+    let mut i = 0;
+    while i < bytes.len() {
+        text[place + i] = bytes[i];
         i += 1;
     }
 }

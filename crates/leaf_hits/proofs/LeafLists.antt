@@ -1,23 +1,21 @@
 -- Gathering the vectors of a leaf's list: one list after another, and what holds once the first j of its numbers were looked at. Assumes nothing.
-use Prim.Native.Nat.{ℕ, suc, _+_, _≤_, _<_}
+use Prim.Native.Nat.{ℕ, suc, _+_, _-_, _≤_, _<_}
 use native.Mathlib.Numerals.{add-one}
 use native.Mathlib.Omega.{arith}
 use mathlib.Core.Path.{_≡_, refl, sym, ap, ap₂, _∙_, subst}
 use mathlib.Core.Logic.{_⊎_, inl, inr}
 use mathlib.Core.Bool.{Bool, true, false, _&&_, cond}
 use mathlib.Core.List.{List, [], _∷_, _++_, map, map-append, map-id, append-assoc, append-nil}
-use lib.ListN.{length, getD, take, drop, set, length-append, length-set, take-append-drop}
+use lib.ListN.{length, getD, take, drop, set, length-append, length-map, length-set, take-append-drop}
 use lib.Dec.{ltb}
 use borrow.Author.Tests.{lt-ltb, le-ltb}
 use lib.Seq.{take-all, take-suc, drop-cons, take-set-le, take-suc-set}
 use Rattle.lists.specs.Lists.{part, keep}
-use Rattle.lists.specs.Parts.{length-part, getD-part}
-use Rattle.lists.specs.Counting.{keep-nil, keep-pass, keep-fail, keep-append, keep-all}
-use Rattle.walk.specs.Wanted.{passes, given}
+use Rattle.lists.specs.Parts.{length-part, getD-part, part-append-parts}
+use Rattle.lists.specs.Counting.{keep-nil, keep-pass, keep-fail, keep-append, keep-all, length-keep-le}
+use Rattle.walk.specs.Wanted.{all-vectors, with-label, passes, given}
 use Rattle.lists.specs.Tests.{which, and-false, allPass, allPass-nil, allPass-cons, allPass-append}
 use Rattle.store.specs.declared.Shape.{Shape}
-use Rattle.store.specs.Store.{ownersAt}
-use Rattle.walk.specs.declared.Wanted.the-variants.{Everything, Label}
 use Rattle.store.specs.declared.Counts.{Counts}
 use Rattle.leaf_hits.specs.declared.Added.{Added}
 use Rattle.leaf_hits.specs.declared.Added.the-variants as added
@@ -77,6 +75,12 @@ module _ (test wants : ℕ → Bool) (vector : ℕ → ℕ) (most : ℕ) where
         vectors = sym (append-nil (take before found)) ∙ ap (λ (n : List ℕ). take before found ++ n) (sym nothing);
       }
 
+  -- no more than there are numbers
+  pub gathered-few : (l : List ℕ) (before total : ℕ) (found found′ : List ℕ) → GatheredBy test wants vector most l before found total found′
+      → total ≤ before + length l
+  gathered-few l before total found found′ g =
+      omega (arith, g .count, length-map (keep wants l) vector, length-keep-le wants l)
+
   pub gathered-one : (x v total total′ : ℕ) (found found′ : List ℕ) → total < length found → test x ≡ true → v ≡ vector x → total′ ≡ total + cond (wants x) 1 0 → total′ ≤ most
       → found′ ≡ set found total v → GatheredBy test wants vector most (x ∷ []) total found total′ found′
   gathered-one x v total total′ found found′ room t e n few is = record {
@@ -119,6 +123,34 @@ module _ (test wants : ℕ → Bool) (vector : ℕ → ℕ) (most : ℕ) where
     gathers-append one found found₁ found₂ added.Damaged a b = damage-behind one found found₁ a b
     gathers-append one found found₁ found₂ (added.Hits two) a b = gathered-append one two found found₁ found₂ a b
 
+-- damage where more hits may be is damage where fewer may
+pub damage-fewer : (test wants : ℕ → Bool) (vector : ℕ → ℕ) (fewer most : ℕ) (l : List ℕ) (before : ℕ) → fewer ≤ most → GatherDamageBy test wants vector most l before
+    → GatherDamageBy test wants vector fewer l before
+damage-fewer test wants vector fewer most l before h (inl f) = inl f
+damage-fewer test wants vector fewer most l before h (inr over) = inr (omega (arith, h, over))
+
+-- ---- part of a block after another
+
+module _ (test wants : ℕ → Bool) (vector : ℕ → ℕ) (most : ℕ) (numbers : List ℕ) (start before : ℕ) where
+  -- of those read, and the n behind them
+  pub gathers-further : (read n one : ℕ) (found found₁ found₂ : List ℕ) (r : Added)
+      → GatheredBy test wants vector most (part start read numbers) before found one found₁
+      → GathersBy test wants vector most (part (start + read) n numbers) one found₁ r found₂
+      → GathersBy test wants vector most (part start (read + n) numbers) before found r found₂
+  gathers-further read n one found found₁ found₂ r a b =
+      subst (λ (l : List ℕ). GathersBy test wants vector most l before found r found₂) (part-append-parts start read n numbers)
+      (gathers-append test wants vector most (part start read numbers) (part (start + read) n numbers) before one found found₁ found₂ r a b)
+
+  -- damage in those read
+  pub damage-further : (read count : ℕ) → read ≤ count → GatherDamageBy test wants vector most (part start read numbers) before
+      → GatherDamageBy test wants vector most (part start count numbers) before
+  damage-further read count h d =
+      let left : ℕ = count - read in
+      let all : read + left ≡ count = omega (arith, h) in
+      subst (λ (l : List ℕ). GatherDamageBy test wants vector most l before)
+      (part-append-parts start read left numbers ∙ ap (λ (n : ℕ). part start n numbers) all)
+      (damage-append test wants vector most (part start read numbers) (part (start + read) left numbers) before d)
+
 -- ---- after the first j
 
 pub record Gathering (test wants : ℕ → Bool) (vector : ℕ → ℕ) (most : ℕ) (l : List ℕ) (before : ℕ) (found₀ : List ℕ) (j total : ℕ) (found : List ℕ) : Type 0 where
@@ -138,13 +170,13 @@ module _ (test wants : ℕ → Bool) (vector : ℕ → ℕ) (most : ℕ) (l : Li
 
   -- the next number passes, and its vector is written
   pub gather-next : (j total total′ x v : ℕ) (found : List ℕ) → Gathering test wants vector most l before found₀ j total found → j < length l
-      → most < length found₀ → getD l j 0 ≡ x → test x ≡ true → v ≡ vector x → total′ ≡ total + cond (wants x) 1 0 → total′ ≤ most
+      → total < length found → getD l j 0 ≡ x → test x ≡ true → v ≡ vector x → total′ ≡ total + cond (wants x) 1 0 → total′ ≤ most
       → Gathering test wants vector most l before found₀ (j + 1) total′ (set found total v)
   gather-next j total total′ x v found g h room at t e n few = record {
     so-far = subst (λ (k : List ℕ). GatheredBy test wants vector most k before found₀ total′ (set found total v))
         (sym (next j h ∙ ap (λ (y : ℕ). take j l ++ (y ∷ [])) at))
         (gathered-append test wants vector most (take j l) (x ∷ []) before total total′ found₀ found (set found total v) (g .so-far)
-        (gathered-one test wants vector most x v total total′ found (set found total v) (omega (arith, g .so-far .few, room, g .size)) t e n few refl));
+        (gathered-one test wants vector most x v total total′ found (set found total v) room t e n few refl));
     size = length-set found total v ∙ g .size;
   }
 
@@ -190,15 +222,14 @@ pub block-room : (numbers : List ℕ) (start count j : ℕ) → start + count �
 block-room numbers start count j room h = rw (length-part start count numbers room) h
 
 -- either list, in the words of `add_hits`
-pub as-everything : (s : Shape) (c : Counts) (numbers hashes l : List ℕ) (before : ℕ) (found : List ℕ) (r : Added) (found′ : List ℕ)
-    → AddedVectors c l before found r found′ → AddedHits s c numbers hashes Everything l before found r found′
+pub as-everything : (s : Shape) (c : Counts) (numbers hashes text l : List ℕ) (before : ℕ) (found : List ℕ) (r : Added) (found′ : List ℕ)
+    → AddedVectors c l before found r found′ → AddedHits s c numbers hashes text all-vectors l before found r found′
 unfolding passes given
-as-everything s c numbers hashes l before found r found′ a =
+as-everything s c numbers hashes text l before found r found′ a =
     subst (λ (new : List ℕ). Gathers (allPass (λ x. ltb x (c .vectors)) l) new (c .vectors) before found r found′)
     (ap (map (λ x. x)) (keep-all (λ x. true) l (λ x m. refl)) ∙ map-id l) a
 
-pub as-label : (s : Shape) (c : Counts) (numbers hashes : List ℕ) (hash owners : ℕ) (l : List ℕ) (before : ℕ) (found : List ℕ) (r : Added) (found′ : List ℕ)
-    → owners ≡ ownersAt s → AddedEntries c numbers hashes hash owners l before found r found′ → AddedHits s c numbers hashes (Label hash) l before found r found′
-unfolding passes given
-as-label s c numbers hashes hash owners l before found r found′ e a =
-    subst (λ (n : ℕ). AddedEntries c numbers hashes hash n l before found r found′) e a
+pub as-label : (s : Shape) (c : Counts) (numbers hashes text : List ℕ) (hash : ℕ) (name l : List ℕ) (before : ℕ) (found : List ℕ) (r : Added) (found′ : List ℕ)
+    → AddedEntries s c numbers hashes text hash name l before found r found′ → AddedHits s c numbers hashes text (with-label hash name) l before found r found′
+unfolding given
+as-label s c numbers hashes text hash name l before found r found′ a = a

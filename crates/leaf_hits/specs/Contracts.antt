@@ -4,16 +4,15 @@ use mathlib.Core.Path.{_≡_}
 use mathlib.Core.Logic.{_⊎_}
 use mathlib.Core.Bool.{Bool, true, false, _&&_}
 use mathlib.Core.List.{List, _++_, map}
-use lib.Dec.{ltb, eqb}
+use lib.Dec.{leb, ltb, eqb}
 use lib.ListN.{length, getD, take}
-use Rattle.walk.specs.StoreView.{entriesIn}
-use Rattle.lists.specs.Lists.{keep}
+use Rattle.walk.specs.StoreView.{entriesIn, endIn}
+use Rattle.lists.specs.Lists.{part, keep, sameList}
 use Rattle.lists.specs.Tests.{allPass}
 use Rattle.store.specs.declared.Shape.{Shape}
 use Rattle.store.specs.declared.Counts.{Counts}
-use Rattle.store.specs.Store.{CountsWithin, numbersSize, hashesSize}
-use Rattle.walk.specs.declared.Wanted.{Wanted}
-use Rattle.walk.specs.Wanted.{passes, given, most}
+use Rattle.store.specs.Store.{CountsWithin, ownersAt, numbersSize, hashesSize, entryName}
+use Rattle.walk.specs.Wanted.{Sought, with-label, passes, isLabels, given, most}
 use Rattle.leaf_hits.specs.declared.Added.{Added}
 use Rattle.leaf_hits.specs.declared.Added.the-variants as added
 
@@ -27,23 +26,40 @@ pub record AddHits (numbers found : List ℕ) (before most start count : ℕ) : 
   pub few : before ≤ most
   pub room : most < length found
 
--- `add_entries` and `add_rest` want the owners from a place on, and the hashes, beside
-pub record AddEntries (c : Counts) (numbers hashes found : List ℕ) (owners before start count : ℕ) : Type 0 where
-  pub owners-held : owners + c .entries ≤ length numbers
-  pub hashes-held : c .entries ≤ length hashes
-  pub hits : AddHits numbers found before (c .entries) start count
-
--- `add_four` wants room for four more hits
-pub record AddFour (c : Counts) (numbers hashes found : List ℕ) (owners before at : ℕ) : Type 0 where
-  pub entries : AddEntries c numbers hashes found owners before at 4
-  pub four : before + 4 ≤ c .entries
-
--- `add_hits` wants a store's numbers and hashes
-pub record AddLent (s : Shape) (c : Counts) (numbers hashes found : List ℕ) (wanted : Wanted) (before start count : ℕ) : Type 0 where
+-- `add_hits` wants a store's numbers, hashes and label text
+pub record AddLent (s : Shape) (c : Counts) (numbers hashes text found : List ℕ) (wanted : Sought) (before start count : ℕ) : Type 0 where
   pub within : CountsWithin s c
   pub numbers-size : numbersSize s ≤ length numbers
   pub hashes-size : hashesSize s ≤ length hashes
+  pub text-size : s .text ≤ length text
   pub hits : AddHits numbers found before (most wanted c) start count
+
+-- `add_chunk` wants room for every number of the block beside
+pub record ChunkLent (s : Shape) (c : Counts) (numbers hashes text found : List ℕ) (before start count : ℕ) : Type 0 where
+  pub within : CountsWithin s c
+  pub numbers-size : numbersSize s ≤ length numbers
+  pub hashes-size : hashesSize s ≤ length hashes
+  pub text-size : s .text ≤ length text
+  pub block : start + count ≤ length numbers
+  pub few : before + count ≤ c .entries + 1
+  pub room : c .entries < length found
+
+-- `gather_entries`, `gather_four` and `gather_rest` want the owners from a place on, and the hashes
+pub record GatherLent (c : Counts) (numbers hashes found : List ℕ) (owners before start count : ℕ) : Type 0 where
+  pub owners-held : owners + c .entries ≤ length numbers
+  pub hashes-held : c .entries ≤ length hashes
+  pub block : start + count ≤ length numbers
+  pub few : before + count ≤ c .entries + 1
+  pub room : c .entries < length found
+
+-- `keep_named` wants entries that are held, behind the numbers before
+pub record KeepLent (s : Shape) (c : Counts) (numbers text found : List ℕ) (before count : ℕ) : Type 0 where
+  pub within : CountsWithin s c
+  pub numbers-size : numbersSize s ≤ length numbers
+  pub text-size : s .text ≤ length text
+  pub few : before + count ≤ c .entries + 1
+  pub room : c .entries < length found
+  pub held : allPass (λ x. ltb x (c .entries)) (part before count found) ≡ true
 
 -- Numbers of vectors were added behind those before, where a list was sound
 pub record Gathered (sound : Bool) (new : List ℕ) (most before : ℕ) (found : List ℕ) (total : ℕ) (found′ : List ℕ) : Type 0 where
@@ -70,15 +86,27 @@ GatherDamageBy test wants vector most l before = GatherDamage (allPass test l) (
 abbrev pub GathersBy : (ℕ → Bool) → (ℕ → Bool) → (ℕ → ℕ) → ℕ → List ℕ → ℕ → List ℕ → Added → List ℕ → Type 0
 GathersBy test wants vector most l before found r found′ = Gathers (allPass test l) (newVectors wants vector l) most before found r found′
 
--- every vector of a leaf's list; the owners of its entries of a hash; and what is wanted
+-- every vector of a leaf's list
 abbrev pub AddedVectors : Counts → List ℕ → ℕ → List ℕ → Added → List ℕ → Type 0
 AddedVectors c l before found r found′ = GathersBy (λ x. ltb x (c .vectors)) (λ x. true) (λ x. x) (c .vectors) l before found r found′
 
-abbrev pub AddedEntries : Counts → List ℕ → List ℕ → ℕ → ℕ → List ℕ → ℕ → List ℕ → Added → List ℕ → Type 0
-AddedEntries c numbers hashes hash owners l before found r found′ =
-    GathersBy (λ x. ltb x (c .entries) && ltb (getD numbers (owners + x) 0) (c .vectors)) (λ x. eqb (getD hashes x 0) hash)
-    (λ x. getD numbers (owners + x) 0) (c .entries) l before found r found′
+-- the entries of a hash, where there is room for one more than there can be hits
+abbrev pub GathersHash : Counts → List ℕ → List ℕ → ℕ → ℕ → List ℕ → ℕ → List ℕ → Added → List ℕ → Type 0
+GathersHash c numbers hashes hash owners l before found r found′ =
+    GathersBy (λ x. ltb x (c .entries) && ltb (getD numbers (owners + x) 0) (c .vectors)) (λ x. eqb (getD hashes x 0) hash) (λ x. x) (c .entries + 1) l before found r found′
 
-abbrev pub AddedHits : Shape → Counts → List ℕ → List ℕ → Wanted → List ℕ → ℕ → List ℕ → Added → List ℕ → Type 0
-AddedHits s c numbers hashes wanted l before found r found′ =
-    Gathers (allPass (passes wanted c (entriesIn s numbers hashes)) l) (given wanted (entriesIn s numbers hashes) l) (most wanted c) before found r found′
+-- of such entries, the owners of those with a name
+abbrev pub KeepsNamed : Shape → Counts → List ℕ → List ℕ → List ℕ → List ℕ → ℕ → List ℕ → Added → List ℕ → Type 0
+KeepsNamed s c numbers text name l before found r found′ =
+    GathersBy (λ x. leb (endIn s numbers x) (c .bytes)) (λ x. sameList (entryName s numbers text x) name) (λ x. getD numbers (ownersAt s + x) 0) (c .entries) l before found r found′
+
+-- the owners of a label's entries
+abbrev pub AddedEntries : Shape → Counts → List ℕ → List ℕ → List ℕ → ℕ → List ℕ → List ℕ → ℕ → List ℕ → Added → List ℕ → Type 0
+AddedEntries s c numbers hashes text hash name l before found r found′ =
+    GathersBy (passes (with-label hash name) c (entriesIn s numbers hashes text) (endIn s numbers)) (isLabels (entriesIn s numbers hashes text) hash name)
+    (λ x. getD numbers (ownersAt s + x) 0) (c .entries) l before found r found′
+
+-- what is wanted
+abbrev pub AddedHits : Shape → Counts → List ℕ → List ℕ → List ℕ → Sought → List ℕ → ℕ → List ℕ → Added → List ℕ → Type 0
+AddedHits s c numbers hashes text wanted l before found r found′ =
+    Gathers (allPass (passes wanted c (entriesIn s numbers hashes text) (endIn s numbers)) l) (given wanted (entriesIn s numbers hashes text) l) (most wanted c) before found r found′

@@ -8,14 +8,13 @@ use Rattle.lists.specs.Tests.{allPass}
 use Rattle.store.specs.declared.Shape.{Shape}
 use Rattle.store.specs.declared.Counts.{Counts}
 use Rattle.store.specs.Lent.{storeOf}
-use Rattle.walk.specs.declared.Wanted.{Wanted}
 use Rattle.walk.specs.Walk.{hits, damage}
-use Rattle.walk.specs.Wanted.{passes, given}
-use Rattle.walk.specs.StoreView.{hitAt, listShown, entriesIn}
+use Rattle.walk.specs.Wanted.{Sought, passes, given}
+use Rattle.walk.specs.StoreView.{hitAt, listShown, entriesIn, endIn}
 
 -- what a leaf's list shows: hits of the vectors that it gives, if all its numbers pass
-pub list-shown : (s : Shape) (c : Counts) (floats : List Float) (numbers hashes : List ℕ) (query : List Float) (wanted : Wanted) (l : List ℕ)
-    → listShown s c (storeOf floats numbers hashes) query wanted l
-    ≡ cond (allPass (passes wanted c (entriesIn s numbers hashes)) l) (hits (map (hitAt s floats numbers query) (given wanted (entriesIn s numbers hashes) l))) damage
+pub list-shown : (s : Shape) (c : Counts) (floats : List Float) (numbers hashes text : List ℕ) (query : List Float) (wanted : Sought) (l : List ℕ)
+    → listShown s c (storeOf floats numbers hashes text) query wanted l
+    ≡ cond (allPass (passes wanted c (entriesIn s numbers hashes text) (endIn s numbers)) l) (hits (map (hitAt s floats numbers query) (given wanted (entriesIn s numbers hashes text) l))) damage
 unfolding listShown
-list-shown s c floats numbers hashes query wanted l = refl
+list-shown s c floats numbers hashes text query wanted l = refl

@@ -1,16 +1,18 @@
-// The vectors that a leaf's list is about are added to those found (document 01, 'Search').
+// The vectors that a leaf's list is about are added to those found (documents 01, 'Search', and 02, K4).
 use store::Counts;
 use store::Shape;
 use store::wide;
 use walk::Wanted;
 use walk::look::Block;
 ghost use mathlib.Core.Path.{_≡_};
-ghost use Prim.Native.Nat.{_+_, _<_, _≤_};
+ghost use Prim.Native.Nat.{_+_, _^_, _<_, _≤_, min};
 ghost use lib.ListN.{length, getD, set};
-ghost use Rattle.lists.specs.Lists.{part};
+ghost use Rattle.lists.specs.Lists.{part, sameList};
 ghost use lib.Dec.{eqb, ltb};
 ghost use mathlib.Core.Bool.{_&&_, cond};
-ghost use Rattle.leaf_hits.specs.Contracts.{AddHits, AddEntries, AddFour, AddLent, AddedVectors, AddedEntries, AddedHits};
+ghost use mathlib.Core.List.{_++_};
+ghost use Rattle.walk.specs.Wanted.{sought, with-label};
+ghost use Rattle.leaf_hits.specs.Contracts.{AddHits, AddLent, GatherLent, KeepLent, ChunkLent, AddedVectors, GathersHash, KeepsNamed, AddedEntries, AddedHits};
 
 // The vectors found after those of a leaf, or damage.
 pub enum Added {
@@ -71,28 +73,31 @@ fn all_below(bound: usize, a: usize, b: usize, c: usize, d: usize) -> bool
     (a < bound) & ((b < bound) & ((c < bound) & (d < bound)))
 }
 
-// Writes an entry's owner behind the vectors found, and counts it if the entry has a hash. An owner that is not counted is written over by the next.
-fn write_owner(
-    hashes: &[u64],
-    found: &mut [u32],
-    total: usize,
-    hash: u64,
-    entry: usize,
-    owner: u32,
-) -> usize
+// The smaller of two numbers.
+fn smaller(a: usize, b: usize) -> usize
+    ensures { λ r. ⌜ r ≡ min a b ⌝ }
+{
+    if a < b {
+        return a;
+    }
+    b
+}
+
+// Writes an entry's number behind those before, and counts it if the entry has a hash. A number that is not counted is written over by the next.
+fn write_entry(hashes: &[u64], found: &mut [u32], total: usize, hash: u64, entry: usize) -> usize
     requires { ⌜ entry < length (now hashes) ⌝ }
+    requires { ⌜ entry < 2 ^ 32 ⌝ }
     requires { ⌜ total < length (now found) ⌝ }
     ensures { λ r. ⌜ r ≡ total + cond (eqb (getD (now (hashes .entry)) entry 0) hash) 1 0 ⌝ }
     ensures { λ r. ⌜ r ≤ total + 1 ⌝ }
-    ensures { λ r. ⌜ now (found .exit) ≡ set (now (found .entry)) total owner ⌝ }
+    ensures { λ r. ⌜ now (found .exit) ≡ set (now (found .entry)) total entry ⌝ }
 {
-    found[total] = owner;
+    found[total] = entry as u32;
     total + same(hashes[entry], hash)
 }
 
-// Adds the owners of the four entries whose numbers stand at a place, those that have a hash. There is room for four more hits, so that none is one
-// too many.
-fn add_four(
+// Gathers those of four entries, whose numbers stand at a place, that have a hash.
+fn gather_four(
     counts: Counts,
     numbers: &[u32],
     hashes: &[u64],
@@ -102,8 +107,8 @@ fn add_four(
     owners_at: usize,
     at: usize,
 ) -> Added
-    requires { ⌜ AddFour counts (now numbers) (now hashes) (now found) «owners_at» before at ⌝ }
-    ensures { λ r. ⌜ AddedEntries counts (now (numbers .entry)) (now (hashes .entry)) hash «owners_at» (part at 4 (now (numbers .entry))) before (now (found .entry)) r (now (found .exit)) ⌝ }
+    requires { ⌜ GatherLent counts (now numbers) (now hashes) (now found) «owners_at» before at 4 ⌝ }
+    ensures { λ r. ⌜ GathersHash counts (now (numbers .entry)) (now (hashes .entry)) hash «owners_at» (part at 4 (now (numbers .entry))) before (now (found .entry)) r (now (found .exit)) ⌝ }
 {
     let a = wide(numbers[at]);
     let b = wide(numbers[at + 1]);
@@ -112,27 +117,21 @@ fn add_four(
     if !all_below(counts.entries, a, b, c, d) {
         return Added::Damaged;
     }
-    let a_owner = numbers[owners_at + a];
-    let b_owner = numbers[owners_at + b];
-    let c_owner = numbers[owners_at + c];
-    let d_owner = numbers[owners_at + d];
-    if !all_below(
-        counts.vectors,
-        wide(a_owner),
-        wide(b_owner),
-        wide(c_owner),
-        wide(d_owner),
-    ) {
+    let a_owner = wide(numbers[owners_at + a]);
+    let b_owner = wide(numbers[owners_at + b]);
+    let c_owner = wide(numbers[owners_at + c]);
+    let d_owner = wide(numbers[owners_at + d]);
+    if !all_below(counts.vectors, a_owner, b_owner, c_owner, d_owner) {
         return Added::Damaged;
     }
-    let one = write_owner(hashes, found, before, hash, a, a_owner);
-    let two = write_owner(hashes, found, one, hash, b, b_owner);
-    let three = write_owner(hashes, found, two, hash, c, c_owner);
-    Added::Hits(write_owner(hashes, found, three, hash, d, d_owner))
+    let one = write_entry(hashes, found, before, hash, a);
+    let two = write_entry(hashes, found, one, hash, b);
+    let three = write_entry(hashes, found, two, hash, c);
+    Added::Hits(write_entry(hashes, found, three, hash, d))
 }
 
 // The same for as many entries as there are numbers from a place on, one at a time.
-fn add_rest(
+fn gather_rest(
     counts: Counts,
     numbers: &[u32],
     hashes: &[u64],
@@ -143,8 +142,8 @@ fn add_rest(
     start: usize,
     count: usize,
 ) -> Added
-    requires { ⌜ AddEntries counts (now numbers) (now hashes) (now found) «owners_at» before start count ⌝ }
-    ensures { λ r. ⌜ AddedEntries counts (now (numbers .entry)) (now (hashes .entry)) hash «owners_at» (part start count (now (numbers .entry))) before (now (found .entry)) r (now (found .exit)) ⌝ }
+    requires { ⌜ GatherLent counts (now numbers) (now hashes) (now found) «owners_at» before start count ⌝ }
+    ensures { λ r. ⌜ GathersHash counts (now (numbers .entry)) (now (hashes .entry)) hash «owners_at» (part start count (now (numbers .entry))) before (now (found .entry)) r (now (found .exit)) ⌝ }
 {
     let mut total = before;
     let mut j = 0;
@@ -159,24 +158,20 @@ fn add_rest(
             end = Added::Damaged;
             break;
         }
-        let owner = numbers[owners_at + entry];
-        if counts.vectors <= wide(owner) {
+        let owner = wide(numbers[owners_at + entry]);
+        if counts.vectors <= owner {
             end = Added::Damaged;
             break;
         }
-        found[total] = owner;
+        found[total] = entry as u32;
         total += same(hashes[entry], hash);
-        if counts.entries < total {
-            end = Added::Damaged;
-            break;
-        }
         j += 1;
     }
     end
 }
 
-// Adds the owners of the entries of a leaf's list that have a hash to the vectors found, four at a time. Every entry is checked, whatever its hash.
-fn add_entries(
+// Gathers the entries of a list that have a hash behind the numbers before, four at a time. Every entry is checked, whatever its hash.
+fn gather_entries(
     counts: Counts,
     numbers: &[u32],
     hashes: &[u64],
@@ -187,8 +182,8 @@ fn add_entries(
     start: usize,
     count: usize,
 ) -> Added
-    requires { ⌜ AddEntries counts (now numbers) (now hashes) (now found) «owners_at» before start count ⌝ }
-    ensures { λ r. ⌜ AddedEntries counts (now (numbers .entry)) (now (hashes .entry)) hash «owners_at» (part start count (now (numbers .entry))) before (now (found .entry)) r (now (found .exit)) ⌝ }
+    requires { ⌜ GatherLent counts (now numbers) (now hashes) (now found) «owners_at» before start count ⌝ }
+    ensures { λ r. ⌜ GathersHash counts (now (numbers .entry)) (now (hashes .entry)) hash «owners_at» (part start count (now (numbers .entry))) before (now (found .entry)) r (now (found .exit)) ⌝ }
 {
     let mut total = before;
     let mut read = 0;
@@ -196,8 +191,8 @@ fn add_entries(
     loop {
         let at = start + read;
         let left = count - read;
-        if (left < 4) | (counts.entries < total + 4) {
-            end = add_rest(
+        if left < 4 {
+            end = gather_rest(
                 counts,
                 numbers,
                 hashes,
@@ -210,7 +205,7 @@ fn add_entries(
             );
             break;
         }
-        match add_four(counts, numbers, hashes, found, total, hash, owners_at, at) {
+        match gather_four(counts, numbers, hashes, found, total, hash, owners_at, at) {
             Added::Damaged => {
                 end = Added::Damaged;
                 break;
@@ -224,38 +219,228 @@ fn add_entries(
     end
 }
 
-// Adds the vectors that a leaf's list is about, and that have what is wanted, to those found. A number that does not pass, or one hit too many, is
-// damage.
+// Whether the bytes from a place on are those of a name.
+fn same_bytes(text: &[u8], start: usize, name: &[u8]) -> bool
+    requires { ⌜ start + length (now name) ≤ length (now text) ⌝ }
+    ensures { λ r. ⌜ r ≡ sameList (part start (length (now (name .entry))) (now (text .entry))) (now (name .entry)) ⌝ }
+{
+    let mut j = 0;
+    let end: bool;
+    loop {
+        if j == name.len() {
+            end = true;
+            break;
+        }
+        if text[start + j] != name[j] {
+            end = false;
+            break;
+        }
+        j += 1;
+    }
+    end
+}
+
+// 1 if the bytes of a part of the text are a name, which is given in two parts, otherwise 0.
+fn named(text: &[u8], start: usize, size: usize, first: &[u8], second: &[u8]) -> usize
+    requires { ⌜ start + size ≤ length (now text) ⌝ }
+    ensures { λ r. ⌜ (r ≡ cond (sameList (part start size (now (text .entry))) (now (first .entry) ++ now (second .entry))) 1 0) × (r ≤ 1) ⌝ }
+{
+    if size < first.len() {
+        return 0;
+    }
+    if size - first.len() != second.len() {
+        return 0;
+    }
+    if !same_bytes(text, start, first) {
+        return 0;
+    }
+    if !same_bytes(text, start + first.len(), second) {
+        return 0;
+    }
+    1
+}
+
+// Of the entries gathered behind the numbers before, keeps the owners of those that have a name. An entry whose bytes are not all held is damage, and so
+// is one hit too many. An owner is written where an entry stood that was read.
+fn keep_named(
+    shape: Shape,
+    counts: Counts,
+    numbers: &[u32],
+    text: &[u8],
+    found: &mut [u32],
+    before: usize,
+    count: usize,
+    first: &[u8],
+    second: &[u8],
+) -> Added
+    requires { ⌜ KeepLent shape counts (now numbers) (now text) (now found) before count ⌝ }
+    ensures { λ r. ⌜ KeepsNamed shape counts (now (numbers .entry)) (now (text .entry)) (now (first .entry) ++ now (second .entry)) (part before count (now (found .entry))) before (now (found .entry)) r (now (found .exit)) ⌝ }
+{
+    let owners_at = shape.owners_at();
+    let starts_at = shape.starts_at();
+    let lengths_at = shape.lengths_at();
+    let bytes = counts.bytes;
+    let mut kept = before;
+    let mut j = 0;
+    let end: Added;
+    loop {
+        if j == count {
+            if counts.entries < kept {
+                end = Added::Damaged;
+                break;
+            }
+            end = Added::Hits(kept);
+            break;
+        }
+        let entry = wide(found[before + j]);
+        let start = wide(numbers[starts_at + entry]);
+        let size = wide(numbers[lengths_at + entry]);
+        if bytes < start + size {
+            end = Added::Damaged;
+            break;
+        }
+        found[kept] = numbers[owners_at + entry];
+        kept += named(text, start, size, first, second);
+        j += 1;
+    }
+    end
+}
+
+// Adds the owners of the entries of a list that have a hash and a name to the vectors found, where there is room for every number of the list.
+fn add_chunk(
+    shape: Shape,
+    counts: Counts,
+    numbers: &[u32],
+    hashes: &[u64],
+    text: &[u8],
+    found: &mut [u32],
+    before: usize,
+    hash: u64,
+    first: &[u8],
+    second: &[u8],
+    start: usize,
+    count: usize,
+) -> Added
+    requires { ⌜ ChunkLent shape counts (now numbers) (now hashes) (now text) (now found) before start count ⌝ }
+    ensures { λ r. ⌜ AddedEntries shape counts (now (numbers .entry)) (now (hashes .entry)) (now (text .entry)) hash (now (first .entry) ++ now (second .entry)) (part start count (now (numbers .entry))) before (now (found .entry)) r (now (found .exit)) ⌝ }
+{
+    let owners_at = shape.owners_at();
+    match gather_entries(
+        counts,
+        numbers,
+        hashes,
+        found,
+        before,
+        hash,
+        owners_at,
+        start,
+        count,
+    ) {
+        Added::Damaged => Added::Damaged,
+        Added::Hits(end) => keep_named(
+            shape,
+            counts,
+            numbers,
+            text,
+            found,
+            before,
+            end - before,
+            first,
+            second,
+        ),
+    }
+}
+
+// The same for any list, in as many chunks as the room asks for: one, unless the list has more entries than there can be hits.
+fn add_entries(
+    shape: Shape,
+    counts: Counts,
+    numbers: &[u32],
+    hashes: &[u64],
+    text: &[u8],
+    found: &mut [u32],
+    before: usize,
+    hash: u64,
+    first: &[u8],
+    second: &[u8],
+    start: usize,
+    count: usize,
+) -> Added
+    requires { ⌜ AddLent shape counts (now numbers) (now hashes) (now text) (now found) (with-label hash (now first ++ now second)) before start count ⌝ }
+    ensures { λ r. ⌜ AddedEntries shape counts (now (numbers .entry)) (now (hashes .entry)) (now (text .entry)) hash (now (first .entry) ++ now (second .entry)) (part start count (now (numbers .entry))) before (now (found .entry)) r (now (found .exit)) ⌝ }
+{
+    let mut total = before;
+    let mut read = 0;
+    let end: Added;
+    loop {
+        if read == count {
+            end = Added::Hits(total);
+            break;
+        }
+        let at = start + read;
+        let chunk = smaller(count - read, counts.entries + 1 - total);
+        match add_chunk(
+            shape,
+            counts,
+            numbers,
+            hashes,
+            text,
+            found,
+            total,
+            hash,
+            first,
+            second,
+            at,
+            chunk,
+        ) {
+            Added::Damaged => {
+                end = Added::Damaged;
+                break;
+            }
+            Added::Hits(more) => {
+                total = more;
+                read += chunk;
+            }
+        }
+    }
+    end
+}
+
+// Adds the vectors that a leaf's list is about, and that have what is wanted, to those found. A label's bytes are given in two parts. A number that does
+// not pass, or one hit too many, is damage.
 pub fn add_hits(
     shape: Shape,
     counts: Counts,
     numbers: &[u32],
     hashes: &[u64],
+    text: &[u8],
     found: &mut [u32],
     before: usize,
     wanted: Wanted,
+    first: &[u8],
+    second: &[u8],
     block: Block,
 ) -> Added
-    requires { ⌜ AddLent shape counts (now numbers) (now hashes) (now found) wanted before (block .start) (block .count) ⌝ }
-    ensures { λ r. ⌜ AddedHits shape counts (now (numbers .entry)) (now (hashes .entry)) wanted (part (block .start) (block .count) (now (numbers .entry))) before (now (found .entry)) r (now (found .exit)) ⌝ }
+    requires { ⌜ AddLent shape counts (now numbers) (now hashes) (now text) (now found) (sought wanted (now first) (now second)) before (block .start) (block .count) ⌝ }
+    ensures { λ r. ⌜ AddedHits shape counts (now (numbers .entry)) (now (hashes .entry)) (now (text .entry)) (sought wanted (now (first .entry)) (now (second .entry))) (part (block .start) (block .count) (now (numbers .entry))) before (now (found .entry)) r (now (found .exit)) ⌝ }
 {
     let start = block.start;
     let count = block.count;
     match wanted {
         Wanted::Everything => add_vectors(counts, numbers, found, before, start, count),
-        Wanted::Label(hash) => {
-            let owners_at = shape.owners_at();
-            add_entries(
-                counts,
-                numbers,
-                hashes,
-                found,
-                before,
-                hash,
-                owners_at,
-                start,
-                count,
-            )
-        }
+        Wanted::Label(hash) => add_entries(
+            shape,
+            counts,
+            numbers,
+            hashes,
+            text,
+            found,
+            before,
+            hash,
+            first,
+            second,
+            start,
+            count,
+        ),
     }
 }

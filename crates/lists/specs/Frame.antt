@@ -73,6 +73,11 @@ abbrev pub From : ℕ → List Part → Type 0
 From n [] = Unit {0}
 From n (p ∷ parts) = (n ≤ p .start) × From n parts
 
+-- every part ends at or before a place
+abbrev pub Before : ℕ → List Part → Type 0
+Before n [] = Unit {0}
+Before n (p ∷ parts) = (p .start + p .count ≤ n) × Before n parts
+
 module _ {ℓ} {A : Type ℓ} where
   pub freed-length : (parts : List Part) (before after : List A) → Freed parts before after → length before ≡ length after
   unfolding Freed
@@ -85,6 +90,12 @@ module _ {ℓ} {A : Type ℓ} where
   freed-take n [] before after h f = ap (take n) (sym f)
   freed-take n (p ∷ parts) before after h f =
       sym (take-sets n before (p .start) (f .0) (h .0)) ∙ freed-take n parts (sets before (p .start) (f .0)) after (h .1) (f .2)
+
+  pub freed-drop : (n : ℕ) (parts : List Part) (before after : List A) → Before n parts → Freed parts before after → drop n before ≡ drop n after
+  unfolding Freed
+  freed-drop n [] before after h f = ap (drop n) (sym f)
+  freed-drop n (p ∷ parts) before after h f =
+      sym (drop-sets n before (p .start) (f .0) (let e = f .1 in let k = h .0 in omega arith)) ∙ freed-drop n parts (sets before (p .start) (f .0)) after (h .1) (f .2)
 
   -- any list can be left so
   pub freed : (x : A) (parts : List Part) (before : List A) → (after : List A) × Freed parts before after

@@ -7,4 +7,5 @@ pub mod Writes
 pub mod Maps
 pub mod Counting
 pub mod Suffix
+pub mod Same
 pub mod Partition

@@ -1,6 +1,6 @@
 -- Small functions on lists that the definitions of several crates are written with.
 use Prim.Native.Nat.{ℕ, zero, suc, _+_}
-use mathlib.Core.Bool.{Bool, true, false, cond}
+use mathlib.Core.Bool.{Bool, true, false, _&&_, cond}
 use mathlib.Core.List.{List, [], _∷_, _++_}
 use lib.ListN.{take, drop}
 use lib.Dec.{eqb}
@@ -39,3 +39,10 @@ countFrom i (suc n) = i ∷ countFrom (suc i) n
 unfoldable pub isIn : ℕ → List ℕ → Bool
 isIn x [] = false
 isIn x (y ∷ ys) = let later = isIn x ys in cond (eqb x y) true later
+
+-- whether two lists are the same, element by element, and equally long
+unfoldable pub sameList : List ℕ → List ℕ → Bool
+sameList [] [] = true
+sameList [] (y ∷ ys) = false
+sameList (x ∷ xs) [] = false
+sameList (x ∷ xs) (y ∷ ys) = eqb x y && sameList xs ys

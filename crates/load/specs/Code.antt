@@ -33,9 +33,9 @@ use Rattle.load.specs.File.{floats}
 use Rattle.load.specs.Step.{LoadLists, known, addedBy, SearchesBuilt, searchWith, CarriesRead}
 
 -- the lists that a step is lent
-abbrev pub lists : RefT (List Float) → RefT (List ℕ) → RefT (List ℕ) → RefT (List ℕ) → RefT (List ℕ) → RefT (List Float) → LoadLists
-lists floats numbers hashes work ids distances =
-    record { store = store.lent floats numbers hashes; work = now work; ids = now ids; distances = now distances }
+abbrev pub lists : RefT (List Float) → RefT (List ℕ) → RefT (List ℕ) → RefT (List ℕ) → RefT (List ℕ) → RefT (List ℕ) → RefT (List Float) → LoadLists
+lists floats numbers hashes labels work ids distances =
+    record { store = store.lent floats numbers hashes labels; work = now work; ids = now ids; distances = now distances }
 
 -- what a search asks for: a label where it is filtered
 abbrev pub askedFor : Bool → List ℕ → Asked

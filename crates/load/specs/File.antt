@@ -33,9 +33,9 @@ use Rattle.text.specs.Lines.{hitLines, closingLine, refusedLine}
 
 -- ---- what the program lends
 
--- 'V 128, E 256, M 512'
+-- 'V 128, E 256, M 512', and label text of 65,280 bytes (02, K4)
 abbrev pub capacities : Capacities
-capacities = record { vectors = 128; entries = 256; nodes = 512 }
+capacities = record { vectors = 128; entries = 256; nodes = 512; text = 65280 }
 
 -- 'answer lists of 256 places'
 abbrev pub answerPlaces : ℕ
@@ -43,7 +43,7 @@ answerPlaces = 256
 
 -- the largest D and B that a file may ask for
 abbrev pub largest : Shape
-largest = record { dimension = 16; branching = 64; vectors = 128; entries = 256; nodes = 512 }
+largest = record { dimension = 16; branching = 64; vectors = 128; entries = 256; nodes = 512; text = 65280 }
 
 -- the lists of the store are lent whole
 abbrev pub fronts : Lengths

@@ -102,10 +102,11 @@ fn add_vector(
     floats: &mut [f32],
     numbers: &mut [u32],
     hashes: &mut [u64],
+    labels: &mut [u8],
 ) -> Carried
     requires { ⌜ VectorIn (now file) (index .dimension) vector ⌝ }
     ensures { λ r. ⌜ AddsAt index (now (file .entry)) vector
-        (lent (floats .entry) (numbers .entry) (hashes .entry)) r (lent (floats .exit) (numbers .exit) (hashes .exit)) ⌝ }
+        (lent (floats .entry) (numbers .entry) (hashes .entry) (labels .entry)) r (lent (floats .exit) (numbers .exit) (hashes .exit) (labels .exit)) ⌝ }
 {
     let count = index.dimension;
     let lengths_at = vector.lengths_at;
@@ -114,15 +115,16 @@ fn add_vector(
     let components = floats_at(file, place, count);
     let lengths = name_lengths(file, lengths_at, labels_at);
     let lengths_count = 2 * (labels_at - lengths_at);
-    let labels = &file[labels_at..place];
+    let bytes = &file[labels_at..place];
     let answer = index.add(
         floats,
         numbers,
         hashes,
+        labels,
         vector.doc_id,
         &components[..count],
         &lengths[..lengths_count],
-        labels,
+        bytes,
     );
     added(answer, vector.next)
 }
@@ -136,14 +138,15 @@ fn find(
     floats: &[f32],
     numbers: &[u32],
     hashes: &[u64],
+    labels: &[u8],
     work: &mut [u32],
     ids: &mut [u32],
     distances: &mut [f32],
 ) -> Found
     requires { ⌜ QueryIn (now file) count query ⌝ }
-    ensures { λ r. ⌜ Searches index (lent (floats .entry) (numbers .entry) (hashes .entry)) (now (work .entry))
+    ensures { λ r. ⌜ Searches index (lent (floats .entry) (numbers .entry) (hashes .entry) (labels .entry)) (now (work .entry))
         (searchAt count (now (file .entry)) query
-        (lists (floats .entry) (numbers .entry) (hashes .entry) (work .entry) (ids .entry) (distances .entry)))
+        (lists (floats .entry) (numbers .entry) (hashes .entry) (labels .entry) (work .entry) (ids .entry) (distances .entry)))
         (leaving r (work .exit) (ids .exit) (distances .exit)) ⌝ }
 {
     let filtered = query.filtered;
@@ -159,6 +162,7 @@ fn find(
             floats,
             numbers,
             hashes,
+            labels,
             work,
             &components[..count],
             label,
@@ -173,6 +177,7 @@ fn find(
         floats,
         numbers,
         hashes,
+        labels,
         work,
         &components[..count],
         k,
@@ -189,16 +194,17 @@ fn look_up(
     floats: &mut [f32],
     numbers: &mut [u32],
     hashes: &mut [u64],
+    labels: &[u8],
     work: &mut [u32],
     ids: &mut [u32],
     distances: &mut [f32],
 ) -> Carried
     requires { ⌜ QueryIn (now file) (index .dimension) query ⌝ }
     ensures { λ r. ⌜ SearchesAt index (now (file .entry)) query
-        (lists (floats .entry) (numbers .entry) (hashes .entry) (work .entry) (ids .entry) (distances .entry)) r
-        (lists (floats .exit) (numbers .exit) (hashes .exit) (work .exit) (ids .exit) (distances .exit)) ⌝ }
+        (lists (floats .entry) (numbers .entry) (hashes .entry) (labels .entry) (work .entry) (ids .entry) (distances .entry)) r
+        (lists (floats .exit) (numbers .exit) (hashes .exit) (labels .entry) (work .exit) (ids .exit) (distances .exit)) ⌝ }
 {
-    let built = build::build(index, floats, numbers, hashes, work);
+    let built = build::build(index, floats, numbers, hashes, labels, work);
     match built {
         Changed::Refused(refusal) => Carried::Refused(refusal),
         Changed::Index(ready) => {
@@ -210,6 +216,7 @@ fn look_up(
                 floats,
                 numbers,
                 hashes,
+                labels,
                 work,
                 ids,
                 distances,
@@ -227,19 +234,22 @@ pub fn carry(
     floats: &mut [f32],
     numbers: &mut [u32],
     hashes: &mut [u64],
+    labels: &mut [u8],
     work: &mut [u32],
     ids: &mut [u32],
     distances: &mut [f32],
 ) -> Carried
     requires { ⌜ Narrow loading ⌝ }
     ensures { λ r. ⌜ Carries (now (file .entry)) at loading
-        (lists (floats .entry) (numbers .entry) (hashes .entry) (work .entry) (ids .entry) (distances .entry)) r
-        (lists (floats .exit) (numbers .exit) (hashes .exit) (work .exit) (ids .exit) (distances .exit)) ⌝ }
+        (lists (floats .entry) (numbers .entry) (hashes .entry) (labels .entry) (work .entry) (ids .entry) (distances .entry)) r
+        (lists (floats .exit) (numbers .exit) (hashes .exit) (labels .exit) (work .exit) (ids .exit) (distances .exit)) ⌝ }
 {
     let task = task::task_at(loading, file, at);
     match task {
         Task::Done(carried) => carried,
-        Task::Add(index, vector) => add_vector(index, file, vector, floats, numbers, hashes),
+        Task::Add(index, vector) => {
+            add_vector(index, file, vector, floats, numbers, hashes, labels)
+        },
         Task::Find(index, query) => look_up(
             index,
             file,
@@ -247,6 +257,7 @@ pub fn carry(
             floats,
             numbers,
             hashes,
+            labels,
             work,
             ids,
             distances,

@@ -49,7 +49,7 @@ fn step_of(carried: Carried, printed: usize) -> LoadStep
     }
 }
 
-// The record at a place of a file. `text` has room for a line of each place of an answer.
+// The record at a place of a file. `labels` is the store's list of label text; `text`, which is printed, has room for a line of each place of an answer.
 pub fn load_record(
     loading: Loading,
     file: &[u8],
@@ -57,6 +57,7 @@ pub fn load_record(
     floats: &mut [f32],
     numbers: &mut [u32],
     hashes: &mut [u64],
+    labels: &mut [u8],
     work: &mut [u32],
     ids: &mut [u32],
     distances: &mut [f32],
@@ -66,8 +67,8 @@ pub fn load_record(
     requires { ⌜ 20 * length (now ids) + 27 ≤ length (now text) ⌝ }
     ensures narrow { λ r. ⌜ NarrowStep r ⌝ }
     ensures steps { λ r. ⌜ Steps (now (file .entry)) at loading
-        (lists (floats .entry) (numbers .entry) (hashes .entry) (work .entry) (ids .entry) (distances .entry)) (now (text .entry)) r
-        (lists (floats .exit) (numbers .exit) (hashes .exit) (work .exit) (ids .exit) (distances .exit)) (now (text .exit)) ⌝ }
+        (lists (floats .entry) (numbers .entry) (hashes .entry) (labels .entry) (work .entry) (ids .entry) (distances .entry)) (now (text .entry)) r
+        (lists (floats .exit) (numbers .exit) (hashes .exit) (labels .exit) (work .exit) (ids .exit) (distances .exit)) (now (text .exit)) ⌝ }
 {
     let carried = carry::carry(
         loading,
@@ -76,6 +77,7 @@ pub fn load_record(
         floats,
         numbers,
         hashes,
+        labels,
         work,
         ids,
         distances,

@@ -50,6 +50,7 @@ fn open(dimension: usize, params: CuratorParams, next: usize) -> Carried
         vectors: 128,
         entries: 256,
         nodes: 512,
+        text: 65_280,
     };
     let answer = CuratorIndex::new(dimension, params, room);
     match answer {

@@ -33,13 +33,14 @@ fn print_next(file: &[u8], done: usize, text: &[u8]) -> usize
     done + text.len()
 }
 
-// How many bytes were printed: all of them. The lists have room for V 128, E 256, M 512, D 16 and B 64, answers of 256 places and the lines of one.
+// How many bytes were printed: all of them. The lists have room for V 128, E 256, M 512, D 16 and B 64, 65,280 bytes of label text, answers of 256 places and the lines of one.
 pub fn print_file(file: &[u8]) -> usize
     ensures { λ r. ⌜ r ≡ length (fileText (now (file .entry))) ⌝ }
 {
     let mut floats = [0.0f32; 11264];
-    let mut numbers = [0u32; 4352];
+    let mut numbers = [0u32; 4864];
     let mut hashes = [0u64; 2304];
+    let mut labels = [0u8; 65280];
     let mut work = [0u32; 2304];
     let mut ids = [0u32; 256];
     let mut distances = [0.0f32; 256];
@@ -55,6 +56,7 @@ pub fn print_file(file: &[u8]) -> usize
             &mut floats,
             &mut numbers,
             &mut hashes,
+            &mut labels,
             &mut work,
             &mut ids,
             &mut distances,

@@ -21,17 +21,18 @@ use Rattle.curator.specs.Outcome.{changedNumber}
 use Rattle.settings.specs.Refusals.{checkNumber}
 use Rattle.curator.specs.Arguments.{AddCall}
 use Rattle.curator.specs.Rows.{addRows}
+use Rattle.label.specs.Names.{bytesOfNames}
 use Rattle.curator.specs.Calls.{grown}
 use Rattle.curator.specs.Changes.{Adds, AddsBy, addCheck}
 use Rattle.curator.specs.Lent.{AddRoom}
 use Rattle.curator.specs.AddLaws.{Accepted, add-facts}
 use Rattle.curator.specs.HeldLaws.{wrote-lengths, added, added-wrote}
 use Rattle.runs.specs.Calls.{add}
-use Rattle.runs.specs.Model.{Setting, Model, ModelRow, rowHashes, modelFacts, nodeCount, settingShape, changeRows, changeCheck, carriedOut, changedBy, newRow}
+use Rattle.runs.specs.Model.{Setting, Model, ModelRow, rowHashes, rowBytes, modelFacts, nodeCount, settingShape, changeRows, changeCheck, carriedOut, changedBy, newRow}
 use Rattle.runs.specs.Run.{nextIndex}
 use Rattle.runs.specs.Theorem.{withBudget}
 use Rattle.runs.specs.State.{Allowed, Within, Small, stateFor, nodesHeld, no-nodes}
-use Rattle.runs.specs.Held.{Held, held-added, withRow, length-rows, count-more}
+use Rattle.runs.specs.Held.{Held, held-added, withRow, length-rows, count-more, bytes-more}
 use Rattle.runs.specs.Refusals.{add-refused}
 use Rattle.runs.specs.Built.{Laid}
 use Rattle.runs.specs.Invariant.{Invariant, held-front, held-back}
@@ -46,21 +47,23 @@ within-added s m call store b room =
     record {
       vectors = omega (arith, length-rows m (newRow call), room .vectors);
       entries = omega (arith, count-more m call, room .entries);
+      bytes = omega (arith, bytes-more m (newRow call), room .text);
       rows = λ t. absurd (false≢true (sym b ∙ t));
       nodes = λ t. absurd (false≢true (sym b ∙ t));
     }
 
-state-added : (s : Setting) (m : Model) (call : AddCall) → m .built ≡ false → grown (stateFor s m) (length (call .names)) ≡ stateFor s (withRow m (newRow call))
+state-added : (s : Setting) (m : Model) (call : AddCall) → m .built ≡ false → grown (stateFor s m) (call .names) ≡ stateFor s (withRow m (newRow call))
 state-added s m call b =
     let r = newRow call in
     let v : length (m .rows) + 1 ≡ length (withRow m r .rows) = add-one (length (m .rows)) ∙ sym (length-rows m r) in
     let e : length (rowHashes m) + length (call .names) ≡ length (rowHashes (withRow m r)) = sym (count-more m call) in
+    let b′ : rowBytes m + length (bytesOfNames (call .names)) ≡ rowBytes (withRow m r) = sym (bytes-more m r) in
     let n : nodesHeld (m .built) s m ≡ nodesHeld (m .built) s (withRow m r) = no-nodes (m .built) s m (withRow m r) b in
     λ i. record {
       dimension = s .dimension;
       params = s .params;
       capacities = s .capacities;
-      counts = record { vectors = v i; entries = e i; nodes = n i };
+      counts = record { vectors = v i; entries = e i; nodes = n i; bytes = b′ i };
       built = m .built;
     }
 
@@ -91,7 +94,7 @@ module _ (s : Setting) (allowed : Allowed s) (m : Model) (front rest front′ : 
       subst (Long (settingShape s)) (wrote-lengths (stateFor s m) front call front′ (by .1)) (room .long) in (
         by .0 .number-is,
         record {
-          state = ap (nextIndex (stateFor s m)) (carried-is (grown (stateFor s m) (length (call .names))) answer (by .0)) ∙ state-added s m call (found .unbuilt);
+          state = ap (nextIndex (stateFor s m)) (carried-is (grown (stateFor s m) (call .names)) answer (by .0)) ∙ state-added s m call (found .unbuilt);
           within = w;
           held = held-back s m′ front′ rest w long′ h′;
           laid = λ b. absurd (false≢true (sym (found .unbuilt) ∙ b));
@@ -112,7 +115,7 @@ module _ (s : Setting) (allowed : Allowed s) (m : Model) (front rest front′ : 
 add-others : (s : Setting) (m : Model) (lent : Lengths) (work : ℕ) (call : AddCall) → Others (changeRows s m lent work (add call))
 unfolding changeRows addRows modelFacts
 add-others s m lent work call =
-    (inr (omega arith), (inr (omega arith), (inr (omega arith), (inr (omega arith), (inr (omega arith), (inr (omega arith), (inr (omega arith), tt)))))))
+    (inr (omega arith), (inr (omega arith), (inr (omega arith), (inr (omega arith), (inr (omega arith), (inr (omega arith), (inr (omega arith), (inr (omega arith), tt))))))))
 
 add-budget : (s : Setting) (ef : ℕ) (m : Model) (lent : Lengths) (work : ℕ) (call : AddCall)
     → changeRows (withBudget ef s) m lent work (add call) ≡ changeRows s m lent work (add call)
@@ -136,7 +139,7 @@ add-by : (index : CuratorIndex) (store : Store) (call : AddCall) (c : Check) →
 unfolding AddsBy
 add-by index store call (Check′.Refused r) = (Changed′.Refused r, store, (is-refused r (Changed′.Refused r) refl, refl))
 add-by index store call Check′.Fine =
-    (Changed′.Index (grown index (length (call .names))), added index store call, (is-carried _ _ refl, added-wrote index store call))
+    (Changed′.Index (grown index (call .names)), added index store call, (is-carried _ _ refl, added-wrote index store call))
 
 add-outcome : (index : CuratorIndex) (store : Store) (work : List ℕ) (call : AddCall) → ChangeOutcome index store work (add call)
 unfolding Adds

@@ -12,7 +12,7 @@ use Rattle.lists.specs.Frame.{freed-length}
 use Rattle.store.specs.declared.Lengths.{Lengths}
 use Rattle.store.specs.Store.{Store, workPart}
 use Rattle.store.specs.Lent.{lengthsOf, Long, listsShort, joinStores}
-use Rattle.store.specs.Agree.{agree-sym, agree-join}
+use Rattle.store.specs.Agree.{agree-sym}
 use Rattle.curator.specs.declared.CuratorIndex.{CuratorIndex}
 use Rattle.settings.specs.declared.Check.{Check}
 use Rattle.settings.specs.declared.Check.the-variants as Check′
@@ -28,11 +28,11 @@ use Rattle.curator.specs.Rows.{Facts, firstOf, buildRows}
 use Rattle.curator.specs.Calls.{builtWith}
 use Rattle.curator.specs.Changes.{freeOf, Left, Builds, BuildsBy, BuildsFine, buildCheck, LaidOut, heldNodes}
 use Rattle.runs.specs.Calls.{build}
-use Rattle.runs.specs.Model.{Setting, Model, rowVectors, rowHashes, rowEntries, nodeCount, modelNodes, modelFacts, settingShape, changeRows, changeCheck, carriedOut, changedBy}
+use Rattle.runs.specs.Model.{Setting, Model, rowVectors, rowHashes, rowNames, rowBytes, rowEntries, nodeCount, modelNodes, modelFacts, settingShape, changeRows, changeCheck, carriedOut, changedBy}
 use Rattle.runs.specs.Run.{nextIndex}
 use Rattle.runs.specs.Theorem.{withBudget}
 use Rattle.runs.specs.State.{Allowed, Within, Small, stateFor, nodesHeld}
-use Rattle.runs.specs.Held.{Held, rowsEnd, SameRows, held-same}
+use Rattle.runs.specs.Held.{Held, SameRows, rows-join, held-same}
 use Rattle.runs.specs.Refusals.{build-refused, build-room, BuildRoom}
 use Rattle.runs.specs.Built.{Laid, NodeFacts, node-facts, laid-same, laid-out, built-held, held-nodes, laid-lengths, lays-out, left-lengths, left-same, left-held, leaves}
 use Rattle.runs.specs.Invariant.{Invariant, long-same, held-front, held-back}
@@ -70,28 +70,34 @@ hashes-rows : (m : Model) → rowHashes (builtModel m) ≡ rowHashes m
 unfolding rowHashes
 hashes-rows m = refl
 
+bytes-rows : (m : Model) → rowBytes (builtModel m) ≡ rowBytes m
+unfolding rowBytes rowNames
+bytes-rows m = refl
+
 held-rows : (s : Setting) (m : Model) (store : Store) → Held s m store → Held s (builtModel m) store
-unfolding rowVectors rowHashes
-held-rows s m store h = record { vectors = h .vectors; documents = h .documents; owners = h .owners; hashes = h .hashes }
+unfolding rowVectors rowHashes rowNames rowBytes
+held-rows s m store h =
+    record { vectors = h .vectors; documents = h .documents; owners = h .owners; hashes = h .hashes; starts = h .starts; lengths = h .lengths; text = h .text }
 
 laid-rows : (s : Setting) (m : Model) (store : Store) → Laid s m store → Laid s (builtModel m) store
 unfolding modelNodes rowVectors rowEntries rowHashes
 laid-rows s m store l = record { centroids = l .centroids; order = l .order; six = l .six; links = l .links; entries = l .entries; filters = l .filters }
 
 within-rows : (s : Setting) (m : Model) → Within s m → 0 < length (m .rows) → nodeCount s m ≤ s .capacities .nodes → Within s (builtModel m)
-unfolding rowHashes nodeCount rowVectors
-within-rows s m w some fits = record { vectors = w .vectors; entries = w .entries; rows = λ b. some; nodes = λ b. fits }
+unfolding rowHashes rowNames rowBytes nodeCount rowVectors
+within-rows s m w some fits = record { vectors = w .vectors; entries = w .entries; bytes = w .bytes; rows = λ b. some; nodes = λ b. fits }
 
 state-built : (s : Setting) (m : Model) (n : ℕ) → n ≡ nodeCount s m → builtWith (stateFor s m) n ≡ stateFor s (builtModel m)
 unfolding nodesHeld
 state-built s m n e =
     let h : length (rowHashes m) ≡ length (rowHashes (builtModel m)) = ap length (sym (hashes-rows m)) in
     let c : n ≡ nodeCount s (builtModel m) = e ∙ sym (count-rows s m) in
+    let b : rowBytes m ≡ rowBytes (builtModel m) = sym (bytes-rows m) in
     λ i. record {
       dimension = s .dimension;
       params = s .params;
       capacities = s .capacities;
-      counts = record { vectors = length (m .rows); entries = h i; nodes = c i };
+      counts = record { vectors = length (m .rows); entries = h i; nodes = c i; bytes = b i };
       built = true;
     }
 
@@ -111,7 +117,7 @@ module _ (s : Setting) (allowed : Allowed s) (m : Model) (work work′ : List �
   refused-ends r e by =
       let lengths = left-lengths (settingShape s) r front work front′ work′ (by .1) in
       let same : SameRows s (joinStores front rest) (joinStores front′ rest) =
-      agree-join (rowsEnd s) front front′ rest lengths (left-held s front front′ work work′ r (by .1)) in
+      rows-join s front front′ rest lengths (left-held s front front′ work work′ r (by .1)) in
       record {
         state = ap (nextIndex (stateFor s m)) (refused-is r answer (by .0));
         within = inv .within;

@@ -9,10 +9,10 @@ use lib.Ieee.{Float, nan}
 use lib.ListN.{length, getD, take, replicate, length-replicate}
 use lib.Seq.{sets}
 use Rattle.lists.specs.Lists.{part, joined}
-use Rattle.lists.specs.Parts.{part-sets-same, take-sets}
-use Rattle.lists.specs.Frame.{Freed, From, freed-length, freed-take, freed}
+use Rattle.lists.specs.Parts.{part-sets-same, part-sets-after, take-sets}
+use Rattle.lists.specs.Frame.{Freed, From, Before, freed-length, freed-take, freed-drop, freed}
 use Rattle.store.specs.declared.Shape.{Shape}
-use Rattle.store.specs.Store.{Store, centroidsAt, centresAt, orderAt, nodesAt, linksAt, entryOrderAt, filtersAt, floatsSize, numbersSize, hashesSize, workPart}
+use Rattle.store.specs.Store.{Store, centroidsAt, centresAt, orderAt, nodesAt, linksAt, entryOrderAt, startsAt, lengthsAt, filtersAt, floatsSize, numbersSize, hashesSize, workPart}
 use Rattle.store.specs.Lent.{storeOf, lengthsOf, sizesOf, Long}
 use Rattle.store.specs.Agree.{Agree, part-same}
 use Rattle.tree.specs.Nodes.{Node, Entries, nodesOf}
@@ -24,7 +24,7 @@ use Rattle.curator.specs.declared.CuratorIndex.{CuratorIndex}
 use Rattle.settings.specs.declared.refusal.Refusal.{Refusal}
 use Rattle.settings.specs.declared.refusal.Refusal.the-variants as Refusal′
 use Rattle.settings.specs.declared.refusal.StoreRefusal.{StoreRefusal}
-use Rattle.settings.specs.declared.refusal.StoreRefusal.the-variants.{ListTooShort, VectorsFull, EntriesFull, NodesFull, Damaged}
+use Rattle.settings.specs.declared.refusal.StoreRefusal.the-variants.{ListTooShort, VectorsFull, EntriesFull, NodesFull, Damaged, TextFull}
 use Rattle.curator.specs.Limits.{indexShape}
 use Rattle.curator.specs.Calls.{splittingOf}
 use Rattle.curator.specs.Changes.{LaidOut, heldNodes, freeOf, freeStore, Left}
@@ -149,10 +149,26 @@ module _ (s : Setting) (m : Model) (store store′ : Store) (work work′ : List
             ∙ part-sets-same (store .hashes) (filtersAt sh) (joined (λ node. node .filter) N) (omega (arith, f, facts .fit .nodes-fit, long .hashes));
       }
 
-  -- the rows' parts stand before the node parts
-  pub built-held : SameRows s store store′
+  -- what stands behind the node parts of the numbers stays
+  built-behind : (at count : ℕ) → startsAt (settingShape s) ≤ at → part at count (store .numbers) ≡ part at count (store′ .numbers)
+  unfolding numbersOf
+  built-behind at count h =
+      let N = modelNodes s m in
+      let sh = settingShape s in
+      let fit = facts .fit in
+      let one = sets (store .numbers) (orderAt sh) (joined (λ node. node .ids) N) in
+      let two = sets one (nodesAt sh) (sixFrom 0 0 0 N) in
+      let three = sets two (linksAt sh) (joined (λ node. node .children) N) in
+      sym (ap (part at count) numbers-are
+      ∙ part-sets-after at count three (entryOrderAt sh) (joined (λ node. node .entries) N) (omega (arith, h, fit .entries-fit))
+      ∙ part-sets-after at count two (linksAt sh) (joined (λ node. node .children) N) (omega (arith, h, fit .links-fit))
+      ∙ part-sets-after at count one (nodesAt sh) (sixFrom 0 0 0 N) (omega (arith, h, fit .nodes-fit, length-sixFrom 0 0 0 N))
+      ∙ part-sets-after at count (store .numbers) (orderAt sh) (joined (λ node. node .ids) N) (omega (arith, h, fit .ids-fit)))
+
+  -- the rows' parts stand before the node parts, and behind them
+  built-fronts : Agree (rowsEnd s) store store′
   unfolding floatsOf numbersOf hashesOf
-  built-held =
+  built-fronts =
       let N = modelNodes s m in
       let sh = settingShape s in
       let one = sets (store .numbers) (orderAt sh) (joined (λ node. node .ids) N) in
@@ -173,6 +189,16 @@ module _ (s : Setting) (m : Model) (store store′ : Store) (work work′ : List
         hashes =
             sym (ap (take (filtersAt sh)) hashes-are
             ∙ take-sets (filtersAt sh) (store .hashes) (filtersAt sh) (joined (λ node. node .filter) N) (omega arith));
+        text = ap (take (s .capacities .text)) (sym (out .text));
+      }
+
+  pub built-held : SameRows s store store′
+  built-held =
+      let e = s .capacities .entries in
+      record {
+        fronts = built-fronts;
+        starts = built-behind (startsAt (settingShape s)) e (omega arith);
+        lengths = built-behind (lengthsAt (settingShape s)) e (omega arith);
       }
 
 -- ---- an accepted build, whatever index and lists it is given
@@ -186,7 +212,8 @@ module _ (index : CuratorIndex) (store : Store) (work : List ℕ) where
       let f = sym (ap length (out .floats) ∙ length-floatsOf sh nodes (out .centres) (store .floats)) in
       let n = sym (ap length (out .numbers) ∙ length-numbersOf sh nodes (store .numbers)) in
       let h = sym (ap length (out .hashes) ∙ length-hashesOf sh nodes (store .hashes)) in
-      λ i. record { floats = f i; numbers = n i; hashes = h i }
+      let t = ap length (sym (out .text)) in
+      λ i. record { floats = f i; numbers = n i; hashes = h i; text = t i }
 
   -- there are lists that it leaves
   pub lays-out : (store′ : Store) × (work′ : List ℕ) × LaidOut index store work store′ work′
@@ -194,7 +221,8 @@ module _ (index : CuratorIndex) (store : Store) (work : List ℕ) where
       let free = freed 0 (workPart (indexShape index) ∷ []) work in (
         storeOf (floatsOf (indexShape index) (heldNodes index store) (replicate (index .dimension * index .params .«branching_factor») nan) (store .floats))
             (numbersOf (indexShape index) (heldNodes index store) (store .numbers))
-            (hashesOf (indexShape index) (heldNodes index store) (store .hashes)),
+            (hashesOf (indexShape index) (heldNodes index store) (store .hashes))
+            (store .text),
         free .0,
         record {
           centres = replicate (index .dimension * index .params .«branching_factor») nan;
@@ -202,6 +230,7 @@ module _ (index : CuratorIndex) (store : Store) (work : List ℕ) where
           floats = refl;
           numbers = refl;
           hashes = refl;
+          text = refl;
           work = free .1;
         },
       )
@@ -215,7 +244,8 @@ module _ (sh : Shape) (r : Refusal) (store : Store) (work : List ℕ) where
       let f = freed-length (free .floats) (store .floats) (store′ .floats) (left .floats) in
       let n = freed-length (free .numbers) (store .numbers) (store′ .numbers) (left .numbers) in
       let h = freed-length (free .hashes) (store .hashes) (store′ .hashes) (left .hashes) in
-      λ i. record { floats = f i; numbers = n i; hashes = h i }
+      let t = ap length (sym (left .text)) in
+      λ i. record { floats = f i; numbers = n i; hashes = h i; text = t i }
 
   pub leaves : (store′ : Store) × (work′ : List ℕ) × Left sh r store work store′ work′
   leaves =
@@ -224,39 +254,52 @@ module _ (sh : Shape) (r : Refusal) (store : Store) (work : List ℕ) where
       let n = freed 0 (free .numbers) (store .numbers) in
       let h = freed 0 (free .hashes) (store .hashes) in
       let w = freed 0 (free .work) work in
-      (storeOf (f .0) (n .0) (h .0), w .0, record { floats = f .1; numbers = n .1; hashes = h .1; work = w .1 })
+      (storeOf (f .0) (n .0) (h .0) (store .text), w .0, record { floats = f .1; numbers = n .1; hashes = h .1; text = refl; work = w .1 })
 
 -- refused for short lists it leaves all as it was
 pub left-same : (sh : Shape) (store store′ : Store) (work work′ : List ℕ) → Left sh (Refusal′.Store ListTooShort) store work store′ work′ → store′ ≡ store
 unfolding freeOf freeStore Freed
-left-same sh store store′ work work′ l = λ i. record { floats = l .floats i; numbers = l .numbers i; hashes = l .hashes i }
+left-same sh store store′ work work′ l = λ i. record { floats = l .floats i; numbers = l .numbers i; hashes = l .hashes i; text = l .text i }
 
--- what is free starts behind the rows' parts
+-- what is free starts behind the rows' parts, and ends before starts and lengths
 module _ (s : Setting) (store store′ : Store) (work work′ : List ℕ) where
   kept-by : (r : Refusal) → From (rowsEnd s .floats) (freeOf (settingShape s) r .floats) → From (rowsEnd s .numbers) (freeOf (settingShape s) r .numbers)
-      → From (rowsEnd s .hashes) (freeOf (settingShape s) r .hashes) → Left (settingShape s) r store work store′ work′ → SameRows s store store′
-  kept-by r f n h l =
+      → From (rowsEnd s .hashes) (freeOf (settingShape s) r .hashes) → Before (startsAt (settingShape s)) (freeOf (settingShape s) r .numbers)
+      → Before (lengthsAt (settingShape s)) (freeOf (settingShape s) r .numbers) → Left (settingShape s) r store work store′ work′ → SameRows s store store′
+  kept-by r f n h b b′ l =
+      let sh = settingShape s in
       let free = freeOf (settingShape s) r in
       record {
-        floats = freed-take (rowsEnd s .floats) (free .floats) (store .floats) (store′ .floats) f (l .floats);
-        numbers = freed-take (rowsEnd s .numbers) (free .numbers) (store .numbers) (store′ .numbers) n (l .numbers);
-        hashes = freed-take (rowsEnd s .hashes) (free .hashes) (store .hashes) (store′ .hashes) h (l .hashes);
+        fronts =
+            record {
+              floats = freed-take (rowsEnd s .floats) (free .floats) (store .floats) (store′ .floats) f (l .floats);
+              numbers = freed-take (rowsEnd s .numbers) (free .numbers) (store .numbers) (store′ .numbers) n (l .numbers);
+              hashes = freed-take (rowsEnd s .hashes) (free .hashes) (store .hashes) (store′ .hashes) h (l .hashes);
+              text = ap (take (s .capacities .text)) (sym (l .text));
+            };
+        starts = ap (take (s .capacities .entries)) (freed-drop (startsAt sh) (free .numbers) (store .numbers) (store′ .numbers) b (l .numbers));
+        lengths = ap (take (s .capacities .entries)) (freed-drop (lengthsAt sh) (free .numbers) (store .numbers) (store′ .numbers) b′ (l .numbers));
       }
 
   kept-store : (r : StoreRefusal) → Left (settingShape s) (Refusal′.Store r) store work store′ work′ → SameRows s store store′
   unfolding freeOf freeStore
-  kept-store ListTooShort l = kept-by (Refusal′.Store ListTooShort) tt tt tt l
-  kept-store VectorsFull l = kept-by (Refusal′.Store VectorsFull) tt tt tt l
-  kept-store EntriesFull l = kept-by (Refusal′.Store EntriesFull) tt tt tt l
+  kept-store ListTooShort l = kept-by (Refusal′.Store ListTooShort) tt tt tt tt tt l
+  kept-store VectorsFull l = kept-by (Refusal′.Store VectorsFull) tt tt tt tt tt l
+  kept-store EntriesFull l = kept-by (Refusal′.Store EntriesFull) tt tt tt tt tt l
   kept-store NodesFull l =
       kept-by (Refusal′.Store NodesFull)
       (omega arith, ((let q = mul-add (s .dimension) (s .capacities .vectors) (s .capacities .nodes) in omega arith), tt))
-      (omega arith, (omega arith, (omega arith, (omega arith, tt)))) (omega arith, tt) l
-  kept-store Damaged l = kept-by (Refusal′.Store Damaged) tt tt tt l
+      (omega arith, (omega arith, (omega arith, (omega arith, tt))))
+      (omega arith, tt)
+      (omega arith, (omega arith, (omega arith, (omega arith, tt))))
+      (omega arith, (omega arith, (omega arith, (omega arith, tt))))
+      l
+  kept-store Damaged l = kept-by (Refusal′.Store Damaged) tt tt tt tt tt l
+  kept-store TextFull l = kept-by (Refusal′.Store TextFull) tt tt tt tt tt l
 
   pub left-held : (r : Refusal) → Left (settingShape s) r store work store′ work′ → SameRows s store store′
   unfolding freeOf
-  left-held (Refusal′.Settings r) l = kept-by (Refusal′.Settings r) tt tt tt l
-  left-held (Refusal′.State r) l = kept-by (Refusal′.State r) tt tt tt l
-  left-held (Refusal′.Input r) l = kept-by (Refusal′.Input r) tt tt tt l
+  left-held (Refusal′.Settings r) l = kept-by (Refusal′.Settings r) tt tt tt tt tt l
+  left-held (Refusal′.State r) l = kept-by (Refusal′.State r) tt tt tt tt tt l
+  left-held (Refusal′.Input r) l = kept-by (Refusal′.Input r) tt tt tt tt tt l
   left-held (Refusal′.Store r) l = kept-store r l

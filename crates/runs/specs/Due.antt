@@ -23,9 +23,8 @@ use Rattle.tree.specs.NodeEntryLaws.{entriesOf-nil, entriesOf-perm, entriesOf-a
 use Rattle.tree.specs.NodeFilterLaws.{perm-children-ids}
 use Rattle.tree.specs.Subtrees.{subs, forestSubs, subs-cons, length-subs, childrenOf, ownIds, subs-children, child-range, children-tile, fair-sub}
 use Rattle.tree.specs.NumberedNodes.{rootNode, getD-nodesOf}
-use Rattle.walk.specs.declared.Wanted.{Wanted}
 use Rattle.walk.specs.Walk.{children, hits, shown}
-use Rattle.walk.specs.Wanted.{LeafList, vector-list, entry-list, denies, listRead, given, heldIn}
+use Rattle.walk.specs.Wanted.{Sought, LeafList, vector-list, entry-list, denies, listRead, given, heldIn}
 use Rattle.walk.specs.SoundWalk.{SoundView, Local, Inner, Tiled}
 use Rattle.curator.specs.Calls.{splittingOf}
 use Rattle.runs.specs.Model.{Setting, Model, rowHashes, rowVectors, rowEntries, nodeCount, modelNodes, modelCounts, rowHit, rowRead, nodeList, leafHits, nodeGives, treeView}
@@ -35,7 +34,7 @@ use Rattle.runs.specs.WantedLaws.{listOver, given-joined, given-perm, gi
 use Rattle.runs.specs.Views.{tree-shown, gives-none, gives-some}
 
 -- the hits due for the rows with some numbers
-unfoldable pub due : Model → List Float → Wanted → List ℕ → List ℕ
+unfoldable pub due : Model → List Float → Sought → List ℕ → List ℕ
 due m query wanted ids = map (rowHit m query) (given wanted (rowRead m) (listOver (listRead wanted) m ids))
 
 -- ---- no id is twice below a node
@@ -80,7 +79,7 @@ lists-parts entry-list m ids l p h =
     let e = rowEntries m in
     List·Permᴰ·trans (entries-parts e l (once-perm (joined (λ x. x) l) ids p h)) (perm-of-eq (entriesOf-perm e (joined (λ x. x) l) ids p))
 
-pub due-parts : (m : Model) (query : List Float) (wanted : Wanted) (ids : List ℕ) (l : List (List ℕ)) → List·Permᴰ (joined (λ x. x) l) ids → Different ids
+pub due-parts : (m : Model) (query : List Float) (wanted : Sought) (ids : List ℕ) (l : List (List ℕ)) → List·Permᴰ (joined (λ x. x) l) ids → Different ids
     → List·Permᴰ (joined (due m query wanted) l) (due m query wanted ids)
 unfolding due
 due-parts m query wanted ids l p h =
@@ -103,7 +102,7 @@ module _ (s : Setting) (m : Model) where
   subtree i = getD (subs rowTree) i (leaf [])
 
   -- the hits due at and below the node with a number, how many nodes its subtree has, and which numbers are nodes'
-  abbrev pub dueBelow : List Float → Wanted → ℕ → List ℕ
+  abbrev pub dueBelow : List Float → Sought → ℕ → List ℕ
   dueBelow query wanted i = due m query wanted (keptIds (subtree i))
 
   abbrev pub sizeAt : ℕ → ℕ
@@ -134,7 +133,7 @@ module _ (s : Setting) (m : Model) (a : Allowed s) (w : Within s m) where
 
   -- ---- what a node shows is what is due
 
-  denied-none : (query : List Float) (wanted : Wanted) (ids filter : List ℕ) → filter ≡ filterOf (rowEntries m) ids → denies wanted filter ≡ true
+  denied-none : (query : List Float) (wanted : Sought) (ids filter : List ℕ) → filter ≡ filterOf (rowEntries m) ids → denies wanted filter ≡ true
       → due m query wanted ids ≡ []
   unfolding due
   denied-none query wanted ids filter f e = ap (map (rowHit m query)) (denied-gives wanted m ids filter f e)
@@ -145,7 +144,7 @@ module _ (s : Setting) (m : Model) (a : Allowed s) (w : Within s m) where
   node-list vector-list node ids e f = e
   node-list entry-list node ids e f = f
 
-  leaf-due : (query : List Float) (wanted : Wanted) (node : Node) (ids : List ℕ) → node .ids ≡ ids → node .entries ≡ entriesOf (rowEntries m) ids
+  leaf-due : (query : List Float) (wanted : Sought) (node : Node) (ids : List ℕ) → node .ids ≡ ids → node .entries ≡ entriesOf (rowEntries m) ids
       → leafHits m query wanted node ≡ due m query wanted ids
   unfolding leafHits due
   leaf-due query wanted node ids e f = ap (λ (l : List ℕ). map (rowHit m query) (given wanted (rowRead m) l)) (node-list (listRead wanted) node ids e f)
@@ -185,7 +184,7 @@ module _ (s : Setting) (m : Model) (a : Allowed s) (w : Within s m) where
   children-ids (leaf ids) i c cs f e = absurd (let n : 0 ≡ suc (length cs) = ap length e in omega arith)
   children-ids (inner ids kids) i c cs f e = List·Permᴰ·trans (perm-children-ids kids (f .1)) (f .0)
 
-  inner-shows : (query : List Float) (wanted : Wanted) (i c : ℕ) (cs : List ℕ) → IsNode s m i → roots (suc i) (childrenOf (subtree s m i)) ≡ c ∷ cs
+  inner-shows : (query : List Float) (wanted : Sought) (i c : ℕ) (cs : List ℕ) → IsNode s m i → roots (suc i) (childrenOf (subtree s m i)) ≡ c ∷ cs
       → Inner (dueBelow s m query wanted) (sizeAt s m) (IsNode s m) i (roots (suc i) (childrenOf (subtree s m i)))
   unfolding nodeCount
   inner-shows query wanted i c cs h e =
@@ -205,7 +204,7 @@ module _ (s : Setting) (m : Model) (a : Allowed s) (w : Within s m) where
             ∙ perm-sort (due-parts m query wanted (keptIds (subtree s m i)) (map keptIds trees) (children-ids (subtree s m i) (suc i) c cs (fair-at i h) e) (once-at i h));
       }
 
-  gives-due : (query : List Float) (wanted : Wanted) (i : ℕ) (cs : List ℕ) → IsNode s m i → roots (suc i) (childrenOf (subtree s m i)) ≡ cs
+  gives-due : (query : List Float) (wanted : Sought) (i : ℕ) (cs : List ℕ) → IsNode s m i → roots (suc i) (childrenOf (subtree s m i)) ≡ cs
       → Local (dueBelow s m query wanted) (sizeAt s m) (IsNode s m) i (nodeGives m query wanted (getD (modelNodes s m) i noNode) cs)
   gives-due query wanted i [] h e =
       let node = getD (modelNodes s m) i noNode in
@@ -216,7 +215,7 @@ module _ (s : Setting) (m : Model) (a : Allowed s) (w : Within s m) where
       subst (Local (dueBelow s m query wanted) (sizeAt s m) (IsNode s m) i) (sym (gives-some m query wanted (getD (modelNodes s m) i noNode) c cs))
       (subst (Inner (dueBelow s m query wanted) (sizeAt s m) (IsNode s m) i) e (inner-shows query wanted i c cs h e))
 
-  shows-due : (query : List Float) (wanted : Wanted) (i : ℕ) → IsNode s m i
+  shows-due : (query : List Float) (wanted : Sought) (i : ℕ) → IsNode s m i
       → Local (dueBelow s m query wanted) (sizeAt s m) (IsNode s m) i (shown (treeView s m query wanted) i)
   shows-due query wanted i h =
       let node = getD (modelNodes s m) i noNode in
@@ -236,7 +235,7 @@ module _ (s : Setting) (m : Model) (a : Allowed s) (w : Within s m) where
       ap (λ (l : List Tree). keptIds (getD l 0 (leaf []))) (subs-cons (rowTree s m))
       ∙ kept-grow (split s m) (rowVectors m) 16 (countFrom 0 (length (rowVectors m))) ∙ ap (countFrom 0) (length-vectors m)
 
-  pub root-due : (query : List Float) (wanted : Wanted) → dueBelow s m query wanted 0 ≡ due m query wanted (countFrom 0 (length (m .rows)))
+  pub root-due : (query : List Float) (wanted : Sought) → dueBelow s m query wanted 0 ≡ due m query wanted (countFrom 0 (length (m .rows)))
   root-due query wanted = ap (due m query wanted) root-kept
 
   pub root-size : sizeAt s m 0 ≡ nodeCount s m
@@ -249,14 +248,14 @@ module _ (s : Setting) (m : Model) (a : Allowed s) (w : Within s m) where
   list-length vector-list = length-countFrom 0 (length (m .rows))
   list-length entry-list = ap length (entries-all m) ∙ length-countFrom 0 (length (rowHashes m))
 
-  room : (query : List Float) (wanted : Wanted) → length (due m query wanted (countFrom 0 (length (m .rows)))) ≤ treeView s m query wanted .most
+  room : (query : List Float) (wanted : Sought) → length (due m query wanted (countFrom 0 (length (m .rows)))) ≤ treeView s m query wanted .most
   unfolding due treeView
   room query wanted =
       let l = listOver (listRead wanted) m (countFrom 0 (length (m .rows))) in
       omega (arith, length-map (given wanted (rowRead m) l) (rowHit m query), given-fewer wanted (rowRead m) l, list-length (listRead wanted))
 
   -- the tree of the rows is sound
-  pub sound-tree : (query : List Float) (wanted : Wanted) → SoundView (treeView s m query wanted) (dueBelow s m query wanted) (sizeAt s m) (IsNode s m)
+  pub sound-tree : (query : List Float) (wanted : Sought) → SoundView (treeView s m query wanted) (dueBelow s m query wanted) (sizeAt s m) (IsNode s m)
   unfolding nodeCount
   sound-tree query wanted =
       record {

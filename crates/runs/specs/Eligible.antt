@@ -10,46 +10,46 @@ use Rattle.lists.specs.Partition.{Different}
 use Rattle.lists.specs.Lists.{keep, countFrom, isIn}
 use Rattle.lists.specs.Maps.{map-on}
 use Rattle.lists.specs.Tests.{either}
-use Rattle.lists.specs.Counting.{isIn-nil, isIn-later, Memᴰ-keep}
+use Rattle.lists.specs.Counting.{isIn-nil, isIn-later, keep-congr, Memᴰ-keep}
 use Rattle.total_order.specs.TotalOrder.{keyOf}
 use Rattle.vector.specs.Normalized.{normalized}
-use Rattle.walk.specs.declared.Wanted.{Wanted}
 use Rattle.walk.specs.DifferentLaws.{different-nil, different-cons}
 use Rattle.curator.specs.Arguments.{Question}
+use Rattle.walk.specs.Wanted.{Sought}
 use Rattle.curator.specs.Searches.{wantedOf}
 use Rattle.runs.specs.Model.{Setting, Model, ModelRow, noRow, rowHit}
 use Rattle.runs.specs.Theorem.{NoTwo, Distinct, carries, about, rowDistance}
 use Rattle.runs.specs.State.{Allowed, Within, limits}
-use Rattle.runs.specs.WantedLaws.{numbersAbout, given-all}
+use Rattle.runs.specs.WantedLaws.{carried, carried-is, numbersAbout, given-all}
 use Rattle.runs.specs.Due.{due}
 
 -- ---- what is due in all
 
-pub due-about : (m : Model) → Distinct m → (query : List Float) (wanted : Wanted)
+pub due-about : (m : Model) → Distinct m → (query : List Float) (wanted : Sought)
     → due m query wanted (countFrom 0 (length (m .rows))) ≡ map (rowHit m query) (numbersAbout wanted 0 (m .rows))
 unfolding due
 due-about m d query wanted = ap (map (rowHit m query)) (given-all wanted m (d .labels))
 
 -- ---- the rows of the numbers
 
-numbers-suc : (wanted : Wanted) (i : ℕ) (rows : List ModelRow) → numbersAbout wanted (suc i) rows ≡ map suc (numbersAbout wanted i rows)
+numbers-suc : (wanted : Sought) (i : ℕ) (rows : List ModelRow) → numbersAbout wanted (suc i) rows ≡ map suc (numbersAbout wanted i rows)
 unfolding numbersAbout
 numbers-suc wanted i [] = refl
-numbers-suc wanted i (r ∷ rows) = ap (λ (l : List ℕ). cond (carries wanted r) (suc i ∷ l) l) (numbers-suc wanted (suc i) rows) ∙ go (carries wanted r)
+numbers-suc wanted i (r ∷ rows) = ap (λ (l : List ℕ). cond (carried wanted r) (suc i ∷ l) l) (numbers-suc wanted (suc i) rows) ∙ go (carried wanted r)
   where
     go : (b : Bool) → cond b (suc i ∷ map suc (numbersAbout wanted (suc i) rows)) (map suc (numbersAbout wanted (suc i) rows))
         ≡ map suc (cond b (i ∷ numbersAbout wanted (suc i) rows) (numbersAbout wanted (suc i) rows))
     go true = refl
     go false = refl
 
-rows-about : (wanted : Wanted) (rows : List ModelRow) → map (λ i. getD rows i noRow) (numbersAbout wanted 0 rows) ≡ keep (carries wanted) rows
+rows-about : (wanted : Sought) (rows : List ModelRow) → map (λ i. getD rows i noRow) (numbersAbout wanted 0 rows) ≡ keep (carried wanted) rows
 unfolding numbersAbout keep
 rows-about wanted [] = refl
 rows-about wanted (r ∷ rows) =
-    let later : map (λ i. getD (r ∷ rows) i noRow) (numbersAbout wanted 1 rows) ≡ keep (carries wanted) rows =
+    let later : map (λ i. getD (r ∷ rows) i noRow) (numbersAbout wanted 1 rows) ≡ keep (carried wanted) rows =
     ap (map (λ i. getD (r ∷ rows) i noRow)) (numbers-suc wanted 0 rows) ∙ map-map (λ i. getD (r ∷ rows) i noRow) suc (numbersAbout wanted 0 rows)
     ∙ rows-about wanted rows in
-    go (carries wanted r) ∙ ap (λ (l : List ModelRow). cond (carries wanted r) (r ∷ l) l) later
+    go (carried wanted r) ∙ ap (λ (l : List ModelRow). cond (carried wanted r) (r ∷ l) l) later
   where
     go : (b : Bool) → map (λ i. getD (r ∷ rows) i noRow) (cond b (0 ∷ numbersAbout wanted 1 rows) (numbersAbout wanted 1 rows))
         ≡ cond b (r ∷ map (λ i. getD (r ∷ rows) i noRow) (numbersAbout wanted 1 rows)) (map (λ i. getD (r ∷ rows) i noRow) (numbersAbout wanted 1 rows))
@@ -59,19 +59,21 @@ rows-about wanted (r ∷ rows) =
 pub about-is : (question : Question) (m : Model)
     → map (λ i. getD (m .rows) i noRow) (numbersAbout (wantedOf (question .asked)) 0 (m .rows)) ≡ about question m
 unfolding about
-about-is question m = rows-about (wantedOf (question .asked)) (m .rows)
+about-is question m =
+    rows-about (wantedOf (question .asked)) (m .rows)
+    ∙ keep-congr (carried (wantedOf (question .asked))) (carries (question .asked)) (m .rows) (λ r k. carried-is (question .asked) r)
 
-numbers-below : (wanted : Wanted) (i : ℕ) (rows : List ModelRow) (x : ℕ) → List·Memᴰ x (numbersAbout wanted i rows) → x < i + length rows
+numbers-below : (wanted : Sought) (i : ℕ) (rows : List ModelRow) (x : ℕ) → List·Memᴰ x (numbersAbout wanted i rows) → x < i + length rows
 unfolding numbersAbout
 numbers-below wanted i [] x k = absurd (List·Memᴰ·not-nil k)
-numbers-below wanted i (r ∷ rows) x k = go (carries wanted r) k (numbers-below wanted (suc i) rows x)
+numbers-below wanted i (r ∷ rows) x k = go (carried wanted r) k (numbers-below wanted (suc i) rows x)
   where
     go : (b : Bool) → List·Memᴰ x (cond b (i ∷ numbersAbout wanted (suc i) rows) (numbersAbout wanted (suc i) rows))
         → (List·Memᴰ x (numbersAbout wanted (suc i) rows) → x < suc i + length rows) → x < i + suc (length rows)
     go true k later = either (List·Memᴰ·cases-cons k) (λ e. omega arith) (λ n. let b : x < suc i + length rows = later n in omega arith)
     go false k later = let b : x < suc i + length rows = later k in omega arith
 
-pub number-below : (wanted : Wanted) (m : Model) (x : ℕ) → List·Memᴰ x (numbersAbout wanted 0 (m .rows)) → x < length (m .rows)
+pub number-below : (wanted : Sought) (m : Model) (x : ℕ) → List·Memᴰ x (numbersAbout wanted 0 (m .rows)) → x < length (m .rows)
 number-below wanted m x k = let b = numbers-below wanted 0 (m .rows) x k in omega (arith, b)
 
 -- ---- ranks
@@ -131,5 +133,5 @@ two-different (r ∷ rows) d =
 pub documents-different : (m : Model) → Distinct m → (question : Question) → Different (map (λ r. r .document) (about question m))
 unfolding about
 documents-different m d question =
-    let test = carries (wantedOf (question .asked)) in
+    let test = carries (question .asked) in
     two-different (keep test (m .rows)) (keep-two (λ (r t : ModelRow). r .document ≡ t .document) test (m .rows) (d .documents))

@@ -1,15 +1,15 @@
 -- Runs of 01's worked example, computed: 'D 2, B 2, leaf size 1, ef 5, beam 4; 7: (1, 0) `a`; 8: (0, 2) `b`; 9: (3, 4) `a`; search k 4, `a`, (1, 0)', with
--- refused calls in between; V 4, E 4, M 5; and M 4, where the build is refused; with takings back; with names in two parts. The premise holds of it, and it
--- has runs.
+-- refused calls in between; V 4, E 4, M 5; and M 4, where the build is refused; with takings back; with names in two parts; with two labels of
+-- one hash. The premise holds of it, and it has runs.
 use Prim.Native.Nat.{ℕ}
 use native.Mathlib.Omega.{arith}
 use mathlib.Core.Bool.{Bool, true}
-use mathlib.Core.List.{List, [], _∷_, map}
+use mathlib.Core.List.{List, [], _∷_, _++_, map}
 use mathlib.Core.Path.{_≡_, refl, subst}
 use lib.Ieee.{Float, binary32, ofBits, nan}
 use lib.ListN.{length, getD, take, replicate}
 use Rattle.distance.specs.Distance.{distance}
-use Rattle.label.specs.Fnv.{fnvFrom, fnvStep}
+use Rattle.label.specs.Fnv.{fnv, fnvFrom, fnvStep}
 use Rattle.label.specs.Names.{namesOf, lengthsFit}
 use Rattle.store.specs.declared.Lengths.{Lengths}
 use Rattle.store.specs.Lent.{sizesOf}
@@ -27,13 +27,13 @@ use Rattle.curator.specs.RowLaws.{is-created}
 
 -- ---- the calls
 
--- 'D 2, B 2, leaf size 1, beam 4', V 4 and E 4, with an `ef_search` and a capacity of nodes
+-- 'D 2, B 2, leaf size 1, beam 4', V 4, E 4 and 40 bytes of label text, with an `ef_search` and a capacity of nodes
 abbrev pub sample : ℕ → ℕ → Setting
 sample ef nodes =
     record {
       dimension = 2;
       params = record { «branching_factor» = 2; «max_leaf_size» = 1; «ef_search» = ef; «beam_width» = 4 };
-      capacities = record { vectors = 4; entries = 4; nodes = nodes };
+      capacities = record { vectors = 4; entries = 4; nodes = nodes; text = 40 };
     }
 
 -- lists with room for a node more
@@ -172,6 +172,53 @@ expects-parted = refl
 -- it has a run
 pub parted-run : (ends : List Ended) × Run (sample 5 5) callsParted ends
 parted-run = run-of callsParted (omega arith, (omega arith, (omega arith, (omega arith, (tt, (tt, tt))))))
+
+-- ---- two labels of one hash
+
+-- eight bytes, and the text `77kepQFQ8Kl`
+abbrev pub eight : List ℕ
+eight = 0xd5 ∷ 0x6b ∷ 0xb9 ∷ 0x53 ∷ 0x42 ∷ 0x87 ∷ 0x08 ∷ 0x36 ∷ []
+
+abbrev pub eleven : List ℕ
+eleven = 55 ∷ 55 ∷ 107 ∷ 101 ∷ 112 ∷ 81 ∷ 70 ∷ 81 ∷ 56 ∷ 75 ∷ 108 ∷ []
+
+pub one-hash : fnv eight ≡ fnv eleven
+unfolding fnv fnvFrom fnvStep
+one-hash = refl
+
+-- 7 has both, 8 the second; of the 40 bytes 10 are left, so 9 is refused with eleven more, and taught with one
+abbrev pub teaches : ℕ → List ℕ → List ℕ → List ℕ → Call
+teaches document bits lengths bytes = change fronts [] (add (addOf document (map (ofBits binary32) bits) lengths bytes))
+
+abbrev pub callsText : List Call
+callsText =
+    teaches 7 (0x3F800000 ∷ 0 ∷ []) (8 ∷ 0 ∷ 4 ∷ 7 ∷ []) (eight ++ eleven) ∷ teaches 8 (0 ∷ 0x40000000 ∷ []) (11 ∷ 0 ∷ []) eleven
+    ∷ teaches 9 (0x40400000 ∷ 0x40800000 ∷ []) (11 ∷ 0 ∷ []) eleven
+    ∷ third
+    ∷ change fronts (replicate 30 0) build
+    ∷ searches 0 nan 4 (labelled eight)
+    ∷ searches 0 nan 4 (labelled eleven)
+    ∷ searches 0 nan 4 label-a
+    ∷ []
+
+pub expects-text : expectations (sample 5 5) emptyModel callsText
+    ≡ returns 0 ∷ returns 0 ∷ returns 20 ∷ returns 0 ∷ returns 0 ∷ hits (7 ∷ []) (0 ∷ []) 5 true ∷ hits (7 ∷ 8 ∷ []) (0 ∷ 0x3F800000 ∷ []) 5 true
+    ∷ hits (9 ∷ []) (0x3ecccccc ∷ []) 5 true
+    ∷ []
+unfolding expectations ofBits fnvFrom fnvStep distance namesOf lengthsFit
+expects-text = refl
+
+-- the premise is read by bytes: a line may have two labels of one hash
+tested-text : premiseTest (sample 5 5) emptyModel callsText ≡ true
+unfolding premiseTest ofBits fnvFrom fnvStep distance namesOf lengthsFit
+tested-text = refl
+
+pub premise-text : Premise (sample 5 5) callsText
+premise-text = test-premise (sample 5 5) callsText tested-text
+
+-- it has a run
+pub text-run : (ends : List Ended) × Run (sample 5 5) callsText ends
+text-run = run-of callsText (omega arith, (omega arith, (omega arith, (omega arith, (tt, (tt, (tt, (tt, tt))))))))
 
 -- ---- the premise, the types and a run
 

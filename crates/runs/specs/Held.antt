@@ -1,12 +1,13 @@
--- What the lists hold of the rows: vectors, document ids, owners and hashes. They depend on the fronts of the lists that stand before the node parts,
--- so a build, refused or not, leaves them; an accepted add writes one row more, behind those held.
+-- What the lists hold of the rows: vectors, document ids, owners and hashes, starts, lengths and bytes of labels. They depend on the fronts of the lists that
+-- stand before the node parts, on the starts and lengths behind them, and on the label text, so a build, refused or not, leaves them; an accepted add writes
+-- one row more, behind those held.
 use Prim.Native.Nat.{ℕ, suc, _+_, _*_, _≤_, _<_}
 use native.Mathlib.Nat.{zero-add, add-zero, mul-comm, mul-add, le-refl, suc-mul, mul-le-mul-right}
 use native.Mathlib.Omega.{arith}
 use mathlib.Core.List.{List, [], _∷_, _++_, map, map-append, append-nil, append-assoc, List·Memᴰ, List·Memᴰ·not-nil, List·Memᴰ·append-cases}
 use mathlib.Core.Path.{_≡_, refl, sym, ap, ap₂, _∙_, subst}
 use lib.Ieee.{Float}
-use lib.ListN.{length, getD, set, replicate, length-append, length-map, length-replicate, length-set}
+use lib.ListN.{length, getD, set, drop, replicate, length-append, length-map, length-replicate, length-set}
 use lib.Seq.{sets}
 use Rattle.lists.specs.Lists.{part, countFrom, joined}
 use Rattle.lists.specs.Maps.{map-on, Memᴰ-replicate}
@@ -15,16 +16,18 @@ use Rattle.lists.specs.Parts.{part-sets-same, part-sets-before, part-sets-grown
 use Rattle.lists.specs.Tests.{either}
 use Rattle.vector.specs.Normalized.{normalized, normalized-is, length-normalized}
 use Rattle.store.specs.declared.Lengths.{Lengths}
-use Rattle.store.specs.Store.{Store, vectorAt, centroidsAt, orderAt, filtersAt}
-use Rattle.store.specs.Lent.{sizesOf, NoShorter}
-use Rattle.store.specs.Agree.{Agree, part-same}
-use Rattle.label.specs.Names.{hashesOfLabels}
-use Rattle.curator.specs.Calls.{heldVectors, heldEntries}
+use Rattle.store.specs.Store.{Store, vectorAt, centroidsAt, orderAt, startsAt, lengthsAt, filtersAt}
+use Rattle.store.specs.Lent.{lengthsOf, sizesOf, NoShorter, joinStores}
+use Rattle.store.specs.Agree.{Agree, agree-sym, agree-join, part-same, part-front, take-less}
+use Rattle.label.specs.Names.{hashesOfLabels, startsFrom, lengthsOfNames, bytesOfNames}
+use Rattle.label.specs.TextLaws.{starts-append, lengths-append, bytes-append}
+use Rattle.curator.specs.Calls.{heldVectors, heldEntries, heldStarts, heldLengths, heldText}
+use Rattle.curator.specs.HeldLaws.{labels-behind, owned, starts-grown, lengths-grown, text-grown}
 use Rattle.curator.specs.Changes.{Wrote}
 use Rattle.curator.specs.Arguments.{AddCall}
 use Rattle.curator.specs.Lent.{AddRoom}
 use Rattle.label.specs.NameLaws.{length-hashesOfLabels}
-use Rattle.runs.specs.Model.{Setting, Model, ModelRow, emptyModel, rowVectors, rowHashes, ownersFrom, rowEntries, newRow, settingShape}
+use Rattle.runs.specs.Model.{Setting, Model, ModelRow, emptyModel, hashesIn, rowVectors, rowHashes, rowNames, rowBytes, ownersFrom, rowEntries, newRow, settingShape}
 use Rattle.runs.specs.State.{stateFor, Within}
 
 pub record Held (s : Setting) (m : Model) (store : Store) : Type 0 where
@@ -32,13 +35,41 @@ pub record Held (s : Setting) (m : Model) (store : Store) : Type 0 where
   pub documents : part 0 (length (m .rows)) (store .numbers) ≡ map (λ r. r .document) (m .rows)
   pub owners : part (s .capacities .vectors) (length (rowHashes m)) (store .numbers) ≡ ownersFrom 0 (m .rows)
   pub hashes : part 0 (length (rowHashes m)) (store .hashes) ≡ rowHashes m
+  pub starts : part (startsAt (settingShape s)) (length (rowHashes m)) (store .numbers) ≡ startsFrom 0 (rowNames m)
+  pub lengths : part (lengthsAt (settingShape s)) (length (rowHashes m)) (store .numbers) ≡ lengthsOfNames (rowNames m)
+  pub text : part 0 (rowBytes m) (store .text) ≡ bytesOfNames (rowNames m)
 
--- the fronts that it depends on: up to the centroids, the leaf order, the filters
+-- the fronts that it depends on: up to the centroids, the leaf order, the filters, and all of the label text
 abbrev pub rowsEnd : Setting → Lengths
-rowsEnd s = record { floats = centroidsAt (settingShape s); numbers = orderAt (settingShape s); hashes = filtersAt (settingShape s) }
+rowsEnd s =
+    record {
+      floats = centroidsAt (settingShape s);
+      numbers = orderAt (settingShape s);
+      hashes = filtersAt (settingShape s);
+      text = s .capacities .text;
+    }
 
-abbrev pub SameRows : Setting → Store → Store → Type 0
-SameRows s = Agree (rowsEnd s)
+-- and the starts and lengths behind them
+pub record SameRows (s : Setting) (store store′ : Store) : Type 0 where
+  pub fronts : Agree (rowsEnd s) store store′
+  pub starts : part (startsAt (settingShape s)) (s .capacities .entries) (store .numbers) ≡ part (startsAt (settingShape s)) (s .capacities .entries) (store′ .numbers)
+  pub lengths : part (lengthsAt (settingShape s)) (s .capacities .entries) (store .numbers) ≡ part (lengthsAt (settingShape s)) (s .capacities .entries) (store′ .numbers)
+
+pub rows-sym : (s : Setting) (store store′ : Store) → SameRows s store store′ → SameRows s store′ store
+rows-sym s store store′ same = record { fronts = agree-sym (same .fronts); starts = sym (same .starts); lengths = sym (same .lengths) }
+
+-- two fronts of the same lengths that agree so, each with the same rest behind it
+pub rows-join : (s : Setting) (front front′ rest : Store) → lengthsOf front ≡ lengthsOf front′ → SameRows s front front′
+    → SameRows s (joinStores front rest) (joinStores front′ rest)
+rows-join s front front′ rest l same =
+    let sh = settingShape s in
+    let e = s .capacities .entries in
+    let n = ap (λ (k : Lengths). k .numbers) l in
+    record {
+      fronts = agree-join (rowsEnd s) front front′ rest l (same .fronts);
+      starts = part-front (startsAt sh) e (front .numbers) (front′ .numbers) (rest .numbers) n (same .starts);
+      lengths = part-front (lengthsAt sh) e (front .numbers) (front′ .numbers) (rest .numbers) n (same .lengths);
+    }
 
 -- they end within the sizes
 pub rows-within : (s : Setting) → NoShorter (rowsEnd s) (sizesOf (settingShape s))
@@ -47,7 +78,7 @@ rows-within s =
     let c = s .capacities in
     let p = mul-add d (c .vectors + c .nodes) (s .params .«branching_factor») in
     let q = mul-add d (c .vectors) (c .nodes) in
-    record { floats = omega arith; numbers = omega arith; hashes = omega arith }
+    record { floats = omega arith; numbers = omega arith; hashes = omega arith; text = omega arith }
 
 -- the places of a vector that is held
 pub vector-places : (i n d v : ℕ) → i < n → n ≤ v → i * d + d ≤ d * v
@@ -58,7 +89,9 @@ vector-places i n d v h g =
     omega arith
 
 pub held-same : (s : Setting) (m : Model) (store store′ : Store) → Within s m → SameRows s store store′ → Held s m store → Held s m store′
-held-same s m store store′ w a h =
+held-same s m store store′ w same h =
+    let a = same .fronts in
+    let sh = settingShape s in
     let d = s .dimension in
     let n = length (m .rows) in
     let c = s .capacities in
@@ -75,12 +108,20 @@ held-same s m store store′ w a h =
       owners = sym (part-same (c .vectors) (length (rowHashes m)) (c .vectors + c .entries) (store .numbers) (store′ .numbers) inO (a .numbers))
           ∙ h .owners;
       hashes = sym (part-same 0 (length (rowHashes m)) (c .entries) (store .hashes) (store′ .hashes) inE (a .hashes)) ∙ h .hashes;
+      starts =
+          sym (take-less (length (rowHashes m)) (c .entries) (drop (startsAt sh) (store .numbers)) (drop (startsAt sh) (store′ .numbers)) (w .entries) (same .starts))
+          ∙ h .starts;
+      lengths =
+          sym (take-less (length (rowHashes m)) (c .entries) (drop (lengthsAt sh) (store .numbers)) (drop (lengthsAt sh) (store′ .numbers)) (w .entries) (same .lengths))
+          ∙ h .lengths;
+      text = sym (part-same 0 (rowBytes m) (c .text) (store .text) (store′ .text) (omega (arith, w .bytes)) (a .text)) ∙ h .text;
     }
 
 -- nothing is held of no row
 pub held-empty : (s : Setting) (store : Store) → Held s emptyModel store
-unfolding countFrom rowVectors rowHashes ownersFrom joined
-held-empty s store = record { vectors = refl; documents = refl; owners = refl; hashes = refl }
+unfolding countFrom rowVectors rowHashes rowNames rowBytes ownersFrom joined startsFrom lengthsOfNames bytesOfNames
+held-empty s store =
+    record { vectors = refl; documents = refl; owners = refl; hashes = refl; starts = refl; lengths = refl; text = refl }
 
 -- what a state of the model holds, as build reads it
 pub held-vectors : (s : Setting) (m : Model) (store : Store) → Held s m store → heldVectors (stateFor s m) store ≡ rowVectors m
@@ -104,27 +145,47 @@ pub vectors-more : (m : Model) (r : ModelRow) → rowVectors (withRow m r) ≡ r
 unfolding rowVectors
 vectors-more m r = map-append (λ t. t .vector) (m .rows) (r ∷ [])
 
-pub hashes-more : (m : Model) (r : ModelRow) → rowHashes (withRow m r) ≡ rowHashes m ++ r .hashes
+pub hashes-more : (m : Model) (r : ModelRow) → rowHashes (withRow m r) ≡ rowHashes m ++ hashesIn r
 unfolding rowHashes
-hashes-more m r = joined-snoc (λ t. t .hashes) (m .rows) r
+hashes-more m r = joined-snoc hashesIn (m .rows) r
+
+pub names-more : (m : Model) (r : ModelRow) → rowNames (withRow m r) ≡ rowNames m ++ r .names
+unfolding rowNames
+names-more m r = joined-snoc (λ t. t .names) (m .rows) r
+
+pub text-more : (m : Model) (r : ModelRow) → bytesOfNames (rowNames (withRow m r)) ≡ bytesOfNames (rowNames m) ++ bytesOfNames (r .names)
+text-more m r = ap bytesOfNames (names-more m r) ∙ bytes-append (rowNames m) (r .names)
+
+pub bytes-more : (m : Model) (r : ModelRow) → rowBytes (withRow m r) ≡ rowBytes m + length (bytesOfNames (r .names))
+unfolding rowBytes
+bytes-more m r = ap length (text-more m r) ∙ length-append (bytesOfNames (rowNames m)) (bytesOfNames (r .names))
+
+pub starts-more : (m : Model) (r : ModelRow) → startsFrom 0 (rowNames (withRow m r)) ≡ startsFrom 0 (rowNames m) ++ startsFrom (rowBytes m) (r .names)
+unfolding rowBytes
+starts-more m r =
+    ap (startsFrom 0) (names-more m r) ∙ starts-append 0 (rowNames m) (r .names)
+    ∙ ap (λ (k : ℕ). startsFrom 0 (rowNames m) ++ startsFrom k (r .names)) (zero-add (length (bytesOfNames (rowNames m))))
+
+pub lengths-more : (m : Model) (r : ModelRow) → lengthsOfNames (rowNames (withRow m r)) ≡ lengthsOfNames (rowNames m) ++ lengthsOfNames (r .names)
+lengths-more m r = ap lengthsOfNames (names-more m r) ∙ lengths-append (rowNames m) (r .names)
 
 owners-snoc : (i : ℕ) (rows : List ModelRow) (r : ModelRow)
-    → ownersFrom i (rows ++ (r ∷ [])) ≡ ownersFrom i rows ++ replicate (length (r .hashes)) (i + length rows)
+    → ownersFrom i (rows ++ (r ∷ [])) ≡ ownersFrom i rows ++ replicate (length (hashesIn r)) (i + length rows)
 unfolding ownersFrom
-owners-snoc i [] r = append-nil (replicate (length (r .hashes)) i) ∙ ap (replicate (length (r .hashes))) (sym (add-zero i))
+owners-snoc i [] r = append-nil (replicate (length (hashesIn r)) i) ∙ ap (replicate (length (hashesIn r))) (sym (add-zero i))
 owners-snoc i (t ∷ rows) r =
     let e : suc i + length rows ≡ i + suc (length rows) = omega arith in
-    ap (λ (l : List ℕ). replicate (length (t .hashes)) i ++ l) (owners-snoc (suc i) rows r ∙ ap (λ (k : ℕ). ownersFrom (suc i) rows ++ replicate (length (r .hashes)) k) e)
-    ∙ sym (append-assoc (replicate (length (t .hashes)) i) (ownersFrom (suc i) rows) (replicate (length (r .hashes)) (i + suc (length rows))))
+    ap (λ (l : List ℕ). replicate (length (hashesIn t)) i ++ l) (owners-snoc (suc i) rows r ∙ ap (λ (k : ℕ). ownersFrom (suc i) rows ++ replicate (length (hashesIn r)) k) e)
+    ∙ sym (append-assoc (replicate (length (hashesIn t)) i) (ownersFrom (suc i) rows) (replicate (length (hashesIn r)) (i + suc (length rows))))
 
 pub owners-more : (m : Model) (r : ModelRow)
-    → ownersFrom 0 (withRow m r .rows) ≡ ownersFrom 0 (m .rows) ++ replicate (length (r .hashes)) (length (m .rows))
-owners-more m r = owners-snoc 0 (m .rows) r ∙ ap (λ (k : ℕ). ownersFrom 0 (m .rows) ++ replicate (length (r .hashes)) k) (zero-add (length (m .rows)))
+    → ownersFrom 0 (withRow m r .rows) ≡ ownersFrom 0 (m .rows) ++ replicate (length (hashesIn r)) (length (m .rows))
+owners-more m r = owners-snoc 0 (m .rows) r ∙ ap (λ (k : ℕ). ownersFrom 0 (m .rows) ++ replicate (length (hashesIn r)) k) (zero-add (length (m .rows)))
 
 -- one hash a label
 pub count-more : (m : Model) (call : AddCall) → length (rowHashes (withRow m (newRow call))) ≡ length (rowHashes m) + length (call .names)
 count-more m call =
-    ap length (hashes-more m (newRow call)) ∙ length-append (rowHashes m) (newRow call .hashes)
+    ap length (hashes-more m (newRow call)) ∙ length-append (rowHashes m) (hashesIn (newRow call))
     ∙ ap (λ (k : ℕ). length (rowHashes m) + k) (length-hashesOfLabels (call .names))
 
 module _ (s : Setting) (m : Model) (call : AddCall) (store store′ : Store) (room : AddRoom (stateFor s m) store call)
@@ -167,6 +228,7 @@ module _ (s : Setting) (m : Model) (call : AddCall) (store store′ : Store) (ro
       let one = sets (store .numbers) n (call .document ∷ []) in
       let small : 0 + suc n ≤ at = omega (arith, room .vectors, en) in
       ap (λ (l : List ℕ). part 0 (suc n) l) (wrote .numbers)
+      ∙ labels-behind (stateFor s m) call (owned (stateFor s m) store call store′ room wrote) 0 (suc n) (omega (arith, room .vectors, en))
       ∙ part-sets-before 0 (suc n) (set (store .numbers) (length (m .rows)) (call .document)) at L small
       ∙ ap (λ (k : ℕ). part 0 (suc n) (set (store .numbers) k (call .document))) en
       ∙ ap₂ (λ (a b : ℕ). part 0 a (sets (store .numbers) b (call .document ∷ []))) (let e : suc n ≡ n + 1 = omega arith in e) (sym (zero-add n))
@@ -182,6 +244,7 @@ module _ (s : Setting) (m : Model) (call : AddCall) (store store′ : Store) (ro
       let L = replicate (length (call .names)) (length (m .rows)) in
       let n = length (m .rows) in
       ap (λ (l : List ℕ). part v (e + length (call .names)) l) (wrote .numbers)
+      ∙ labels-behind (stateFor s m) call (owned (stateFor s m) store call store′ room wrote) v (e + length (call .names)) (omega (arith, room .entries))
       ∙ part-sets-grown v e (set (store .numbers) n (call .document)) L (length (call .names)) (length-replicate (length (call .names)) n)
       (let t : v + e + length (call .names) ≤ length (set (store .numbers) n (call .document)) =
       omega (arith, room .entries, room .long .numbers, length-set (store .numbers) n (call .document)) in t)
@@ -196,6 +259,21 @@ module _ (s : Setting) (m : Model) (call : AddCall) (store store′ : Store) (ro
       ∙ ap (λ (k : ℕ). part 0 (e + length (call .names)) (sets (store .hashes) k hs)) (sym (zero-add e))
       ∙ part-sets-grown 0 e (store .hashes) hs (length (call .names)) (length-hashesOfLabels (call .names)) (omega (arith, room .entries, room .long .hashes))
       ∙ ap (λ (l : List ℕ). l ++ hs) h
+
+  added-starts : part (startsAt (settingShape s)) (length (rowHashes m)) (store .numbers) ≡ startsFrom 0 (rowNames m)
+      → part (startsAt (settingShape s)) (length (rowHashes m) + length (call .names)) (store′ .numbers) ≡ startsFrom 0 (rowNames m) ++ startsFrom (rowBytes m) (call .names)
+  unfolding heldStarts
+  added-starts h = starts-grown (stateFor s m) store call store′ room wrote ∙ ap (λ (l : List ℕ). l ++ startsFrom (rowBytes m) (call .names)) h
+
+  added-lengths : part (lengthsAt (settingShape s)) (length (rowHashes m)) (store .numbers) ≡ lengthsOfNames (rowNames m)
+      → part (lengthsAt (settingShape s)) (length (rowHashes m) + length (call .names)) (store′ .numbers) ≡ lengthsOfNames (rowNames m) ++ lengthsOfNames (call .names)
+  unfolding heldLengths
+  added-lengths h = lengths-grown (stateFor s m) store call store′ room wrote ∙ ap (λ (l : List ℕ). l ++ lengthsOfNames (call .names)) h
+
+  added-text : part 0 (rowBytes m) (store .text) ≡ bytesOfNames (rowNames m)
+      → part 0 (rowBytes m + length (bytesOfNames (call .names))) (store′ .text) ≡ bytesOfNames (rowNames m) ++ bytesOfNames (call .names)
+  unfolding heldText
+  added-text h = text-grown (stateFor s m) store call store′ room wrote ∙ ap (λ (l : List ℕ). l ++ bytesOfNames (call .names)) h
 
   pub held-added : Held s m store → Held s (withRow m (newRow call)) store′
   held-added h =
@@ -213,6 +291,9 @@ module _ (s : Setting) (m : Model) (call : AddCall) (store store′ : Store) (ro
             ∙ ap (λ (k : ℕ). ownersFrom 0 (m .rows) ++ replicate k (length (m .rows))) (sym (length-hashesOfLabels (call .names)))
             ∙ sym (owners-more m r);
         hashes = ap (λ (k : ℕ). part 0 k (store′ .hashes)) count ∙ added-hashes (h .hashes) ∙ sym (hashes-more m r);
+        starts = ap (λ (k : ℕ). part (startsAt (settingShape s)) k (store′ .numbers)) count ∙ added-starts (h .starts) ∙ sym (starts-more m r);
+        lengths = ap (λ (k : ℕ). part (lengthsAt (settingShape s)) k (store′ .numbers)) count ∙ added-lengths (h .lengths) ∙ sym (lengths-more m r);
+        text = ap (λ (k : ℕ). part 0 k (store′ .text)) (bytes-more m r) ∙ added-text (h .text) ∙ sym (text-more m r);
       }
 
 -- ---- owners are rows: build's 15 never
@@ -221,8 +302,8 @@ pub owners-below : (i : ℕ) (rows : List ModelRow) (x : ℕ) → List·Memᴰ x
 unfolding ownersFrom
 owners-below i [] x m = absurd (List·Memᴰ·not-nil m)
 owners-below i (r ∷ rows) x m =
-    either (List·Memᴰ·append-cases (replicate (length (r .hashes)) i) m)
-    (λ k. let e : x ≡ i = Memᴰ-replicate (length (r .hashes)) k in let t : x < i + suc (length rows) = omega arith in t)
+    either (List·Memᴰ·append-cases (replicate (length (hashesIn r)) i) m)
+    (λ k. let e : x ≡ i = Memᴰ-replicate (length (hashesIn r)) k in let t : x < i + suc (length rows) = omega arith in t)
     (λ k. let b : x < suc i + length rows = owners-below (suc i) rows x k in let t : x < i + suc (length rows) = omega arith in t)
 
 pub owner-below : (m : Model) (k : ℕ) → k < length (rowEntries m .owners) → getD (rowEntries m .owners) k 0 < length (m .rows)
@@ -233,17 +314,29 @@ owner-below m k h =
     omega arith
 
 -- one owner a hash
-owners-count : (i : ℕ) (rows : List ModelRow) → length (ownersFrom i rows) ≡ length (joined (λ r. r .hashes) rows)
+owners-count : (i : ℕ) (rows : List ModelRow) → length (ownersFrom i rows) ≡ length (joined hashesIn rows)
 unfolding ownersFrom joined
 owners-count i [] = refl
 owners-count i (r ∷ rows) =
-    length-append (replicate (length (r .hashes)) i) (ownersFrom (suc i) rows)
-    ∙ ap₂ _+_ (length-replicate (length (r .hashes)) i) (owners-count (suc i) rows)
-    ∙ sym (length-append (r .hashes) (joined (λ t. t .hashes) rows))
+    length-append (replicate (length (hashesIn r)) i) (ownersFrom (suc i) rows)
+    ∙ ap₂ _+_ (length-replicate (length (hashesIn r)) i) (owners-count (suc i) rows)
+    ∙ sym (length-append (hashesIn r) (joined hashesIn rows))
 
 pub owners-length : (m : Model) → length (rowEntries m .owners) ≡ length (rowHashes m)
 unfolding rowEntries rowHashes
 owners-length m = owners-count 0 (m .rows)
+
+-- one name a hash
+names-count : (rows : List ModelRow) → length (joined (λ r. r .names) rows) ≡ length (joined hashesIn rows)
+unfolding joined
+names-count [] = refl
+names-count (r ∷ rows) =
+    length-append (r .names) (joined (λ t. t .names) rows) ∙ ap₂ _+_ (sym (length-hashesOfLabels (r .names))) (names-count rows)
+    ∙ sym (length-append (hashesIn r) (joined hashesIn rows))
+
+pub names-length : (m : Model) → length (rowNames m) ≡ length (rowHashes m)
+unfolding rowNames rowHashes
+names-length m = names-count (m .rows)
 
 pub length-vectors : (m : Model) → length (rowVectors m) ≡ length (m .rows)
 unfolding rowVectors

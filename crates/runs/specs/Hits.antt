@@ -15,11 +15,11 @@ use Rattle.distance.specs.DistanceLaws.{distance-fits}
 use Rattle.total_order.specs.TotalOrder.{keyOf, ofKey}
 use Rattle.total_order.specs.OrderLaws.{ofKey-keyOf}
 use Rattle.vector.specs.Normalized.{normalized}
-use Rattle.walk.specs.declared.Wanted.{Wanted}
 use Rattle.walk.specs.Walk.{View, Progress, going, walk, whole}
 use Rattle.walk.specs.Answer.{documentOf, distanceOf, ranked}
 use Rattle.walk.specs.SoundWalk.{sound-part, sound-whole}
 use Rattle.walk.specs.AnswerLaws.{ranked-all}
+use Rattle.walk.specs.Wanted.{Sought}
 use Rattle.curator.specs.Searches.{wantedOf}
 use Rattle.curator.specs.Arguments.{Question}
 use Rattle.runs.specs.Model.{Setting, Model, ModelRow, noRow, rowHit, treeView}
@@ -31,7 +31,7 @@ use Rattle.runs.specs.Eligible.{due-about, number-below, rank-hit, hitsA
 -- the rows that a search is about are rows
 pub about-rows : (m : Model) (question : Question) (r : ModelRow) → List·Memᴰ r (about question m) → List·Memᴰ r (m .rows)
 unfolding about
-about-rows m question r k = Memᴰ-keep (carries (wantedOf (question .asked))) r (m .rows) k .1
+about-rows m question r k = Memᴰ-keep (carries (question .asked)) r (m .rows) k .1
 
 -- what a rank says: the document id, and the key of the distance
 pub rank-document : (question : Question) (r : ModelRow) → r .document < 2 ^ 32 → rowRank question r % 2 ^ 32 ≡ r .document
@@ -64,7 +64,7 @@ module _ (s : Setting) (m : Model) (a : Allowed s) (w : Within s m) (d : Distinc
   abbrev query : List Float
   query = normalized (question .query)
 
-  abbrev wanted : Wanted
+  abbrev wanted : Sought
   wanted = wantedOf (question .asked)
 
   all-due : dueBelow s m query wanted 0 ≡ hitsAbout m question

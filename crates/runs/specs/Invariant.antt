@@ -2,15 +2,16 @@
 -- as the model expects: the checks are the same, a refused call leaves all of it, an accepted one writes the same row, takes the same
 -- row back, writes the same nodes, or nothing.
 use mathlib.Core.Bool.{true, false≢true}
+use native.Mathlib.Omega.{arith}
 use mathlib.Core.Path.{_≡_, _∙_}
-use Rattle.store.specs.Store.{Store}
+use Rattle.store.specs.Store.{Store, startsAt, lengthsAt, numbersSize}
 use Rattle.store.specs.Lent.{lengthsOf, sizesOf, Long, joinStores}
-use Rattle.store.specs.Agree.{agree-sym, agree-less, agree-front}
+use Rattle.store.specs.Agree.{agree-less, agree-front, part-same}
 use Rattle.curator.specs.declared.CuratorIndex.{CuratorIndex}
 use Rattle.curator.specs.Calls.{fresh}
 use Rattle.runs.specs.Model.{Setting, Model, emptyModel, settingShape}
 use Rattle.runs.specs.State.{Within, stateFor, empty-state, empty-within}
-use Rattle.runs.specs.Held.{Held, rowsEnd, rows-within, SameRows, held-same, held-empty}
+use Rattle.runs.specs.Held.{Held, rowsEnd, rows-within, SameRows, rows-sym, held-same, held-empty}
 use Rattle.runs.specs.Built.{Laid, SameLists}
 
 pub record Invariant (s : Setting) (m : Model) (index : CuratorIndex) (store : Store) : Type 0 where
@@ -32,7 +33,14 @@ long-same s front rest l = agree-front (sizesOf (settingShape s)) front rest l
 
 -- the parts of the rows stand before the ends of the lists
 pub rows-same : (s : Setting) (store store′ : Store) → SameLists s store store′ → SameRows s store store′
-rows-same s store store′ a = agree-less (rowsEnd s) (sizesOf (settingShape s)) store store′ (rows-within s) a
+rows-same s store store′ a =
+    let sh = settingShape s in
+    let e = s .capacities .entries in
+    record {
+      fronts = agree-less (rowsEnd s) (sizesOf sh) store store′ (rows-within s) a;
+      starts = part-same (startsAt sh) e (numbersSize sh) (store .numbers) (store′ .numbers) (omega arith) (a .numbers);
+      lengths = part-same (lengthsAt sh) e (numbersSize sh) (store .numbers) (store′ .numbers) (omega arith) (a .numbers);
+    }
 
 pub held-front : (s : Setting) (m : Model) (front rest : Store) → Within s m → Long (settingShape s) (lengthsOf front) → Held s m (joinStores front rest)
     → Held s m front
@@ -43,4 +51,4 @@ held-front s m front rest w l h =
 pub held-back : (s : Setting) (m : Model) (front rest : Store) → Within s m → Long (settingShape s) (lengthsOf front) → Held s m front
     → Held s m (joinStores front rest)
 held-back s m front rest w l h =
-    held-same s m front (joinStores front rest) w (agree-sym (rows-same s (joinStores front rest) front (long-same s front rest l))) h
+    held-same s m front (joinStores front rest) w (rows-sym s (joinStores front rest) front (rows-same s (joinStores front rest) front (long-same s front rest l))) h

@@ -15,10 +15,9 @@ use Rattle.store.specs.declared.Counts.{Counts}
 use Rattle.store.specs.declared.Lengths.{Lengths}
 use Rattle.tree.specs.Tree.{treeOf, size}
 use Rattle.tree.specs.Nodes.{Node, noNode, Entries, nodesOf}
-use Rattle.walk.specs.declared.Wanted.{Wanted}
 use Rattle.walk.specs.Walk.{View, Shown, State, damaged, going, children, hits, walk}
 use Rattle.walk.specs.Answer.{Answer, answer, hitOf}
-use Rattle.walk.specs.Wanted.{EntryRead, LeafList, vector-list, entry-list, denies, listRead, given, most}
+use Rattle.walk.specs.Wanted.{Sought, EntryRead, LeafList, vector-list, entry-list, denies, listRead, given, most}
 use Rattle.settings.specs.declared.CuratorParams.{CuratorParams}
 use Rattle.settings.specs.declared.Capacities.{Capacities}
 use Rattle.settings.specs.declared.Check.{Check}
@@ -26,7 +25,7 @@ use Rattle.settings.specs.declared.Check.the-variants.{Fine, Refused}
 use Rattle.curator.specs.Limits.{shapeOf}
 use Rattle.settings.specs.Refusals.{number, checkNumber}
 use Rattle.curator.specs.Rows.{Facts, Row, firstOf, addRows, takeBackRows, buildRows, searchRows}
-use Rattle.label.specs.Names.{hashesOfLabels}
+use Rattle.label.specs.Names.{hashesOfLabels, bytesOfNames}
 use Rattle.curator.specs.Calls.{splittingOf}
 use Rattle.curator.specs.Arguments.{AddCall, Question, SearchCall, askingOf}
 use Rattle.curator.specs.Searches.{wantedOf}
@@ -41,11 +40,14 @@ pub record Setting : Type 0 where
 abbrev pub settingShape : Setting → Shape
 settingShape s = shapeOf (s .dimension) (s .params) (s .capacities)
 
--- a line: 'document id, normalised vector, each label's hash'
+-- a line: 'document id, normalised vector, each label's hash'; 'The book's lines keep their labels' bytes too' (02, K4), and a hash is that of the bytes
 pub record ModelRow : Type 0 where
   pub document : ℕ
   pub vector : List Float
-  pub hashes : List ℕ
+  pub names : List (List ℕ)
+
+abbrev pub hashesIn : ModelRow → List ℕ
+hashesIn r = hashesOfLabels (r .names)
 
 -- 'It holds lines, and whether it is built.'
 pub record Model : Type 0 where
@@ -61,21 +63,32 @@ unfoldable pub rowVectors : Model → List (List Float)
 rowVectors m = map (λ r. r .vector) (m .rows)
 
 unfoldable pub rowHashes : Model → List ℕ
+unfolding joined hashesOfLabels
+rowHashes m = joined hashesIn (m .rows)
+
+-- the labels, line by line; 'and those are its bytes held'
+unfoldable pub rowNames : Model → List (List ℕ)
 unfolding joined
-rowHashes m = joined (λ r. r .hashes) (m .rows)
+rowNames m = joined (λ r. r .names) (m .rows)
+
+unfoldable pub rowBytes : Model → ℕ
+unfolding rowNames bytesOfNames
+rowBytes m = length (bytesOfNames (rowNames m))
 
 -- the number of a row, once for each of its hashes
 unfoldable pub ownersFrom : ℕ → List ModelRow → List ℕ
+unfolding hashesOfLabels
 ownersFrom i [] = []
-ownersFrom i (r ∷ rows) = replicate (length (r .hashes)) i ++ ownersFrom (suc i) rows
+ownersFrom i (r ∷ rows) = replicate (length (hashesIn r)) i ++ ownersFrom (suc i) rows
 
 unfoldable pub rowEntries : Model → Entries
 unfolding ownersFrom rowHashes
 rowEntries m = record { owners = ownersFrom 0 (m .rows); hashes = rowHashes m }
 
 unfoldable pub modelFacts : Setting → Model → Facts
-unfolding rowHashes
-modelFacts s m = record { shape = settingShape s; vectors = length (m .rows); entries = length (rowHashes m); built = m .built }
+unfolding rowHashes rowBytes
+modelFacts s m =
+    record { shape = settingShape s; vectors = length (m .rows); entries = length (rowHashes m); bytes = rowBytes m; built = m .built }
 
 -- 'the book's node count is that of its tree'
 unfoldable pub nodeCount : Setting → Model → ℕ
@@ -86,9 +99,9 @@ unfoldable pub modelNodes : Setting → Model → List Node
 unfolding nodesOf rowVectors rowEntries
 modelNodes s m = nodesOf (splittingOf (s .dimension) (s .params)) (rowVectors m) (rowEntries m)
 
--- how many vectors, entries and nodes a built model has
+-- how many vectors, entries, nodes and bytes a built model has
 abbrev pub modelCounts : Setting → Model → Counts
-modelCounts s m = record { vectors = length (m .rows); entries = length (rowHashes m); nodes = nodeCount s m }
+modelCounts s m = record { vectors = length (m .rows); entries = length (rowHashes m); nodes = nodeCount s m; bytes = rowBytes m }
 
 -- ---- the calls that change the index
 
@@ -103,9 +116,9 @@ unfoldable pub changeCheck : Setting → Model → Lengths → ℕ → Change �
 unfolding firstOf changeRows
 changeCheck s m lent work c = firstOf (changeRows s m lent work c)
 
--- 'document id, normalised vector, each label's hash'
+-- 'document id, normalised vector, each label's hash', and the labels' bytes
 abbrev pub newRow : AddCall → ModelRow
-newRow call = record { document = call .document; vector = normalized (call .vector); hashes = hashesOfLabels (call .names) }
+newRow call = record { document = call .document; vector = normalized (call .vector); names = call .names }
 
 -- the lines without the last
 abbrev pub struck : List ModelRow → List ModelRow
@@ -113,7 +126,7 @@ struck rows = take (length rows - 1) rows
 
 -- 'Any other add writes a line at the end'; taking back 'strikes the book's last line' (02, K3); 'Any other build makes it built'
 unfoldable pub carriedOut : Change → Model → Model
-unfolding normalized hashesOfLabels
+unfolding normalized
 carriedOut (add call) m = record { rows = m .rows ++ (newRow call ∷ []); built = m .built }
 carriedOut take-back m = record { rows = struck (m .rows); built = m .built }
 carriedOut build m = record { rows = m .rows; built = true }
@@ -127,7 +140,7 @@ changedBy Fine c m = carriedOut c m
 -- ---- the search over the rows and their tree: no list of a store occurs in it
 
 abbrev pub noRow : ModelRow
-noRow = record { document = 0; vector = []; hashes = [] }
+noRow = record { document = 0; vector = []; names = [] }
 
 -- the hit of the row with a number: 'Distances are from the normalised query to the lines' vectors'
 unfoldable pub rowHit : Model → List Float → ℕ → ℕ
@@ -135,7 +148,12 @@ rowHit m query i = hitOf (distance query (getD (m .rows) i noRow .vector)) (getD
 
 -- what the rows have of an entry
 abbrev pub rowRead : Model → EntryRead
-rowRead m = record { hash = λ entry. getD (rowEntries m .hashes) entry 0; owner = λ entry. getD (rowEntries m .owners) entry 0 }
+rowRead m =
+    record {
+      hash = λ entry. getD (rowEntries m .hashes) entry 0;
+      owner = λ entry. getD (rowEntries m .owners) entry 0;
+      name = λ entry. getD (rowNames m) entry [];
+    }
 
 -- the two lists of a node
 abbrev pub nodeList : LeafList → Node → List ℕ
@@ -143,18 +161,18 @@ nodeList vector-list node = node .ids
 nodeList entry-list node = node .entries
 
 -- what a leaf gives of the list that is read
-unfoldable pub leafHits : Model → List Float → Wanted → Node → List ℕ
-unfolding rowHit rowEntries given
+unfoldable pub leafHits : Model → List Float → Sought → Node → List ℕ
+unfolding rowHit rowEntries rowNames given
 leafHits m query wanted node = map (rowHit m query) (given wanted (rowRead m) (nodeList (listRead wanted) node))
 
-unfoldable pub nodeGives : Model → List Float → Wanted → Node → List ℕ → Shown
+unfoldable pub nodeGives : Model → List Float → Sought → Node → List ℕ → Shown
 unfolding leafHits
 nodeGives m query wanted node [] = hits (leafHits m query wanted node)
 nodeGives m query wanted node (child ∷ rest) = children (child ∷ rest)
 
 -- the view of the rows' tree
-unfoldable pub treeView : Setting → Model → List Float → Wanted → View
-unfolding modelNodes nodeGives denies rowHashes nodeCount keyOf
+unfoldable pub treeView : Setting → Model → List Float → Sought → View
+unfolding modelNodes nodeGives denies rowHashes rowBytes nodeCount keyOf
 treeView s m query wanted =
     let nodes = modelNodes s m in
     record {

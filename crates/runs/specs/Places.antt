@@ -39,7 +39,7 @@ noTwo test (x ∷ xs) = noneSame test x xs && noTwo test xs
 unfoldable pub labelsTest : List ModelRow → Bool
 unfolding noTwo sameLabel
 labelsTest [] = true
-labelsTest (r ∷ rows) = noTwo sameLabel (r .hashes) && labelsTest rows
+labelsTest (r ∷ rows) = noTwo sameLabel (r .names) && labelsTest rows
 
 unfoldable pub distinctTest : Model → Bool
 unfolding noTwo labelsTest
@@ -63,13 +63,13 @@ two-map : {A : Type 0} (P Q : A → A → Type 0) (l : List A) → ((a b : A) �
 two-map P Q [] f d = tt
 two-map P Q (x ∷ l) f d = (λ y k q. d .0 y k (f x y q), two-map P Q l f (d .1))
 
-labels-test : (rows : List ModelRow) → labelsTest rows ≡ true → (r : ModelRow) → List·Memᴰ r rows → NoTwo (λ (a b : ℕ). sameLabel a b ≡ true) (r .hashes)
+labels-test : (rows : List ModelRow) → labelsTest rows ≡ true → (r : ModelRow) → List·Memᴰ r rows → NoTwo (λ (a b : List ℕ). sameLabel a b ≡ true) (r .names)
 unfolding labelsTest
 labels-test [] e r k = absurd (List·Memᴰ·not-nil k)
 labels-test (t ∷ rows) e r k =
     either (List·Memᴰ·cases-cons k)
-    (λ q. subst (λ (x : ModelRow). NoTwo (λ (a b : ℕ). sameLabel a b ≡ true) (x .hashes)) (sym q) (no-two sameLabel (t .hashes) (and-left (noTwo sameLabel (t .hashes)) (labelsTest rows) e)))
-    (λ n. labels-test rows (and-right (noTwo sameLabel (t .hashes)) (labelsTest rows) e) r n)
+    (λ q. subst (λ (x : ModelRow). NoTwo (λ (a b : List ℕ). sameLabel a b ≡ true) (x .names)) (sym q) (no-two sameLabel (t .names) (and-left (noTwo sameLabel (t .names)) (labelsTest rows) e)))
+    (λ n. labels-test rows (and-right (noTwo sameLabel (t .names)) (labelsTest rows) e) r n)
 
 test-distinct : (m : Model) → distinctTest m ≡ true → Distinct m
 unfolding distinctTest

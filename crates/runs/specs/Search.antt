@@ -20,7 +20,7 @@ use Rattle.settings.specs.declared.Check.the-variants as Check′
 use Rattle.curator.specs.Arguments.{Question, SearchCall}
 use Rattle.curator.specs.Searches.{SearchEnd, wantedOf, Searches, SearchesBy, WalkedTo}
 use Rattle.runs.specs.Calls.{search}
-use Rattle.runs.specs.Model.{Setting, Model, rowHashes, nodeCount, modelCounts, settingShape, modelSearchCheck, answered, searchedBy, expected, modelWalk, treeView}
+use Rattle.runs.specs.Model.{Setting, Model, rowHashes, rowBytes, nodeCount, modelCounts, settingShape, modelSearchCheck, answered, searchedBy, expected, modelWalk, treeView}
 use Rattle.runs.specs.Run.{found}
 use Rattle.runs.specs.Theorem.{Matches}
 use Rattle.runs.specs.State.{Allowed, Within, stateFor, nodesHeld}
@@ -61,7 +61,7 @@ module _ (s : Setting) (allowed : Allowed s) (m : Model) (front rest : Store) (i
       let ef = s .params .«ef_search» in
       let w = inv .within in
       let counts : stateFor s m .counts ≡ modelCounts s m =
-      λ i. record { vectors = length (m .rows); entries = length (rowHashes m); nodes = built-counts (m .built) s m (room .built) i } in
+      λ i. record { vectors = length (m .rows); entries = length (rowHashes m); nodes = built-counts (m .built) s m (room .built) i; bytes = rowBytes m } in
       let facts : NodeFacts s m = node-facts s m allowed w (w .nodes (room .built)) in
       let held : Held s m front = held-front s m front rest w (room .long) (inv .held) in
       let laid : Laid s m front = laid-same s m (joinStores front rest) front facts (long-same s front rest (room .long)) (inv .laid (room .built)) in

@@ -17,7 +17,7 @@ use Rattle.settings.specs.Limits.{builtAllowed}
 use Rattle.curator.specs.Calls.{fresh, splittingOf}
 use Rattle.curator.specs.Changes.{Creates}
 use Rattle.curator.specs.StateLaws.{Sound, sound-facts, facts-sound, created-accepted, created-sound}
-use Rattle.runs.specs.Model.{Setting, Model, ModelRow, emptyModel, rowHashes, rowVectors, nodeCount, settingShape}
+use Rattle.runs.specs.Model.{Setting, Model, ModelRow, emptyModel, rowHashes, rowBytes, rowVectors, nodeCount, settingShape}
 
 -- ---- an accepted `new`
 
@@ -53,7 +53,7 @@ stateFor s m =
       dimension = s .dimension;
       params = s .params;
       capacities = s .capacities;
-      counts = record { vectors = length (m .rows); entries = length (rowHashes m); nodes = nodesHeld (m .built) s m };
+      counts = record { vectors = length (m .rows); entries = length (rowHashes m); nodes = nodesHeld (m .built) s m; bytes = rowBytes m };
       built = m .built;
     }
 
@@ -61,6 +61,7 @@ stateFor s m =
 pub record Within (s : Setting) (m : Model) : Type 0 where
   pub vectors : length (m .rows) ≤ s .capacities .vectors
   pub entries : length (rowHashes m) ≤ s .capacities .entries
+  pub bytes : rowBytes m ≤ s .capacities .text
   pub rows : m .built ≡ true → 0 < length (m .rows)
   pub nodes : m .built ≡ true → nodeCount s m ≤ s .capacities .nodes
 
@@ -73,15 +74,16 @@ unfolding nodeCount
 some-nodes s m = size-some (treeOf (splittingOf (s .dimension) (s .params)) (rowVectors m))
 
 pub empty-state : (s : Setting) → fresh (s .dimension) (s .params) (s .capacities) ≡ stateFor s emptyModel
-unfolding nodesHeld rowHashes
+unfolding nodesHeld rowHashes rowBytes
 empty-state s = refl
 
 pub empty-within : (s : Setting) → Within s emptyModel
-unfolding rowHashes
+unfolding rowHashes rowBytes
 empty-within s =
     record {
       vectors = omega arith;
       entries = omega arith;
+      bytes = omega arith;
       rows = λ e. absurd (false≢true e);
       nodes = λ e. absurd (false≢true e);
     }
@@ -92,7 +94,7 @@ empty-small r k = absurd (List·Memᴰ·not-nil k)
 -- ---- row 4 never holds
 
 built-sound : (b : Bool) (s : Setting) (m : Model) → m .built ≡ b → Within s m
-    → builtAllowed b (record { vectors = length (m .rows); entries = length (rowHashes m); nodes = nodesHeld b s m }) ≡ true
+    → builtAllowed b (record { vectors = length (m .rows); entries = length (rowHashes m); nodes = nodesHeld b s m; bytes = rowBytes m }) ≡ true
 unfolding builtAllowed nodesHeld
 built-sound true s m e w = ap₂ _&&_ (lt-ltb 0 (length (m .rows)) (w .rows e)) (lt-ltb 0 (nodeCount s m) (some-nodes s m))
 built-sound false s m e w = refl
@@ -113,5 +115,6 @@ state-sound s m a w =
       vectors = w .vectors;
       entries = w .entries;
       nodes = nodes-within (m .built) s m refl w;
+      bytes = w .bytes;
       built = built-sound (m .built) s m refl w;
     })

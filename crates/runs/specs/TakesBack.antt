@@ -9,10 +9,14 @@ use mathlib.Core.List.{List, [], _∷_, _++_, map, map-append, List·Memᴰ, Mem
 use mathlib.Core.Path.{_≡_, refl, sym, ap, ap₂, _∙_, subst}
 use lib.ListN.{length, getD, take, drop, replicate, take-append-drop, length-append, length-map}
 use lib.Seq.{take-length, take-suc, take-at, take-take}
-use Rattle.lists.specs.Lists.{countFrom}
+use Rattle.lists.specs.Lists.{part, countFrom}
 use Rattle.lists.specs.Counting.{countFrom-snoc, length-countFrom}
 use Rattle.store.specs.declared.Lengths.{Lengths}
-use Rattle.store.specs.Store.{Store, vectorAt}
+use Rattle.store.specs.Store.{Store, vectorAt, startsAt, lengthsAt, entryStart}
+use Rattle.label.specs.Names.{startsFrom, lengthsOfNames, bytesOfNames}
+use Rattle.label.specs.NameLaws.{length-hashesOfLabels}
+use Rattle.label.specs.TextLaws.{length-starts, length-lengths, start-append}
+use Rattle.lists.specs.Parts.{getD-part}
 use Rattle.store.specs.Lent.{lengthsOf, joinStores}
 use Rattle.curator.specs.declared.CuratorIndex.{CuratorIndex}
 use Rattle.settings.specs.declared.Check.{Check}
@@ -23,16 +27,16 @@ use Rattle.curator.specs.Outcome.{changedNumber}
 use Rattle.settings.specs.Refusals.{checkNumber}
 use Rattle.curator.specs.Rows.{takeBackRows}
 use Rattle.lists.specs.Suffix.{countAtEnd, at-end-written}
-use Rattle.curator.specs.Calls.{lastEntries, heldEntries, shrunk}
+use Rattle.curator.specs.Calls.{lastEntries, bytesLeft, lowered, heldEntries, shrunk, withCounts, countsLess}
 use Rattle.curator.specs.Changes.{takeBackCheck, TakesBackBy, TakesBack}
 use Rattle.curator.specs.OutcomeLaws.{refused-is, is-refused, carried-is, is-carried}
-use Rattle.curator.specs.TakeBackLaws.{CanTakeBack, can-take-back}
+use Rattle.curator.specs.TakeBackLaws.{CanTakeBack, can-take-back, lower-first}
 use Rattle.runs.specs.Calls.{take-back}
-use Rattle.runs.specs.Model.{Setting, Model, ModelRow, noRow, struck, rowVectors, rowHashes, ownersFrom, rowEntries, modelFacts, nodeCount, changeRows, changeCheck, carriedOut, changedBy}
+use Rattle.runs.specs.Model.{Setting, Model, ModelRow, noRow, struck, hashesIn, settingShape, rowVectors, rowHashes, rowNames, rowBytes, ownersFrom, rowEntries, modelFacts, nodeCount, changeRows, changeCheck, carriedOut, changedBy}
 use Rattle.runs.specs.Run.{nextIndex}
 use Rattle.runs.specs.Theorem.{withBudget}
 use Rattle.runs.specs.State.{Allowed, Within, Small, stateFor, nodesHeld, no-nodes}
-use Rattle.runs.specs.Held.{Held, withRow, length-rows, vectors-more, hashes-more, owners-more, owners-below, owners-length, length-vectors}
+use Rattle.runs.specs.Held.{Held, withRow, length-rows, vectors-more, hashes-more, names-more, bytes-more, text-more, starts-more, lengths-more, names-length, owners-more, owners-below, owners-length, length-vectors}
 use Rattle.runs.specs.Refusals.{take-back-refused}
 use Rattle.runs.specs.Invariant.{Invariant, held-front}
 use Rattle.runs.specs.ChangeLaws.{Others, ChangeEnds, ChangeOutcome, ChangeLaws}
@@ -69,8 +73,8 @@ front-is : {A : Type 0} (l p q : List A) (n k : ℕ) → length p ≡ n → n �
 front-is l p q n k e h f = sym (take-take n k l h) ∙ ap (take n) f ∙ take-at p q n e
 
 module _ (s : Setting) (m : Model) (r : ModelRow) (store : Store) (h : Held s (withRow m r) store) where
-  more-hashes : length (rowHashes (withRow m r)) ≡ length (rowHashes m) + length (r .hashes)
-  more-hashes = ap length (hashes-more m r) ∙ length-append (rowHashes m) (r .hashes)
+  more-hashes : length (rowHashes (withRow m r)) ≡ length (rowHashes m) + length (hashesIn r)
+  more-hashes = ap length (hashes-more m r) ∙ length-append (rowHashes m) (hashesIn r)
 
   kept-vectors : map (vectorAt (s .dimension) (store .floats)) (countFrom 0 (length (m .rows))) ≡ rowVectors m
   kept-vectors =
@@ -81,6 +85,13 @@ module _ (s : Setting) (m : Model) (r : ModelRow) (store : Store) (h : Held s (w
       ∙ ap (λ (k : ℕ). map at (countFrom 0 k)) (sym (length-rows m r)) ∙ h .vectors ∙ vectors-more m r in
       sym (take-at (map at (countFrom 0 n)) (at (0 + n) ∷ []) n (length-map (countFrom 0 n) at ∙ length-countFrom 0 n))
       ∙ ap (take n) all ∙ take-at (rowVectors m) (r .vector ∷ []) n (length-vectors m)
+
+  kept-text : part 0 (rowBytes m) (store .text) ≡ bytesOfNames (rowNames m)
+  unfolding rowBytes
+  kept-text =
+      front-is (store .text) (bytesOfNames (rowNames m)) (bytesOfNames (r .names)) (length (bytesOfNames (rowNames m))) (length (bytesOfNames (rowNames (withRow m r)))) refl
+      (omega (arith, ap length (text-more m r) ∙ length-append (bytesOfNames (rowNames m)) (bytesOfNames (r .names))))
+      (h .text ∙ text-more m r)
 
   pub held-less : Held s m store
   unfolding rowEntries
@@ -93,20 +104,50 @@ module _ (s : Setting) (m : Model) (r : ModelRow) (store : Store) (h : Held s (w
             front-is (store .numbers) (map (λ t. t .document) (m .rows)) (r .document ∷ []) (length (m .rows)) (length (withRow m r .rows))
             (length-map (m .rows) (λ t. t .document)) (omega arith) (h .documents ∙ map-append (λ t. t .document) (m .rows) (r ∷ []));
         owners =
-            front-is (drop (s .capacities .vectors) (store .numbers)) (ownersFrom 0 (m .rows)) (replicate (length (r .hashes)) (length (m .rows)))
+            front-is (drop (s .capacities .vectors) (store .numbers)) (ownersFrom 0 (m .rows)) (replicate (length (hashesIn r)) (length (m .rows)))
             (length (rowHashes m)) (length (rowHashes (withRow m r))) (owners-length m) (omega arith) (h .owners ∙ owners-more m r);
         hashes =
-            front-is (store .hashes) (rowHashes m) (r .hashes) (length (rowHashes m)) (length (rowHashes (withRow m r))) refl (omega arith)
+            front-is (store .hashes) (rowHashes m) (hashesIn r) (length (rowHashes m)) (length (rowHashes (withRow m r))) refl (omega arith)
             (h .hashes ∙ hashes-more m r);
+        starts =
+            front-is (drop (startsAt (settingShape s)) (store .numbers)) (startsFrom 0 (rowNames m)) (startsFrom (rowBytes m) (r .names))
+            (length (rowHashes m)) (length (rowHashes (withRow m r))) (length-starts 0 (rowNames m) ∙ names-length m) (omega arith) (h .starts ∙ starts-more m r);
+        lengths =
+            front-is (drop (lengthsAt (settingShape s)) (store .numbers)) (lengthsOfNames (rowNames m)) (lengthsOfNames (r .names))
+            (length (rowHashes m)) (length (rowHashes (withRow m r))) (length-lengths (rowNames m) ∙ names-length m) (omega arith) (h .lengths ∙ lengths-more m r);
+        text = kept-text;
       }
 
-  pub last-entries : lastEntries (stateFor s (withRow m r)) store ≡ length (r .hashes)
+  pub last-entries : lastEntries (stateFor s (withRow m r)) store ≡ length (hashesIn r)
   unfolding lastEntries heldEntries
   last-entries =
       let one : length (withRow m r .rows) - 1 ≡ length (m .rows) = (let l = length-rows m r in omega arith) in
       ap₂ countAtEnd one (h .owners ∙ owners-more m r)
-      ∙ at-end-written (length (m .rows)) (length (r .hashes)) (ownersFrom 0 (m .rows))
+      ∙ at-end-written (length (m .rows)) (length (hashesIn r)) (ownersFrom 0 (m .rows))
       (λ y k. let b = owners-below 0 (m .rows) y k in let t : y < length (m .rows) = omega arith in t)
+
+  -- the last row's first label starts where the bytes of the rows that stay end
+  last-start : 0 < length (r .names) → entryStart (settingShape s) (store .numbers) (length (rowHashes m)) ≡ rowBytes m
+  unfolding rowBytes
+  last-start some =
+      let sh = settingShape s in
+      let at = length (rowHashes m) in
+      let all = length (rowHashes (withRow m r)) in
+      let names : length (hashesIn r) ≡ length (r .names) = length-hashesOfLabels (r .names) in
+      sym (getD-part (startsAt sh) all (store .numbers) at 0 (omega (arith, some, more-hashes, names)))
+      ∙ ap₂ (λ (l : List ℕ) (k : ℕ). getD l k 0) (h .starts ∙ ap (startsFrom 0) (names-more m r)) (sym (names-length m))
+      ∙ start-append (rowNames m) (r .names) some
+
+  pub bytes-left : bytesLeft (stateFor s (withRow m r)) store ≡ rowBytes m
+  unfolding bytesLeft
+  bytes-left =
+      let sh = settingShape s in
+      let all = length (rowHashes (withRow m r)) in
+      let names : length (hashesIn r) ≡ length (r .names) = length-hashesOfLabels (r .names) in
+      let back : length (rowHashes (withRow m r)) - length (r .names) ≡ length (rowHashes m) = omega (arith, more-hashes, names) in
+      ap (λ (n : ℕ). lowered n (entryStart sh (store .numbers) (all - n)) (rowBytes (withRow m r))) (last-entries ∙ names)
+      ∙ ap₂ (λ (e b : ℕ). lowered (length (r .names)) (entryStart sh (store .numbers) e) b) back (bytes-more m r)
+      ∙ lower-first (r .names) (rowBytes m) (entryStart sh (store .numbers) (length (rowHashes m))) last-start
 
 -- ---- the state and the counts of the rows that stay
 
@@ -114,22 +155,24 @@ within-less : (s : Setting) (m : Model) (r : ModelRow) → m .built ≡ false �
 within-less s m r b w =
     record {
       vectors = omega (arith, length-rows m r, w .vectors);
-      entries = omega (arith, ap length (hashes-more m r) ∙ length-append (rowHashes m) (r .hashes), w .entries);
+      entries = omega (arith, ap length (hashes-more m r) ∙ length-append (rowHashes m) (hashesIn r), w .entries);
+      bytes = omega (arith, bytes-more m r, w .bytes);
       rows = λ t. absurd (false≢true (sym b ∙ t));
       nodes = λ t. absurd (false≢true (sym b ∙ t));
     }
 
-state-less : (s : Setting) (m : Model) (r : ModelRow) → m .built ≡ false → shrunk (stateFor s (withRow m r)) (length (r .hashes)) ≡ stateFor s m
-state-less s m r b =
+state-less : (s : Setting) (m : Model) (r : ModelRow) (taken bytes : ℕ) → m .built ≡ false → taken ≡ length (hashesIn r) → bytes ≡ rowBytes m
+    → withCounts (stateFor s (withRow m r)) (countsLess (stateFor s (withRow m r) .counts) taken bytes) (m .built) ≡ stateFor s m
+state-less s m r taken bytes b t left =
     let v : length (withRow m r .rows) - 1 ≡ length (m .rows) = (let l = length-rows m r in omega arith) in
-    let e : length (rowHashes (withRow m r)) - length (r .hashes) ≡ length (rowHashes m) =
-    (let l = ap length (hashes-more m r) ∙ length-append (rowHashes m) (r .hashes) in omega arith) in
+    let e : length (rowHashes (withRow m r)) - taken ≡ length (rowHashes m) =
+    (let l = ap length (hashes-more m r) ∙ length-append (rowHashes m) (hashesIn r) in omega arith) in
     let n : nodesHeld (m .built) s (withRow m r) ≡ nodesHeld (m .built) s m = no-nodes (m .built) s (withRow m r) m b in
     λ i. record {
       dimension = s .dimension;
       params = s .params;
       capacities = s .capacities;
-      counts = record { vectors = v i; entries = e i; nodes = n i };
+      counts = record { vectors = v i; entries = e i; nodes = n i; bytes = left i };
       built = m .built;
     }
 
@@ -144,11 +187,13 @@ module _ (s : Setting) (allowed : Allowed s) (m : Model) (front rest : Store) (a
       let r = lastRow m in
       let is : m ≡ withRow m′ r = last-row m (can .some) in
       let h : Held s (withRow m′ r) front = subst (λ (x : Model). Held s x front) is (held-front s m front rest (inv .within) (can .long) (inv .held)) in
-      let state : shrunk (stateFor s m) (lastEntries (stateFor s m) front) ≡ stateFor s m′ =
-      ap (λ (x : Model). shrunk (stateFor s x) (lastEntries (stateFor s x) front)) is
-      ∙ ap (shrunk (stateFor s (withRow m′ r))) (last-entries s m′ r front h) ∙ state-less s m′ r (can .unbuilt) in
+      let state : shrunk (stateFor s m) front ≡ stateFor s m′ =
+      ap (λ (x : Model). shrunk (stateFor s x) front) is
+      ∙ state-less s m′ r (lastEntries (stateFor s (withRow m′ r)) front) (bytesLeft (stateFor s (withRow m′ r)) front) (can .unbuilt)
+      (last-entries s m′ r front h)
+      (bytes-left s m′ r front h) in
       record {
-        state = ap (nextIndex (stateFor s m)) (carried-is (shrunk (stateFor s m) (lastEntries (stateFor s m) front)) answer by) ∙ state;
+        state = ap (nextIndex (stateFor s m)) (carried-is (shrunk (stateFor s m) front) answer by) ∙ state;
         within = within-less s m′ r (can .unbuilt) (subst (Within s) is (inv .within));
         held = held-less s m′ r (joinStores front rest) (subst (λ (x : Model). Held s x (joinStores front rest)) is (inv .held));
         laid = λ b. absurd (false≢true (sym (can .unbuilt) ∙ b));
@@ -202,7 +247,7 @@ take-back-small m h =
 take-back-by : (index : CuratorIndex) (store : Store) (c : Check) → (answer : Changed) × TakesBackBy c index store answer
 unfolding TakesBackBy
 take-back-by index store (Check′.Refused r) = (Changed′.Refused r, is-refused r (Changed′.Refused r) refl)
-take-back-by index store Check′.Fine = (Changed′.Index (shrunk index (lastEntries index store)), is-carried _ _ refl)
+take-back-by index store Check′.Fine = (Changed′.Index (shrunk index store), is-carried _ _ refl)
 
 take-back-outcome : (index : CuratorIndex) (store : Store) (work : List ℕ) → ChangeOutcome index store work take-back
 unfolding TakesBack

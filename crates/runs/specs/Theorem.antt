@@ -5,21 +5,18 @@ use Prim.Native.Nat.{ℕ, _≤_, _<_}
 use mathlib.Core.Bool.{Bool, true, false, _||_}
 use mathlib.Core.List.{List, [], _∷_, map, List·Memᴰ, List·Permᴰ}
 use mathlib.Core.Path.{_≡_}
-use lib.Dec.{eqb}
 use lib.Ieee.{Float, nan}
 use lib.ListN.{length, getD, take}
 use lib.Seq.{sets}
-use Rattle.lists.specs.Lists.{keep}
+use Rattle.lists.specs.Lists.{keep, sameList}
 use Rattle.distance.specs.Distance.{distance}
 use Rattle.total_order.specs.TotalOrder.{totalOrder}
 use Rattle.vector.specs.Normalized.{normalized}
-use Rattle.walk.specs.declared.Wanted.{Wanted}
-use Rattle.walk.specs.declared.Wanted.the-variants.{Everything, Label}
 use Rattle.walk.specs.Answer.{Answer}
 use Rattle.curator.specs.Outcome.{changedNumber, foundNumber, SearchFound}
 use Rattle.settings.specs.Refusals.{checkNumber}
-use Rattle.curator.specs.Searches.{SearchEnd, wantedOf}
-use Rattle.curator.specs.Arguments.{Question, SearchCall}
+use Rattle.curator.specs.Searches.{SearchEnd}
+use Rattle.curator.specs.Arguments.{Asked, everything, labelled, Question, SearchCall}
 use Rattle.runs.specs.Calls.{Call, change, search, AllAlike}
 use Rattle.runs.specs.Model.{Setting, Model, ModelRow, emptyModel, nodeCount, modelCheck, Expected, returns, answers, nothing, expected, after, modelFrom}
 use Rattle.runs.specs.Run.{Ended, changed, found, Run}
@@ -87,9 +84,10 @@ InPairs claim (end ∷ ends) (end′ ∷ ends′) = claim end end′ × InPairs 
 
 -- ---- the premise
 
--- 'Labels with equal hash are the same label here.'
-unfoldable pub sameLabel : ℕ → ℕ → Bool
-sameLabel hash other = eqb hash other
+-- 02, K4: 'Two labels are the same exactly when their bytes are', and 'the no-repeat premise is read by bytes'
+unfoldable pub sameLabel : List ℕ → List ℕ → Bool
+unfolding sameList
+sameLabel name other = sameList name other
 
 -- no two elements of a list are the same in some sense: none is the same as a later one
 abbrev pub NoTwo : {A : Type 0} → (A → A → Type 0) → List A → Type 0
@@ -99,7 +97,7 @@ NoTwo {A = A} Same (x ∷ xs) = ((y : A) → List·Memᴰ y xs → Same x y → 
 -- no two rows have one document id, and no row has a label twice
 pub record Distinct (m : Model) : Type 0 where
   pub documents : NoTwo (λ (r t : ModelRow). r .document ≡ t .document) (m .rows)
-  pub labels : (r : ModelRow) → List·Memᴰ r (m .rows) → NoTwo (λ (a b : ℕ). sameLabel a b ≡ true) (r .hashes)
+  pub labels : (r : ModelRow) → List·Memᴰ r (m .rows) → NoTwo (λ (a b : List ℕ). sameLabel a b ≡ true) (r .names)
 
 -- The premise of (a) and (b): it never comes to that, at no prefix of the calls.
 abbrev pub Premise : Setting → List Call → Type 0
@@ -108,20 +106,20 @@ Premise s calls = (n : ℕ) → Distinct (modelFrom s emptyModel (take n calls))
 -- ---- what a search is about, and in which order
 
 -- a row's labels have one that is the same as this
-unfoldable pub hasLabel : ℕ → List ℕ → Bool
+unfoldable pub hasLabel : List ℕ → List (List ℕ) → Bool
 unfolding sameLabel
-hasLabel hash [] = false
-hasLabel hash (label ∷ labels) = sameLabel hash label || hasLabel hash labels
+hasLabel name [] = false
+hasLabel name (label ∷ labels) = sameLabel name label || hasLabel name labels
 
--- filtered, a search is about the rows with the label's hash; unfiltered, about all
-unfoldable pub carries : Wanted → ModelRow → Bool
+-- 'Whole answers are about vectors carrying the label's bytes' (02, K4); unfiltered, about all
+unfoldable pub carries : Asked → ModelRow → Bool
 unfolding hasLabel
-carries Everything r = true
-carries (Label hash) r = hasLabel hash (r .hashes)
+carries everything r = true
+carries (labelled name) r = hasLabel name (r .names)
 
 unfoldable pub about : Question → Model → List ModelRow
-unfolding keep carries wantedOf
-about question m = keep (carries (wantedOf (question .asked))) (m .rows)
+unfolding keep carries
+about question m = keep (carries (question .asked)) (m .rows)
 
 -- 'Distances are from the normalised query to the lines' vectors and rank in total order.'
 abbrev pub rowDistance : Question → ModelRow → Float

@@ -21,7 +21,7 @@ use Rattle.curator.specs.declared.CuratorIndex.{CuratorIndex}
 use Rattle.curator.specs.Arguments.{AddCall}
 use Rattle.curator.specs.Rows.{firstOf, addRows, takeBackRows}
 use Rattle.curator.specs.RowLaws.{fine-none, zero-fine}
-use Rattle.curator.specs.Calls.{heldDocuments, SameOfIndex}
+use Rattle.curator.specs.Calls.{heldDocuments, heldStarts, heldLengths, heldText, SameOfIndex}
 use Rattle.runs.specs.Calls.{add, take-back, Call, change}
 use Rattle.runs.specs.Model.{Setting, Model, emptyModel, newRow, settingShape, modelFacts, changeCheck, modelCheck, changedBy, carriedOut, after, modelFrom}
 use Rattle.runs.specs.Run.{Ended, Step, indexAfter, storeAfter, Run}
@@ -57,13 +57,16 @@ AddUndone s calls =
 -- two stores that hold the rows of one model
 same-held : (s : Setting) (m : Model) (index : CuratorIndex) (store store′ : Store) → index ≡ stateFor s m → Held s m store → Held s m store′
     → SameOfIndex index store store′
-unfolding heldDocuments
+unfolding heldDocuments heldStarts heldLengths heldText
 same-held s m index store store′ e h h′ =
     subst (λ (i : CuratorIndex). SameOfIndex i store store′) (sym e)
     (record {
       vectors = held-vectors s m store h ∙ sym (held-vectors s m store′ h′);
       documents = h .documents ∙ sym (h′ .documents);
       entries = held-entries s m store h ∙ sym (held-entries s m store′ h′);
+      starts = h .starts ∙ sym (h′ .starts);
+      lengths = h .lengths ∙ sym (h′ .lengths);
+      text = h .text ∙ sym (h′ .text);
     })
 
 -- What is held is the model's alone: runs of other calls, from other lists, that come to one model have the same state and hold the same. So a taking back

@@ -18,7 +18,9 @@ use Rattle.lists.specs.Parts.{getD-part, part-part}
 use Rattle.distance.specs.Distance.{distance}
 use Rattle.total_order.specs.TotalOrder.{keyOf}
 use Rattle.store.specs.declared.Shape.{Shape}
-use Rattle.store.specs.Store.{Store, vectorAt, nodesAt, linksAt, filtersAt, nodeField}
+use Rattle.store.specs.Store.{Store, vectorAt, nodesAt, linksAt, startsAt, lengthsAt, filtersAt, nodeField, entryStart, entryLength, entryName}
+use Rattle.label.specs.Names.{startsFrom, lengthsOfNames, bytesOfNames}
+use Rattle.label.specs.TextLaws.{name-read, name-end}
 use Rattle.tree.specs.Tree.{treeOf}
 use Rattle.tree.specs.Nodes.{Node, noNode, nodesOf, entriesOf}
 use Rattle.tree.specs.Layout.{startOf, sixFrom}
@@ -26,18 +28,17 @@ use Rattle.tree.specs.NodeLaws.{length-ids, id-below, length-links}
 use Rattle.tree.specs.NodeEntryLaws.{length-entries, entry-below}
 use Rattle.tree.specs.NumberedNodes.{node-entries, node-children}
 use Rattle.tree.specs.LayoutLaws.{blockAt, row-read, start-read, start-end, six-getD, sixOf, length-sixFrom, length-blocks}
-use Rattle.walk.specs.declared.Wanted.{Wanted}
 use Rattle.walk.specs.Walk.{Shown, children, hits, damage, shown, walk}
 use Rattle.walk.specs.SameWalkLaws.{same-below}
 use Rattle.walk.specs.Answer.{hitOf}
-use Rattle.walk.specs.Wanted.{LeafList, vector-list, entry-list, denies, listRead, passes, given, heldIn}
-use Rattle.walk.specs.WantedLaws.{SameNumber, numbers-same, passes-same, given-same, given-read}
-use Rattle.walk.specs.StoreView.{blockHeld, hitAt, fieldOf, partOf, entryRead, childrenShown, listShown, leafShown, nodeShown, storeView}
+use Rattle.walk.specs.Wanted.{Sought, LeafList, vector-list, entry-list, denies, listRead, passes, given, heldIn}
+use Rattle.walk.specs.WantedLaws.{Reading, SameNumber, numbers-same, passes-same, given-same, given-read}
+use Rattle.walk.specs.StoreView.{blockHeld, hitAt, fieldOf, partOf, endIn, entryRead, childrenShown, listShown, leafShown, nodeShown, storeView}
 use Rattle.walk.specs.StoreViewLaws.{store-shown, store-children-below}
 use Rattle.curator.specs.Calls.{splittingOf}
-use Rattle.runs.specs.Model.{Setting, Model, noRow, rowHashes, rowVectors, rowEntries, nodeCount, modelNodes, modelCounts, settingShape, rowHit, rowRead, nodeList, leafHits, nodeGives, treeView}
+use Rattle.runs.specs.Model.{Setting, Model, noRow, rowHashes, rowNames, rowBytes, rowVectors, rowEntries, nodeCount, modelNodes, modelCounts, settingShape, rowHit, rowRead, nodeList, leafHits, nodeGives, treeView}
 use Rattle.runs.specs.State.{Allowed, Within, limits, some-nodes}
-use Rattle.runs.specs.Held.{Held, owner-below, owners-length, length-vectors}
+use Rattle.runs.specs.Held.{Held, owner-below, owners-length, names-length, length-vectors}
 use Rattle.runs.specs.Built.{StandsAt, Laid, NodeFacts}
 use Rattle.runs.specs.WantedLaws.{held-passes}
 
@@ -47,16 +48,16 @@ block-held start zero held h = refl
 block-held start (suc count) held h = le-leb (start + suc count) held h
 
 -- the tree's view, case by case
-pub gives-none : (m : Model) (query : List Float) (wanted : Wanted) (node : Node) → nodeGives m query wanted node [] ≡ hits (leafHits m query wanted node)
+pub gives-none : (m : Model) (query : List Float) (wanted : Sought) (node : Node) → nodeGives m query wanted node [] ≡ hits (leafHits m query wanted node)
 unfolding nodeGives
 gives-none m query wanted node = refl
 
-pub gives-some : (m : Model) (query : List Float) (wanted : Wanted) (node : Node) (c : ℕ) (cs : List ℕ)
+pub gives-some : (m : Model) (query : List Float) (wanted : Sought) (node : Node) (c : ℕ) (cs : List ℕ)
     → nodeGives m query wanted node (c ∷ cs) ≡ children (c ∷ cs)
 unfolding nodeGives
 gives-some m query wanted node c cs = refl
 
-pub tree-shown : (s : Setting) (m : Model) (query : List Float) (wanted : Wanted) (i : ℕ)
+pub tree-shown : (s : Setting) (m : Model) (query : List Float) (wanted : Sought) (i : ℕ)
     → shown (treeView s m query wanted) i
     ≡ cond (denies wanted (getD (modelNodes s m) i noNode .filter)) (hits [])
     (nodeGives m query wanted (getD (modelNodes s m) i noNode) (getD (modelNodes s m) i noNode .children))
@@ -187,23 +188,51 @@ module _ (s : Setting) (m : Model) (store : Store) (a : Allowed s) (w : Within s
   owned : (x : ℕ) → x < length (rowHashes m) → getD (rowEntries m .owners) x 0 < length (m .rows)
   owned x h = owner-below m x (subst (λ (n : ℕ). x < n) (sym (owners-length m)) h)
 
+  -- the label of an entry is read back
+  start-at : (e : ℕ) → e < length (rowHashes m) → entryStart shape (store .numbers) e ≡ getD (startsFrom 0 (rowNames m)) e 0
+  start-at e h = sym (getD-part (startsAt shape) (length (rowHashes m)) (store .numbers) e 0 h) ∙ ap (λ (l : List ℕ). getD l e 0) (held .starts)
+
+  length-at : (e : ℕ) → e < length (rowHashes m) → entryLength shape (store .numbers) e ≡ getD (lengthsOfNames (rowNames m)) e 0
+  length-at e h = sym (getD-part (lengthsAt shape) (length (rowHashes m)) (store .numbers) e 0 h) ∙ ap (λ (l : List ℕ). getD l e 0) (held .lengths)
+
+  named : (e : ℕ) → e < length (rowHashes m) → e < length (rowNames m)
+  named e h = subst (λ (n : ℕ). e < n) (sym (names-length m)) h
+
+  end-held : (e : ℕ) → e < length (rowHashes m) → endIn shape (store .numbers) e ≤ rowBytes m
+  unfolding rowBytes
+  end-held e h = omega (arith, start-at e h, length-at e h, name-end (rowNames m) e (named e h))
+
+  name-at : (e : ℕ) → e < length (rowHashes m) → entryName shape (store .numbers) (store .text) e ≡ getD (rowNames m) e []
+  unfolding rowBytes
+  name-at e h =
+      let start = getD (startsFrom 0 (rowNames m)) e 0 in
+      let long = getD (lengthsOfNames (rowNames m)) e 0 in
+      ap₂ (λ (a n : ℕ). part a n (store .text)) (start-at e h) (length-at e h)
+      ∙ ap (λ (a : ℕ). part a long (store .text)) (sym (zero-add start))
+      ∙ sym (part-part 0 (length (bytesOfNames (rowNames m))) start long (store .text) (name-end (rowNames m) e (named e h)))
+      ∙ ap (part start long) (held .text)
+      ∙ name-read (rowNames m) e (named e h)
+
   -- a list of which all is held gives the same hits
-  list-shown : (query : List Float) (wanted : Wanted) (l : List ℕ) → ((x : ℕ) → List·Memᴰ x l → x < heldIn (listRead wanted) (modelCounts s m))
+  list-shown : (query : List Float) (wanted : Sought) (l : List ℕ) → ((x : ℕ) → List·Memᴰ x l → x < heldIn (listRead wanted) (modelCounts s m))
       → listShown shape (modelCounts s m) store query wanted l ≡ hits (map (rowHit m query) (given wanted (rowRead m) l))
   unfolding listShown
   list-shown query wanted l below =
       let c = modelCounts s m in
       let held-by = entryRead shape (modelCounts s m) store in
+      let end = endIn shape (store .numbers) in
+      let reads : Reading = record { entries = entryRead shape (modelCounts s m) store; end = endIn shape (store .numbers) } in
+      let rows : Reading = record { entries = rowRead m; end = endIn shape (store .numbers) } in
       let hit = hitAt shape (store .floats) (store .numbers) query in
       let Same : ℕ → Type 0 = λ v. hitAt shape (store .floats) (store .numbers) query v ≡ rowHit m query v in
-      let same : (x : ℕ) → List·Memᴰ x l → SameNumber wanted (modelCounts s m) held-by (rowRead m) Same x =
-      λ x k. numbers-same c held-by (rowRead m) Same wanted owner-at hash-at (hit-at query) x in
-      let pass : allPass (passes wanted (modelCounts s m) held-by) l ≡ true =
-      passes-same c held-by (rowRead m) Same wanted l same ∙ held-passes wanted c (rowRead m) l below owned in
-      chosen (allPass (passes wanted c held-by) l) (hits (map hit (given wanted held-by l))) damage pass
+      let same : (x : ℕ) → List·Memᴰ x l → SameNumber wanted (modelCounts s m) reads rows Same x =
+      λ x k. numbers-same c reads rows Same wanted owner-at hash-at (λ e h. refl) (λ e h n. name-at e h) (hit-at query) x in
+      let pass : allPass (passes wanted (modelCounts s m) held-by end) l ≡ true =
+      passes-same c reads rows Same wanted l same ∙ held-passes wanted c (rowRead m) end l below owned end-held in
+      chosen (allPass (passes wanted c held-by end) l) (hits (map hit (given wanted held-by l))) damage pass
       ∙ ap hits
-      (map-on hit (rowHit m query) (given wanted held-by l) (given-read c held-by (rowRead m) Same wanted l same pass)
-      ∙ ap (map (rowHit m query)) (given-same c held-by (rowRead m) Same wanted l same pass))
+      (map-on hit (rowHit m query) (given wanted held-by l) (given-read c reads rows Same wanted l same pass)
+      ∙ ap (map (rowHit m query)) (given-same c reads rows Same wanted l same pass))
 
   -- ---- the lists of a node
 
@@ -232,7 +261,7 @@ module _ (s : Setting) (m : Model) (store : Store) (a : Allowed s) (w : Within s
   list-count vector-list i h = field-at i 3 h (omega arith)
   list-count entry-list i h = field-at i 5 h (omega arith)
 
-  leaf-shown : (query : List Float) (wanted : Wanted) (i : ℕ) → i < length (modelNodes s m)
+  leaf-shown : (query : List Float) (wanted : Sought) (i : ℕ) → i < length (modelNodes s m)
       → leafShown shape (modelCounts s m) store query wanted i ≡ hits (leafHits m query wanted (nodeAt i))
   unfolding leafShown leafHits
   leaf-shown query wanted i h =
@@ -266,25 +295,25 @@ module _ (s : Setting) (m : Model) (store : Store) (a : Allowed s) (w : Within s
   links-held = length-links (splittingOf (s .dimension) (s .params)) (rowVectors m) (rowEntries m)
 
   -- what a node shows by its start and count of children
-  byFields : List Float → Wanted → ℕ → ℕ → ℕ → Shown
+  byFields : List Float → Sought → ℕ → ℕ → ℕ → Shown
   byFields query wanted i start count =
       cond (eqb count 0) (leafShown shape (modelCounts s m) store query wanted i)
       (cond (blockHeld start count (nodeCount s m))
       (childrenShown shape (modelCounts s m) store i (part (linksAt shape + start) count (store .numbers))) damage)
 
-  by-fields : (query : List Float) (wanted : Wanted) (i : ℕ)
+  by-fields : (query : List Float) (wanted : Sought) (i : ℕ)
       → nodeShown shape (modelCounts s m) store query wanted i
       ≡ byFields query wanted i (nodeField shape (store .numbers) i 0) (nodeField shape (store .numbers) i 1)
   unfolding nodeShown byFields
   by-fields query wanted i = refl
 
-  fields : (query : List Float) (wanted : Wanted) (i : ℕ) → i < length (modelNodes s m)
+  fields : (query : List Float) (wanted : Sought) (i : ℕ) → i < length (modelNodes s m)
       → nodeShown shape (modelCounts s m) store query wanted i
       ≡ byFields query wanted i (startOf (blockAt (λ node. node .children) (modelNodes s m) i) (nodeAt i .children)) (length (nodeAt i .children))
   unfolding sixOf
   fields query wanted i h = by-fields query wanted i ∙ ap₂ (byFields query wanted i) (field-at i 0 h (omega arith)) (field-at i 1 h (omega arith))
 
-  gives-inner : (query : List Float) (wanted : Wanted) (i c : ℕ) (cs : List ℕ) → nodeAt i .children ≡ c ∷ cs → i < length (modelNodes s m) → i < nodeCount s m
+  gives-inner : (query : List Float) (wanted : Sought) (i c : ℕ) (cs : List ℕ) → nodeAt i .children ≡ c ∷ cs → i < length (modelNodes s m) → i < nodeCount s m
       → byFields query wanted i (startOf (blockAt (λ node. node .children) (modelNodes s m) i) (nodeAt i .children)) (length (nodeAt i .children)) ≡ children (nodeAt i .children)
   unfolding byFields
   gives-inner query wanted i c cs e h g =
@@ -300,7 +329,7 @@ module _ (s : Setting) (m : Model) (store : Store) (a : Allowed s) (w : Within s
       ∙ ap (childrenShown sh (modelCounts s m) store i) (block-at (λ node. node .children) (linksAt sh) i (laid .links) h)
       ∙ children-shown i g
 
-  gives-leaf : (query : List Float) (wanted : Wanted) (i : ℕ) → nodeAt i .children ≡ [] → i < length (modelNodes s m)
+  gives-leaf : (query : List Float) (wanted : Sought) (i : ℕ) → nodeAt i .children ≡ [] → i < length (modelNodes s m)
       → byFields query wanted i (startOf (blockAt (λ node. node .children) (modelNodes s m) i) (nodeAt i .children)) (length (nodeAt i .children)) ≡ hits (leafHits m query wanted (nodeAt i))
   unfolding byFields
   gives-leaf query wanted i e h =
@@ -313,7 +342,7 @@ module _ (s : Setting) (m : Model) (store : Store) (a : Allowed s) (w : Within s
       (eq-eqb (length ks) 0 (ap length e))
       ∙ leaf-shown query wanted i h
 
-  node-shown : (query : List Float) (wanted : Wanted) (i : ℕ) → i < length (modelNodes s m) → i < nodeCount s m
+  node-shown : (query : List Float) (wanted : Sought) (i : ℕ) → i < length (modelNodes s m) → i < nodeCount s m
       → nodeShown shape (modelCounts s m) store query wanted i ≡ nodeGives m query wanted (nodeAt i) (nodeAt i .children)
   node-shown query wanted i h g = fields query wanted i h ∙ go (nodeAt i .children) refl
     where
@@ -324,18 +353,18 @@ module _ (s : Setting) (m : Model) (store : Store) (a : Allowed s) (w : Within s
       go (c ∷ cs) e = gives-inner query wanted i c cs e h g ∙ ap children e
           ∙ sym (ap (nodeGives m query wanted (nodeAt i)) e ∙ gives-some m query wanted (nodeAt i) c cs)
 
-  most-same : (query : List Float) (wanted : Wanted)
+  most-same : (query : List Float) (wanted : Sought)
       → storeView shape (modelCounts s m) store query wanted .most ≡ treeView s m query wanted .most
   unfolding storeView treeView
   most-same query wanted = refl
 
-  key-same : (query : List Float) (wanted : Wanted) (i : ℕ) → i < length (modelNodes s m)
+  key-same : (query : List Float) (wanted : Sought) (i : ℕ) → i < length (modelNodes s m)
       → storeView shape (modelCounts s m) store query wanted .key i ≡ treeView s m query wanted .key i
   unfolding storeView treeView
   key-same query wanted i h = ap (λ (v : List Float). keyOf (distance query v)) (centroid-at i h)
 
   -- The walk over the store is the walk over the rows' tree
-  pub same-walks : (query : List Float) (wanted : Wanted) (ef : ℕ) → nodeCount s m ≤ s .capacities .nodes
+  pub same-walks : (query : List Float) (wanted : Sought) (ef : ℕ) → nodeCount s m ≤ s .capacities .nodes
       → walk (storeView shape (modelCounts s m) store query wanted) ef ≡ walk (treeView s m query wanted) ef
   same-walks query wanted ef fits =
       let v = storeView shape (modelCounts s m) store query wanted in

@@ -13,7 +13,7 @@ use Rattle.store.specs.declared.Shape.{Shape}
 use Rattle.store.specs.Store.{Store, workSize, workPart}
 use Rattle.store.specs.declared.Counts.{Counts}
 use Rattle.walk.specs.declared.Searched.{Searched}
-use Rattle.walk.specs.declared.Wanted.{Wanted}
+use Rattle.walk.specs.Wanted.{Sought}
 use Rattle.walk.specs.Contracts.{Works, SearchEnds, SearchGives}
 use Rattle.best_first_search.specs.Ranks.{SearchLent}
 use Rattle.walk.specs.StoreView.{storeView}
@@ -64,7 +64,7 @@ ready-of index store work call (sound, (short, (built, (dimension, (finite, (ans
     record {
       lent =
           record {
-            within = record { limits = s .limits; vectors = s .vectors; entries = s .entries; nodes = s .nodes };
+            within = record { limits = s .limits; vectors = s .vectors; entries = s .entries; nodes = s .nodes; bytes = s .bytes };
             long = long .0;
             some = has-node (index .built) (index .counts) (not-false _ built) (s .built);
             work-size = long .1;
@@ -112,7 +112,7 @@ search-lent index store work query k ids distances r s e =
 
 -- the walk from the normalised query, whatever names its arguments have
 pub walked-of : (index : CuratorIndex) (store : Store) (work : List ℕ) (call : SearchCall) (end : SearchEnd) (s : Shape) (squares : Float)
-    (query stored : List Float) (wanted : Wanted) (searched : Searched) → s ≡ indexShape index → query ≡ stored → wantedOf (call .question .asked) ≡ wanted
+    (query stored : List Float) (wanted : Sought) (searched : Searched) → s ≡ indexShape index → query ≡ stored → wantedOf (call .question .asked) ≡ wanted
     → squares ≡ dot (call .question .query) (call .question .query) → Normalized squares (call .question .query) stored → workSize (indexShape index) ≤ length work
     → end .answer ≡ foundOf searched
     → SearchGives s (index .counts) (index .params .«ef_search») store query wanted (call .k) work
@@ -124,11 +124,11 @@ pub walked-of : (index : CuratorIndex) (store : Store) (work : List ℕ) (call :
     (end .distances)
     → SearchWalked index store work call end
 walked-of index store work call end s squares query stored wanted searched es eq ew ed normal room answers h =
-    let viewed : Shape → List Float → Wanted → State =
+    let viewed : Shape → List Float → Sought → State =
     λ s q w. walk (storeView s (index .counts) store q w) (index .params .«ef_search») in
     let same : viewed s query wanted ≡ viewed (indexShape index) stored (wantedOf (call .question .asked)) =
     ap (λ (s : Shape). viewed s query wanted) es ∙ ap (λ (q : List Float). viewed (indexShape index) q wanted) eq
-    ∙ ap (λ (w : Wanted). viewed (indexShape index) stored w) (sym ew) in
+    ∙ ap (λ (w : Sought). viewed (indexShape index) stored w) (sym ew) in
     record {
       query = stored;
       normalized = subst (λ (f : Float). Normalized f (call .question .query) stored) ed normal;

@@ -9,7 +9,7 @@ use Rattle.store.specs.Store.{Store}
 use Rattle.walk.specs.Contracts.{StoreLent}
 use Rattle.walk.specs.declared.Searched.{Searched}
 use Rattle.walk.specs.declared.Searched.the-variants as searched
-use Rattle.walk.specs.declared.Wanted.{Wanted}
+use Rattle.walk.specs.Wanted.{Sought}
 use Rattle.vector.specs.Vector.{dot}
 use Rattle.curator.specs.declared.VectorCheck.{VectorCheck}
 use Rattle.curator.specs.Lent.{withSquares}
@@ -64,8 +64,8 @@ pub record SearchReady (index : CuratorIndex) (store : Store) (scratch : List �
   pub distances : k ≤ length far
 
 -- the walk, and the whole search, for whatever asks for what is wanted
-abbrev pub WalkedFor : CuratorIndex → Store → List ℕ → Wanted → (Asked → SearchCall) → SearchEnd → Type 0
+abbrev pub WalkedFor : CuratorIndex → Store → List ℕ → Sought → (Asked → SearchCall) → SearchEnd → Type 0
 WalkedFor index store work wanted call end = (asked : Asked) → wantedOf asked ≡ wanted → SearchWalked index store work (call asked) end
 
-abbrev pub SearchesFor : CuratorIndex → Store → List ℕ → Wanted → (Asked → SearchCall) → SearchEnd → Type 0
+abbrev pub SearchesFor : CuratorIndex → Store → List ℕ → Sought → (Asked → SearchCall) → SearchEnd → Type 0
 SearchesFor index store work wanted call end = (asked : Asked) → wantedOf asked ≡ wanted → Searches index store work (call asked) end

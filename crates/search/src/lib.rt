@@ -2,6 +2,7 @@
 ghost use mathlib.Core.Path.{_≡_};
 ghost use Rattle.vector.specs.Vector.{dot};
 ghost use Rattle.store.specs.Lent.{lent};
+ghost use Rattle.walk.specs.Wanted.{sought};
 ghost use Rattle.curator.specs.Searches.{Searches};
 ghost use Rattle.search.specs.Lent.{askingWith, searchChecked, SearchReady, foundOf, looking, leaving, filtered, unfiltered, SearchesFor, WalkedFor};
 use curator::CuratorIndex;
@@ -74,17 +75,20 @@ fn walk_from(
     floats: &[f32],
     numbers: &[u32],
     hashes: &[u64],
+    text: &[u8],
     work: &mut [u32],
     query: &[f32],
     squares: f32,
     wanted: Wanted,
+    first: &[u8],
+    second: &[u8],
     k: usize,
     ids: &mut [u32],
     distances: &mut [f32],
 ) -> Found
-    requires { ⌜ SearchReady index (lent floats numbers hashes) (now work) (now query) k (now ids) (now distances) ⌝ }
+    requires { ⌜ SearchReady index (lent floats numbers hashes text) (now work) (now query) k (now ids) (now distances) ⌝ }
     requires { ⌜ squares ≡ dot (now query) (now query) ⌝ }
-    ensures { λ r. ⌜ WalkedFor index (lent (floats .entry) (numbers .entry) (hashes .entry)) (now (work .entry)) wanted
+    ensures { λ r. ⌜ WalkedFor index (lent (floats .entry) (numbers .entry) (hashes .entry) (text .entry)) (now (work .entry)) (sought wanted (now (first .entry)) (now (second .entry)))
         (looking (query .entry) k (ids .entry) (distances .entry))
         (leaving r (work .exit) (ids .exit) (distances .exit)) ⌝ }
 {
@@ -100,29 +104,35 @@ fn walk_from(
         floats,
         numbers,
         hashes,
+        text,
         work,
         &normalized[start..end],
         wanted,
+        first,
+        second,
         k,
         ids,
         distances,
     ))
 }
 
-// One search, by what is wanted.
+// One search, by what is wanted: a label's hash, and its name in two parts.
 fn search_wanted(
     index: CuratorIndex,
     floats: &[f32],
     numbers: &[u32],
     hashes: &[u64],
+    text: &[u8],
     work: &mut [u32],
     query: &[f32],
     wanted: Wanted,
+    first: &[u8],
+    second: &[u8],
     k: usize,
     ids: &mut [u32],
     distances: &mut [f32],
 ) -> Found
-    ensures { λ r. ⌜ SearchesFor index (lent (floats .entry) (numbers .entry) (hashes .entry)) (now (work .entry)) wanted
+    ensures { λ r. ⌜ SearchesFor index (lent (floats .entry) (numbers .entry) (hashes .entry) (text .entry)) (now (work .entry)) (sought wanted (now (first .entry)) (now (second .entry)))
         (looking (query .entry) k (ids .entry) (distances .entry))
         (leaving r (work .exit) (ids .exit) (distances .exit)) ⌝ }
 {
@@ -130,6 +140,7 @@ fn search_wanted(
         floats: floats.len(),
         numbers: numbers.len(),
         hashes: hashes.len(),
+        text: text.len(),
     };
     let check = search_check(
         index,
@@ -147,10 +158,13 @@ fn search_wanted(
             floats,
             numbers,
             hashes,
+            text,
             work,
             query,
             squares,
             wanted,
+            first,
+            second,
             k,
             ids,
             distances,
@@ -164,6 +178,7 @@ pub fn search_filtered(
     floats: &[f32],
     numbers: &[u32],
     hashes: &[u64],
+    text: &[u8],
     work: &mut [u32],
     query: &[f32],
     first: &[u8],
@@ -172,7 +187,7 @@ pub fn search_filtered(
     ids: &mut [u32],
     distances: &mut [f32],
 ) -> Found
-    ensures { λ r. ⌜ Searches index (lent (floats .entry) (numbers .entry) (hashes .entry)) (now (work .entry))
+    ensures { λ r. ⌜ Searches index (lent (floats .entry) (numbers .entry) (hashes .entry) (text .entry)) (now (work .entry))
         (filtered (query .entry) (first .entry) (second .entry) k (ids .entry) (distances .entry))
         (leaving r (work .exit) (ids .exit) (distances .exit)) ⌝ }
 {
@@ -182,9 +197,12 @@ pub fn search_filtered(
         floats,
         numbers,
         hashes,
+        text,
         work,
         query,
         wanted,
+        first,
+        second,
         k,
         ids,
         distances,
@@ -197,24 +215,30 @@ pub fn search(
     floats: &[f32],
     numbers: &[u32],
     hashes: &[u64],
+    text: &[u8],
     work: &mut [u32],
     query: &[f32],
     k: usize,
     ids: &mut [u32],
     distances: &mut [f32],
 ) -> Found
-    ensures { λ r. ⌜ Searches index (lent (floats .entry) (numbers .entry) (hashes .entry)) (now (work .entry))
+    ensures { λ r. ⌜ Searches index (lent (floats .entry) (numbers .entry) (hashes .entry) (text .entry)) (now (work .entry))
         (unfiltered (query .entry) k (ids .entry) (distances .entry))
         (leaving r (work .exit) (ids .exit) (distances .exit)) ⌝ }
 {
+    let start = 0;
+    let none = &text[start..start];
     search_wanted(
         index,
         floats,
         numbers,
         hashes,
+        text,
         work,
         query,
         Wanted::Everything,
+        none,
+        none,
         k,
         ids,
         distances,

@@ -7,5 +7,5 @@ abbrev pub paramsOf : ℕ → ℕ → ℕ → ℕ → CuratorParams
 paramsOf branching leaf-size ef beam =
     record { «branching_factor» = branching; «max_leaf_size» = leaf-size; «ef_search» = ef; «beam_width» = beam }
 
-abbrev pub capacitiesOf : ℕ → ℕ → ℕ → Capacities
-capacitiesOf vectors entries nodes = record { vectors = vectors; entries = entries; nodes = nodes }
+abbrev pub capacitiesOf : ℕ → ℕ → ℕ → ℕ → Capacities
+capacitiesOf vectors entries nodes text = record { vectors = vectors; entries = entries; nodes = nodes; text = text }

@@ -28,14 +28,17 @@ paramsAllowed p =
 abbrev pub usual : CuratorParams
 usual = record { «branching_factor» = 16; «max_leaf_size» = 128; «ef_search» = 256; «beam_width» = 4 }
 
--- 'V vectors 1 to 4,096, E label entries 0 to 16,384, M nodes 1 to 65,537'
+-- 'V vectors 1 to 4,096, E label entries 0 to 16,384, M nodes 1 to 65,537'; label text of 'capacity 0 to 4,177,920' (02, K4)
 unfoldable pub capacitiesAllowed : Capacities → Bool
 capacitiesAllowed c =
-    every (leb 1 (c .vectors) ∷ leb (c .vectors) 4096 ∷ leb (c .entries) 16384 ∷ leb 1 (c .nodes) ∷ leb (c .nodes) 65537 ∷ [])
+    every
+    (leb 1 (c .vectors) ∷ leb (c .vectors) 4096 ∷ leb (c .entries) 16384 ∷ leb 1 (c .nodes) ∷ leb (c .nodes) 65537 ∷ leb (c .text) 4177920
+    ∷ [])
 
--- 'a count over its capacity'
+-- 'a count over its capacity', the bytes held among them
 unfoldable pub countsAllowed : Capacities → Counts → Bool
-countsAllowed c held = every (leb (held .vectors) (c .vectors) ∷ leb (held .entries) (c .entries) ∷ leb (held .nodes) (c .nodes) ∷ [])
+countsAllowed c held =
+    every (leb (held .vectors) (c .vectors) ∷ leb (held .entries) (c .entries) ∷ leb (held .nodes) (c .nodes) ∷ leb (held .bytes) (c .text) ∷ [])
 
 -- 'built with n or nodes 0, or unbuilt with nodes not 0'
 unfoldable pub builtAllowed : Bool → Counts → Bool

@@ -11,7 +11,7 @@ use Rattle.settings.specs.declared.refusal.StateRefusal.the-variants.{In
 use Rattle.settings.specs.declared.refusal.InputRefusal.{InputRefusal}
 use Rattle.settings.specs.declared.refusal.InputRefusal.the-variants.{DimensionMismatch, NonFiniteInput, LabelLengths, AnswerTooShort, BadRecord, SettingsOrder, FileTooLong}
 use Rattle.settings.specs.declared.refusal.StoreRefusal.{StoreRefusal}
-use Rattle.settings.specs.declared.refusal.StoreRefusal.the-variants.{ListTooShort, VectorsFull, EntriesFull, NodesFull, Damaged}
+use Rattle.settings.specs.declared.refusal.StoreRefusal.the-variants.{ListTooShort, VectorsFull, EntriesFull, NodesFull, Damaged, TextFull}
 
 abbrev pub settingsNumber : SettingsRefusal → ℕ
 settingsNumber InvalidDimension = 1
@@ -39,6 +39,7 @@ storeNumber VectorsFull = 10
 storeNumber EntriesFull = 11
 storeNumber NodesFull = 13
 storeNumber Damaged = 15
+storeNumber TextFull = 20
 
 -- what is returned
 abbrev pub number : Refusal → ℕ

@@ -37,11 +37,12 @@ impl CuratorParams {
     }
 }
 
-// How many vectors, label entries and nodes the lent lists have room for.
+// How many vectors, label entries, nodes and bytes of label text the lent lists have room for.
 pub struct Capacities {
     pub vectors: usize,
     pub entries: usize,
     pub nodes: usize,
+    pub text: usize,
 }
 
 // What the refusals of a call come to.

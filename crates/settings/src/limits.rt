@@ -23,13 +23,16 @@ pub fn capacities_allowed(c: Capacities) -> bool
     ensures { λ r. ⌜ r ≡ capacitiesAllowed c ⌝ }
 {
     (1 <= c.vectors)
-        & ((c.vectors <= 4096) & ((c.entries <= 16384) & ((1 <= c.nodes) & (c.nodes <= 65537))))
+        & ((c.vectors <= 4096)
+            & ((c.entries <= 16384)
+                & ((1 <= c.nodes) & ((c.nodes <= 65537) & (c.text <= 4_177_920)))))
 }
 
 pub fn counts_allowed(c: Capacities, held: Counts) -> bool
     ensures { λ r. ⌜ r ≡ countsAllowed c held ⌝ }
 {
-    (held.vectors <= c.vectors) & ((held.entries <= c.entries) & (held.nodes <= c.nodes))
+    (held.vectors <= c.vectors)
+        & ((held.entries <= c.entries) & ((held.nodes <= c.nodes) & (held.bytes <= c.text)))
 }
 
 pub fn built_allowed(built: bool, held: Counts) -> bool

@@ -72,6 +72,7 @@ pub enum StoreRefusal {
     EntriesFull,
     NodesFull,
     Damaged,
+    TextFull,
 }
 
 impl StoreRefusal {
@@ -84,6 +85,7 @@ impl StoreRefusal {
             StoreRefusal::EntriesFull => 11,
             StoreRefusal::NodesFull => 13,
             StoreRefusal::Damaged => 15,
+            StoreRefusal::TextFull => 20,
         }
     }
 }

@@ -20,15 +20,20 @@ module _ (s : Shape) (lent : Lengths) where
   abbrev hashesFit : Bool
   hashesFit = leb (hashesSize s) (lent .hashes)
 
+  abbrev textFits : Bool
+  textFits = leb (s .text) (lent .text)
+
   pub store-long : storeShort s lent ≡ false → Long s lent
   unfolding storeShort
   store-long e =
-      let all : (floatsFit && (numbersFit && hashesFit)) ≡ true = not-false (floatsFit && (numbersFit && hashesFit)) e in
-      let rest = and-right floatsFit (numbersFit && hashesFit) all in
+      let all : (floatsFit && (numbersFit && (hashesFit && textFits))) ≡ true = not-false (floatsFit && (numbersFit && (hashesFit && textFits))) e in
+      let three = and-right floatsFit (numbersFit && (hashesFit && textFits)) all in
+      let two = and-right numbersFit (hashesFit && textFits) three in
       record {
-        floats = leb-true (floatsSize s) (lent .floats) (and-left floatsFit (numbersFit && hashesFit) all);
-        numbers = leb-true (numbersSize s) (lent .numbers) (and-left numbersFit hashesFit rest);
-        hashes = leb-true (hashesSize s) (lent .hashes) (and-right numbersFit hashesFit rest);
+        floats = leb-true (floatsSize s) (lent .floats) (and-left floatsFit (numbersFit && (hashesFit && textFits)) all);
+        numbers = leb-true (numbersSize s) (lent .numbers) (and-left numbersFit (hashesFit && textFits) three);
+        hashes = leb-true (hashesSize s) (lent .hashes) (and-left hashesFit textFits two);
+        text = leb-true (s .text) (lent .text) (and-right hashesFit textFits two);
       }
 
   pub lists-long : (work : ℕ) → listsShort s lent work ≡ false → Long s lent × (workSize s ≤ work)

@@ -8,13 +8,15 @@ use Rattle.lists.specs.Frame.{Part}
 use Rattle.store.specs.declared.Shape.{Shape}
 use Rattle.store.specs.declared.Counts.{Counts}
 
--- The three lists that hold an index. The work list holds nothing between calls and is not among them.
+-- The four lists that hold an index. The work list holds nothing between calls and is not among them. 02, K4: 'The store gains a byte list for label text'.
 pub record Store : Type 0 where
   pub floats : List Float
   pub numbers : List ℕ
   pub hashes : List ℕ
+  pub text : List ℕ
 
--- 'dimension D 1 to 128; branching_factor B 1 to 64', 'V vectors 1 to 4,096, E label entries 0 to 16,384, M nodes 1 to 65,537'
+-- 'dimension D 1 to 128; branching_factor B 1 to 64', 'V vectors 1 to 4,096, E label entries 0 to 16,384, M nodes 1 to 65,537'; label text of 'capacity 0
+-- to 4,177,920' (02, K4)
 pub record Limits (s : Shape) : Type 0 where
   pub dimension-low : 1 ≤ s .dimension
   pub dimension-high : s .dimension ≤ 128
@@ -25,6 +27,7 @@ pub record Limits (s : Shape) : Type 0 where
   pub entries-high : s .entries ≤ 16384
   pub nodes-low : 1 ≤ s .nodes
   pub nodes-high : s .nodes ≤ 65537
+  pub text-high : s .text ≤ 4177920
 
 -- counts within the capacities, and these within their limits
 pub record CountsWithin (s : Shape) (c : Counts) : Type 0 where
@@ -32,6 +35,7 @@ pub record CountsWithin (s : Shape) (c : Counts) : Type 0 where
   pub vectors : c .vectors ≤ s .vectors
   pub entries : c .entries ≤ s .entries
   pub nodes : c .nodes ≤ s .nodes
+  pub bytes : c .bytes ≤ s .text
 
 -- 'Floats (f32): D times (V + M + B): vectors, centroids, cluster centres.'
 abbrev pub centroidsAt : Shape → ℕ
@@ -44,7 +48,8 @@ abbrev pub floatsSize : Shape → ℕ
 floatsSize s = s .dimension * (s .vectors + s .nodes + s .branching)
 
 -- 'Numbers (u32): 2V + 2E + 7M: document ids, entry owners, leaf order of vectors, six per node (start and count of children, vectors, entries),
--- child links, leaf order of entries.'
+-- child links, leaf order of entries'; and 'an entry also has its start, the bytes held before it, and its length, two lists of E at the end of the
+-- numbers' (02, K4).
 abbrev pub ownersAt : Shape → ℕ
 ownersAt s = s .vectors
 
@@ -60,8 +65,14 @@ linksAt s = 2 * s .vectors + s .entries + 6 * s .nodes
 abbrev pub entryOrderAt : Shape → ℕ
 entryOrderAt s = 2 * s .vectors + s .entries + 7 * s .nodes
 
+abbrev pub startsAt : Shape → ℕ
+startsAt s = 2 * s .vectors + 2 * s .entries + 7 * s .nodes
+
+abbrev pub lengthsAt : Shape → ℕ
+lengthsAt s = 2 * s .vectors + 3 * s .entries + 7 * s .nodes
+
 abbrev pub numbersSize : Shape → ℕ
-numbersSize s = 2 * s .vectors + 2 * s .entries + 7 * s .nodes
+numbersSize s = 2 * s .vectors + 4 * s .entries + 7 * s .nodes
 
 -- 'Hashes (u64): E + 4M: entry hashes, filters.'
 abbrev pub filtersAt : Shape → ℕ
@@ -118,3 +129,13 @@ childLinks s numbers i = part (linksAt s + nodeField s numbers i 0) (nodeField s
 
 abbrev pub nodeFilter : Shape → List ℕ → ℕ → List ℕ
 nodeFilter s hashes i = part (filtersAt s + i * 4) 4 hashes
+
+-- where the label text of an entry starts, and how long it is: the bytes of its label
+abbrev pub entryStart : Shape → List ℕ → ℕ → ℕ
+entryStart s numbers entry = getD numbers (startsAt s + entry) 0
+
+abbrev pub entryLength : Shape → List ℕ → ℕ → ℕ
+entryLength s numbers entry = getD numbers (lengthsAt s + entry) 0
+
+abbrev pub entryName : Shape → List ℕ → List ℕ → ℕ → List ℕ
+entryName s numbers text entry = part (entryStart s numbers entry) (entryLength s numbers entry) text

@@ -3,14 +3,14 @@ use Prim.Native.Nat.{ℕ}
 use mathlib.Core.List.{List, [], _∷_}
 use mathlib.Core.Path.{_≡_, refl}
 use Rattle.store.specs.declared.Shape.{Shape}
-use Rattle.store.specs.Store.{nodeField, childLinks, nodeFilter}
+use Rattle.store.specs.Store.{nodeField, childLinks, nodeFilter, entryName}
 
 small : Shape
-small = record { dimension = 1; branching = 1; vectors = 1; entries = 1; nodes = 3 }
+small = record { dimension = 1; branching = 1; vectors = 1; entries = 1; nodes = 3; text = 9 }
 
--- document id, owner, leaf order; the six of the root, of its child and of none; links; leaf order of entries
+-- document id, owner, leaf order; the six of the root, of its child and of none; links; leaf order of entries; start and length of the entry's text
 numbers : List ℕ
-numbers = 7 ∷ 0 ∷ 0 ∷ 0 ∷ 1 ∷ 0 ∷ 0 ∷ 0 ∷ 0 ∷ 0 ∷ 0 ∷ 0 ∷ 1 ∷ 0 ∷ 1 ∷ 9 ∷ 9 ∷ 9 ∷ 9 ∷ 9 ∷ 9 ∷ 1 ∷ 9 ∷ 9 ∷ 0 ∷ []
+numbers = 7 ∷ 0 ∷ 0 ∷ 0 ∷ 1 ∷ 0 ∷ 0 ∷ 0 ∷ 0 ∷ 0 ∷ 0 ∷ 0 ∷ 1 ∷ 0 ∷ 1 ∷ 9 ∷ 9 ∷ 9 ∷ 9 ∷ 9 ∷ 9 ∷ 1 ∷ 9 ∷ 9 ∷ 0 ∷ 2 ∷ 4 ∷ []
 
 -- the entry's hash; the filters of the root, of its child and of none
 hashes : List ℕ
@@ -40,3 +40,8 @@ filter-of-root = refl
 filter-of-child : nodeFilter small hashes 1 ≡ 5 ∷ 6 ∷ 7 ∷ 8 ∷ []
 unfolding small hashes
 filter-of-child = refl
+
+-- label text: the entry's is `silt`, with bytes of others around it
+name-of-entry : entryName small numbers (1 ∷ 2 ∷ 115 ∷ 105 ∷ 108 ∷ 116 ∷ 3 ∷ 4 ∷ 5 ∷ []) 0 ≡ 115 ∷ 105 ∷ 108 ∷ 116 ∷ []
+unfolding small numbers
+name-of-entry = refl

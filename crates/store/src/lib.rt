@@ -3,22 +3,24 @@
 ghost use mathlib.Core.Path.{_≡_};
 ghost use Prim.Native.Nat.{_^_, _<_};
 ghost use Rattle.store.specs.Lent.{storeShort, listsShort};
-ghost use Rattle.store.specs.Store.{Limits, centroidsAt, centresAt, floatsSize, ownersAt, orderAt, nodesAt, linksAt, entryOrderAt, numbersSize, filtersAt, hashesSize, marksAt, hitsAt, workSize};
+ghost use Rattle.store.specs.Store.{Limits, centroidsAt, centresAt, floatsSize, ownersAt, orderAt, nodesAt, linksAt, entryOrderAt, startsAt, lengthsAt, numbersSize, filtersAt, hashesSize, marksAt, hitsAt, workSize};
 
-// What fixes the sizes of a store: the dimension D, the branching factor B, and the capacities V, E and M.
+// What fixes the sizes of a store: the dimension D, the branching factor B, and the capacities V, E and M and that of label text.
 pub struct Shape {
     pub dimension: usize,
     pub branching: usize,
     pub vectors: usize,
     pub entries: usize,
     pub nodes: usize,
+    pub text: usize,
 }
 
-// How many vectors, label entries and nodes a store holds.
+// How many vectors, label entries, nodes and bytes of label text a store holds.
 pub struct Counts {
     pub vectors: usize,
     pub entries: usize,
     pub nodes: usize,
+    pub bytes: usize,
 }
 
 // The lengths of the lent lists of a store.
@@ -26,6 +28,7 @@ pub struct Lengths {
     pub floats: usize,
     pub numbers: usize,
     pub hashes: usize,
+    pub text: usize,
 }
 
 // A number of a list as a size.
@@ -92,11 +95,25 @@ impl Shape {
         2 * self.vectors + self.entries + 7 * self.nodes
     }
 
+    pub fn starts_at(self) -> usize
+        requires { ⌜ Limits self ⌝ }
+        ensures { λ r. ⌜ r ≡ startsAt self ⌝ }
+    {
+        2 * self.vectors + 2 * self.entries + 7 * self.nodes
+    }
+
+    pub fn lengths_at(self) -> usize
+        requires { ⌜ Limits self ⌝ }
+        ensures { λ r. ⌜ r ≡ lengthsAt self ⌝ }
+    {
+        2 * self.vectors + 3 * self.entries + 7 * self.nodes
+    }
+
     pub fn numbers_size(self) -> usize
         requires { ⌜ Limits self ⌝ }
         ensures { λ r. ⌜ r ≡ numbersSize self ⌝ }
     {
-        2 * self.vectors + 2 * self.entries + 7 * self.nodes
+        2 * self.vectors + 4 * self.entries + 7 * self.nodes
     }
 
     pub fn filters_at(self) -> usize
@@ -145,7 +162,8 @@ impl Shape {
         let floats = self.floats_size();
         let numbers = self.numbers_size();
         let hashes = self.hashes_size();
-        !((floats <= lent.floats) & ((numbers <= lent.numbers) & (hashes <= lent.hashes)))
+        !((floats <= lent.floats)
+            & ((numbers <= lent.numbers) & ((hashes <= lent.hashes) & (self.text <= lent.text))))
     }
 
     // Whether a list of the store, or the work list, is shorter than its size.

@@ -171,11 +171,12 @@ fn add_one(
     floats: &mut [f32],
     numbers: &mut [u32],
     hashes: &mut [u64],
+    text: &mut [u8],
 ) -> Step {
     let labels = at_most(byte_at(s, forward(s.len(), at, 4)), 3);
     let lengths = forward(s.len(), at, 5);
-    let text = forward(s.len(), lengths, 2 * labels);
-    let place = forward(s.len(), text, text_size(s, lengths, labels));
+    let bytes = forward(s.len(), lengths, 2 * labels);
+    let place = forward(s.len(), bytes, text_size(s, lengths, labels));
     let start = 0;
     let dimension = at_most(index.dimension, 8);
     let vector = vector_at(s, place);
@@ -184,10 +185,11 @@ fn add_one(
         floats,
         numbers,
         hashes,
+        text,
         number_at(s, at),
         &vector[start..dimension],
-        &s[lengths..text],
-        &s[text..place],
+        &s[lengths..bytes],
+        &s[bytes..place],
     );
     match added {
         Changed::Index(grown) => Step {
@@ -209,6 +211,7 @@ fn add_all(
     floats: &mut [f32],
     numbers: &mut [u32],
     hashes: &mut [u64],
+    text: &mut [u8],
 ) -> Step {
     let mut step = Step {
         at: from,
@@ -216,7 +219,7 @@ fn add_all(
     };
     let mut left = adds;
     while 0 < left {
-        step = add_one(s, step.at, step.index, floats, numbers, hashes);
+        step = add_one(s, step.at, step.index, floats, numbers, hashes, text);
         left -= 1;
     }
     step
@@ -323,11 +326,13 @@ fn settings_at(s: &[u8], at: usize) -> CuratorParams {
     }
 }
 
+// A case has up to 128 labels of up to three bytes.
 fn capacities_at(s: &[u8], at: usize) -> Capacities {
     Capacities {
         vectors: size_at(s, forward(s.len(), at, 20)),
         entries: size_at(s, forward(s.len(), at, 24)),
         nodes: size_at(s, forward(s.len(), at, 28)),
+        text: 384,
     }
 }
 
@@ -338,8 +343,9 @@ fn run_case(s: &[u8], at: usize) -> usize {
         return s.len();
     };
     let mut floats = [0.0f32; 9824];
-    let mut numbers = [0u32; 8084];
+    let mut numbers = [0u32; 8340];
     let mut hashes = [0u64; 4528];
+    let mut text = [0u8; 384];
     let mut work = [0u32; 3684];
     let first = forward(s.len(), at, 36);
     let adds = size_at(s, forward(s.len(), at, 32));
@@ -351,9 +357,17 @@ fn run_case(s: &[u8], at: usize) -> usize {
         &mut floats,
         &mut numbers,
         &mut hashes,
+        &mut text,
     );
     let index = step.index;
-    let built = build::build(index, &mut floats, &mut numbers, &mut hashes, &mut work);
+    let built = build::build(
+        index,
+        &mut floats,
+        &mut numbers,
+        &mut hashes,
+        &text,
+        &mut work,
+    );
     match built {
         Changed::Refused(refusal) => print_refusal(refusal),
         Changed::Index(done) => print_index(done, &floats, &numbers, &hashes),

@@ -11,8 +11,8 @@ use Rattle.record_queue.specs.Records.{records, Heap}
 use Rattle.store.specs.declared.Shape.{Shape}
 use Rattle.store.specs.declared.Counts.{Counts}
 use Rattle.store.specs.Lent.{storeOf}
-use Rattle.walk.specs.declared.Wanted.{Wanted}
 use Rattle.walk.specs.Walk.{waitingNode}
+use Rattle.walk.specs.Wanted.{Sought}
 use Rattle.walk.specs.StoreView.{storeView}
 use Rattle.waiting_nodes.specs.Contracts.{insertEach, waitingRecords, PushedNodes}
 
@@ -57,7 +57,7 @@ pushed-append s work work₁ work₂ waiting one xs ys e a b =
     }
 
 -- nodes wait as the store's view has them
-pub nodes-wait : (s : Shape) (c : Counts) (floats : List Float) (numbers hashes : List ℕ) (query : List Float) (wanted : Wanted) (l : List ℕ)
-    → waitingRecords s floats query l ≡ map (waitingNode (storeView s c (storeOf floats numbers hashes) query wanted)) l
+pub nodes-wait : (s : Shape) (c : Counts) (floats : List Float) (numbers hashes text : List ℕ) (query : List Float) (wanted : Sought) (l : List ℕ)
+    → waitingRecords s floats query l ≡ map (waitingNode (storeView s c (storeOf floats numbers hashes text) query wanted)) l
 unfolding storeView
-nodes-wait s c floats numbers hashes query wanted l = refl
+nodes-wait s c floats numbers hashes text query wanted l = refl

@@ -13,17 +13,16 @@ use Rattle.lists.specs.Tests.{allPass-nil}
 use Rattle.store.specs.Lent.{storeOf}
 use Rattle.store.specs.declared.Shape.{Shape}
 use Rattle.store.specs.Store.{nodesAt, linksAt, filtersAt}
-use Rattle.walk.specs.declared.Wanted.{Wanted}
 use Rattle.store.specs.declared.Counts.{Counts}
 use Rattle.walk.specs.declared.look.Placed.{Placed}
 use Rattle.walk.specs.declared.look.Placed.the-variants.{Outside, Within}
 use Rattle.walk.specs.declared.look.Look.{Look}
 use Rattle.walk.specs.Walk.{Shown, hits, damage, shown}
-use Rattle.walk.specs.Wanted.{listRead, heldIn, denies, passes}
+use Rattle.walk.specs.Wanted.{Sought, listRead, heldIn, denies, passes}
 use Rattle.walk.specs.WantedLaws.{given-nil}
-use Rattle.walk.specs.StoreView.{blockHeld, fieldOf, partOf, hitAt, childrenShown, entryRead, listShown, leafShown, nodeShown, storeView}
+use Rattle.walk.specs.StoreView.{blockHeld, fieldOf, partOf, hitAt, childrenShown, endIn, entryRead, listShown, leafShown, nodeShown, storeView}
 use Rattle.walk.specs.StoreViewLaws.{block-empty, block-some, store-shown}
-use Rattle.walk.specs.Contracts.{Placing, LeafPlacing, Looks}
+use Rattle.walk.specs.Contracts.{Placing, LeafPlacing, LooksFor}
 use Rattle.walk.specs.declared.look.Look.the-variants as look
 
 -- blocks
@@ -36,12 +35,12 @@ block-in start zero held h = block-empty start held
 block-in start (suc count) held h = block-some start count held ∙ le-leb (start + suc count) held h
 
 -- a leaf's empty list shows no hits
-nothing : (s : Shape) (c : Counts) (floats : List Float) (numbers hashes : List ℕ) (query : List Float) (wanted : Wanted)
-    → listShown s c (storeOf floats numbers hashes) query wanted [] ≡ hits []
+nothing : (s : Shape) (c : Counts) (floats : List Float) (numbers hashes text : List ℕ) (query : List Float) (wanted : Sought)
+    → listShown s c (storeOf floats numbers hashes text) query wanted [] ≡ hits []
 unfolding listShown
-nothing s c floats numbers hashes query wanted =
-    let store = storeOf floats numbers hashes in
-    ap₂ (λ (b : Bool) (l : List ℕ). cond b (hits (map (hitAt s (store .floats) (store .numbers) query) l)) damage) (allPass-nil (passes wanted c (entryRead s c store)))
+nothing s c floats numbers hashes text query wanted =
+    let store = storeOf floats numbers hashes text in
+    ap₂ (λ (b : Bool) (l : List ℕ). cond b (hits (map (hitAt s (store .floats) (store .numbers) query) l)) damage) (allPass-nil (passes wanted c (entryRead s c store) (endIn s (store .numbers))))
     (given-nil wanted (entryRead s c store))
 
 -- what a block shows
@@ -63,51 +62,51 @@ abbrev pub innerLook : Placed → Look
 innerLook Outside = look.Damaged
 innerLook (Within b) = look.Inner b
 
-leaf-shown : (s : Shape) (c : Counts) (floats : List Float) (numbers hashes : List ℕ) (query : List Float) (wanted : Wanted) (i : ℕ) (r : Placed)
+leaf-shown : (s : Shape) (c : Counts) (floats : List Float) (numbers hashes text : List ℕ) (query : List Float) (wanted : Sought) (i : ℕ) (r : Placed)
     → LeafPlacing s c numbers wanted (nodesAt s + i * 6) r
-    → leafShown s c (storeOf floats numbers hashes) query wanted i ≡ placedShown (listShown s c (storeOf floats numbers hashes) query wanted) numbers r
+    → leafShown s c (storeOf floats numbers hashes text) query wanted i ≡ placedShown (listShown s c (storeOf floats numbers hashes text) query wanted) numbers r
 unfolding leafShown
-leaf-shown s c floats numbers hashes query wanted i r h =
+leaf-shown s c floats numbers hashes text query wanted i r h =
     let l = listRead wanted in
     placed-shown numbers (nodesAt s + i * 6 + fieldOf l) (nodesAt s + i * 6 + (fieldOf l + 1)) (partOf s l) (heldIn l c)
-    (listShown s c (storeOf floats numbers hashes) query wanted) r (let t : nodesAt s + i * 6 + (fieldOf (listRead wanted) + 1) ≡ nodesAt s + i * 6 + fieldOf (listRead wanted) + 1 = omega arith in t) h
+    (listShown s c (storeOf floats numbers hashes text) query wanted) r (let t : nodesAt s + i * 6 + (fieldOf (listRead wanted) + 1) ≡ nodesAt s + i * 6 + fieldOf (listRead wanted) + 1 = omega arith in t) h
 
-module _ (s : Shape) (c : Counts) (numbers hashes : List ℕ) (wanted : Wanted) (i : ℕ) where
-  passed : (floats query : List Float) → denies wanted (part (filtersAt s + i * 4) 4 hashes) ≡ false
-      → shown (storeView s c (storeOf floats numbers hashes) query wanted) i ≡ nodeShown s c (storeOf floats numbers hashes) query wanted i
-  passed floats query e =
-      store-shown s c (storeOf floats numbers hashes) query wanted i
-      ∙ ap (λ (b : Bool). cond b (hits []) (nodeShown s c (storeOf floats numbers hashes) query wanted i)) e
+module _ (s : Shape) (c : Counts) (numbers hashes : List ℕ) (wanted : Sought) (i : ℕ) where
+  passed : (floats query : List Float) (text : List ℕ) → denies wanted (part (filtersAt s + i * 4) 4 hashes) ≡ false
+      → shown (storeView s c (storeOf floats numbers hashes text) query wanted) i ≡ nodeShown s c (storeOf floats numbers hashes text) query wanted i
+  passed floats query text e =
+      store-shown s c (storeOf floats numbers hashes text) query wanted i
+      ∙ ap (λ (b : Bool). cond b (hits []) (nodeShown s c (storeOf floats numbers hashes text) query wanted i)) e
 
-  pub looks-denied : denies wanted (part (filtersAt s + i * 4) 4 hashes) ≡ true → Looks s c numbers hashes wanted i (look.Leaf (record { start = 0; count = 0 }))
+  pub looks-denied : denies wanted (part (filtersAt s + i * 4) 4 hashes) ≡ true → LooksFor s c numbers hashes wanted i (look.Leaf (record { start = 0; count = 0 }))
   looks-denied e = (
     omega arith,
-    λ floats query. store-shown s c (storeOf floats numbers hashes) query wanted i
-        ∙ ap (λ (b : Bool). cond b (hits []) (nodeShown s c (storeOf floats numbers hashes) query wanted i)) e
-        ∙ sym (nothing s c floats numbers hashes query wanted),
+    λ floats query text. store-shown s c (storeOf floats numbers hashes text) query wanted i
+        ∙ ap (λ (b : Bool). cond b (hits []) (nodeShown s c (storeOf floats numbers hashes text) query wanted i)) e
+        ∙ sym (nothing s c floats numbers hashes text query wanted),
   )
 
-  node-leaf : (floats query : List Float) → getD numbers (nodesAt s + i * 6 + 1) 0 ≡ 0
-      → nodeShown s c (storeOf floats numbers hashes) query wanted i ≡ leafShown s c (storeOf floats numbers hashes) query wanted i
+  node-leaf : (floats query : List Float) (text : List ℕ) → getD numbers (nodesAt s + i * 6 + 1) 0 ≡ 0
+      → nodeShown s c (storeOf floats numbers hashes text) query wanted i ≡ leafShown s c (storeOf floats numbers hashes text) query wanted i
   unfolding nodeShown
-  node-leaf floats query z = rw (eq-eqb (getD numbers (nodesAt s + i * 6 + 1) 0) 0 z)
+  node-leaf floats query text z = rw (eq-eqb (getD numbers (nodesAt s + i * 6 + 1) 0) 0 z)
 
-  node-inner : (floats query : List Float) (r : Placed) → (getD numbers (nodesAt s + i * 6 + 1) 0 ≡ 0 → ⊥) → Placing numbers (nodesAt s + i * 6) (linksAt s) (c .nodes) r
-      → nodeShown s c (storeOf floats numbers hashes) query wanted i ≡ placedShown (childrenShown s c (storeOf floats numbers hashes) i) numbers r
+  node-inner : (floats query : List Float) (text : List ℕ) (r : Placed) → (getD numbers (nodesAt s + i * 6 + 1) 0 ≡ 0 → ⊥) → Placing numbers (nodesAt s + i * 6) (linksAt s) (c .nodes) r
+      → nodeShown s c (storeOf floats numbers hashes text) query wanted i ≡ placedShown (childrenShown s c (storeOf floats numbers hashes text) i) numbers r
   unfolding nodeShown
-  node-inner floats query r n h =
+  node-inner floats query text r n h =
       rw (ne-eqb (getD numbers (nodesAt s + i * 6 + 1) 0) 0 n, add-zero (nodesAt s + i * 6))
-      (placed-shown numbers (nodesAt s + i * 6) (nodesAt s + i * 6 + 1) (linksAt s) (c .nodes) (childrenShown s c (storeOf floats numbers hashes) i) r refl h)
+      (placed-shown numbers (nodesAt s + i * 6) (nodesAt s + i * 6 + 1) (linksAt s) (c .nodes) (childrenShown s c (storeOf floats numbers hashes text) i) r refl h)
 
   pub looks-leaf : denies wanted (part (filtersAt s + i * 4) 4 hashes) ≡ false → getD numbers (nodesAt s + i * 6 + 1) 0 ≡ 0 → (r : Placed)
-      → LeafPlacing s c numbers wanted (nodesAt s + i * 6) r → Looks s c numbers hashes wanted i (leafLook r)
-  looks-leaf e z Outside h = λ floats query. passed floats query e ∙ node-leaf floats query z ∙ leaf-shown s c floats numbers hashes query wanted i Outside h
+      → LeafPlacing s c numbers wanted (nodesAt s + i * 6) r → LooksFor s c numbers hashes wanted i (leafLook r)
+  looks-leaf e z Outside h = λ floats query text. passed floats query text e ∙ node-leaf floats query text z ∙ leaf-shown s c floats numbers hashes text query wanted i Outside h
   looks-leaf e z (Within b) h = (
     h .1 .room,
-    λ floats query. passed floats query e ∙ node-leaf floats query z ∙ leaf-shown s c floats numbers hashes query wanted i (Within b) h,
+    λ floats query text. passed floats query text e ∙ node-leaf floats query text z ∙ leaf-shown s c floats numbers hashes text query wanted i (Within b) h,
   )
 
   pub looks-inner : denies wanted (part (filtersAt s + i * 4) 4 hashes) ≡ false → (getD numbers (nodesAt s + i * 6 + 1) 0 ≡ 0 → ⊥) → (r : Placed)
-      → Placing numbers (nodesAt s + i * 6) (linksAt s) (c .nodes) r → Looks s c numbers hashes wanted i (innerLook r)
-  looks-inner e z Outside h = λ floats query. passed floats query e ∙ node-inner floats query Outside z h
-  looks-inner e z (Within b) h = (h .1 .room, λ floats query. passed floats query e ∙ node-inner floats query (Within b) z h)
+      → Placing numbers (nodesAt s + i * 6) (linksAt s) (c .nodes) r → LooksFor s c numbers hashes wanted i (innerLook r)
+  looks-inner e z Outside h = λ floats query text. passed floats query text e ∙ node-inner floats query text Outside z h
+  looks-inner e z (Within b) h = (h .1 .room, λ floats query text. passed floats query text e ∙ node-inner floats query text (Within b) z h)

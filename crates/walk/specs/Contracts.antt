@@ -1,7 +1,7 @@
 -- The contracts of the walk's functions: what they want of the lists that they are lent, and what they give.
 use Prim.Native.Nat.{ℕ, _+_, _≤_, _<_}
 use mathlib.Core.Path.{_≡_}
-use mathlib.Core.Bool.{true, false}
+use mathlib.Core.Bool.{Bool, true, false}
 use mathlib.Core.List.{List}
 use lib.Ieee.{Float}
 use lib.ListN.{length, getD}
@@ -10,7 +10,7 @@ use Rattle.lists.specs.Lists.{part}
 use Rattle.lists.specs.Frame.{AlikeBut}
 use Rattle.store.specs.declared.Shape.{Shape}
 use Rattle.store.specs.declared.Counts.{Counts}
-use Rattle.store.specs.Store.{Store, Limits, CountsWithin, floatsSize, numbersSize, hashesSize, workSize}
+use Rattle.store.specs.Store.{Store, Limits, CountsWithin, floatsSize, numbersSize, hashesSize, workSize, nodeFilter}
 use Rattle.store.specs.Lent.{storeOf, lengthsOf, Long}
 use Rattle.walk.specs.declared.Wanted.{Wanted}
 use Rattle.walk.specs.declared.look.Placed.{Placed}
@@ -21,7 +21,7 @@ use Rattle.walk.specs.declared.Searched.{Searched}
 use Rattle.walk.specs.declared.Searched.the-variants as searched
 use Rattle.walk.specs.Walk.{damage, State, damaged, going, shown, walk}
 use Rattle.walk.specs.Answer.{Answer, answer}
-use Rattle.walk.specs.Wanted.{listRead, heldIn}
+use Rattle.walk.specs.Wanted.{Sought, sought, denies, listRead, heldIn}
 use Rattle.walk.specs.StoreView.{blockHeld, fieldOf, partOf, childrenShown, listShown, storeView}
 
 -- ---- what the functions are lent
@@ -82,22 +82,32 @@ Placing numbers at base held (Within b) =
     × HeldBlock numbers (getD numbers at 0) (getD numbers (at + 1) 0) base (b .start) (b .count)
 
 -- the list that a search reads in a leaf
-abbrev pub LeafPlacing : Shape → Counts → List ℕ → Wanted → ℕ → Placed → Type 0
+abbrev pub LeafPlacing : Shape → Counts → List ℕ → Sought → ℕ → Placed → Type 0
 LeafPlacing s c numbers wanted at r =
     Placing numbers (at + fieldOf (listRead wanted)) (partOf s (listRead wanted)) (heldIn (listRead wanted) c) r
 
--- what node i shows, from any query and with any vectors
+-- A filter and a leaf's place are told by the hash alone: the same for a label of any bytes, in any two parts
+abbrev pub Denies : Shape → List ℕ → Wanted → ℕ → Bool → Type 0
+Denies s hashes wanted i r = (first second : List ℕ) → r ≡ denies (sought wanted first second) (nodeFilter s hashes i)
+
+abbrev pub LeafPlaced : Shape → Counts → List ℕ → Wanted → ℕ → Placed → Type 0
+LeafPlaced s c numbers wanted at r = (first second : List ℕ) → LeafPlacing s c numbers (sought wanted first second) at r
+
+-- what node i shows, from any query and with any vectors and label text
+abbrev pub LooksFor : Shape → Counts → List ℕ → List ℕ → Sought → ℕ → Look → Type 0
+LooksFor s c numbers hashes wanted i look.Damaged =
+    (floats query : List Float) (text : List ℕ) → shown (storeView s c (storeOf floats numbers hashes text) query wanted) i ≡ damage
+LooksFor s c numbers hashes wanted i (look.Leaf b) =
+    (b .start + b .count ≤ length numbers)
+    × ((floats query : List Float) (text : List ℕ) → shown (storeView s c (storeOf floats numbers hashes text) query wanted) i
+    ≡ listShown s c (storeOf floats numbers hashes text) query wanted (part (b .start) (b .count) numbers))
+LooksFor s c numbers hashes wanted i (look.Inner b) =
+    (b .start + b .count ≤ length numbers)
+    × ((floats query : List Float) (text : List ℕ) → shown (storeView s c (storeOf floats numbers hashes text) query wanted) i
+    ≡ childrenShown s c (storeOf floats numbers hashes text) i (part (b .start) (b .count) numbers))
+
 abbrev pub Looks : Shape → Counts → List ℕ → List ℕ → Wanted → ℕ → Look → Type 0
-Looks s c numbers hashes wanted i look.Damaged =
-    (floats query : List Float) → shown (storeView s c (storeOf floats numbers hashes) query wanted) i ≡ damage
-Looks s c numbers hashes wanted i (look.Leaf b) =
-    (b .start + b .count ≤ length numbers)
-    × ((floats query : List Float) → shown (storeView s c (storeOf floats numbers hashes) query wanted) i
-    ≡ listShown s c (storeOf floats numbers hashes) query wanted (part (b .start) (b .count) numbers))
-Looks s c numbers hashes wanted i (look.Inner b) =
-    (b .start + b .count ≤ length numbers)
-    × ((floats query : List Float) → shown (storeView s c (storeOf floats numbers hashes) query wanted) i
-    ≡ childrenShown s c (storeOf floats numbers hashes) i (part (b .start) (b .count) numbers))
+Looks s c numbers hashes wanted i r = (first second : List ℕ) → LooksFor s c numbers hashes (sought wanted first second) i r
 
 -- ---- the searches
 
@@ -118,7 +128,7 @@ SearchEnds damaged k r ids ids′ distances distances′ = Leaves r ids ids′ d
 SearchEnds (going p) k r ids ids′ distances distances′ = Answers (answer k p) r ids ids′ distances distances′
 
 -- The search is the walk of the store's view: damaged exactly where that is; otherwise its answer
-pub record SearchGives (s : Shape) (c : Counts) (ef : ℕ) (store : Store) (query : List Float) (wanted : Wanted) (k : ℕ)
+pub record SearchGives (s : Shape) (c : Counts) (ef : ℕ) (store : Store) (query : List Float) (wanted : Sought) (k : ℕ)
     (work ids : List ℕ) (distances : List Float) (r : Searched) (work′ ids′ : List ℕ) (distances′ : List Float) : Type 0 where
   pub ends : SearchEnds (walk (storeView s c store query wanted) ef) k r ids ids′ distances distances′
   pub works : Works s work work′

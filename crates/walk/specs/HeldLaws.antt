@@ -3,7 +3,7 @@
 use Prim.Native.Nat.{ℕ, suc, _+_, _*_, _^_, _≤_, _<_}
 use native.Mathlib.Nat.{zero-add, mul-le-mul-right, suc-mul, mul-comm, add-mul, add-assoc}
 use native.Mathlib.Omega.{arith}
-use mathlib.Core.Path.{_≡_, refl, sym, ap, _∙_, subst}
+use mathlib.Core.Path.{_≡_, refl, sym, ap, ap₂, _∙_, subst}
 use mathlib.Core.Bool.{true}
 use mathlib.Core.List.{List}
 use lib.Ieee.{Float}
@@ -11,20 +11,19 @@ use lib.ListN.{getD}
 use Rattle.lists.specs.Lists.{part}
 use Rattle.lists.specs.Parts.{getD-part, part-part}
 use Rattle.store.specs.declared.Shape.{Shape}
-use Rattle.store.specs.Store.{Store, vectorAt, centroidsAt, ownersAt, orderAt, nodesAt, linksAt, entryOrderAt, filtersAt, nodeField, nodeFilter}
+use Rattle.store.specs.Store.{Store, vectorAt, centroidsAt, ownersAt, orderAt, nodesAt, linksAt, entryOrderAt, startsAt, lengthsAt, filtersAt, nodeField, nodeFilter, entryStart, entryLength, entryName}
 use Rattle.lists.specs.Tests.{either}
-use Rattle.walk.specs.declared.Wanted.{Wanted}
 use Rattle.store.specs.declared.Counts.{Counts}
 use Rattle.walk.specs.Walk.{walk}
 use Rattle.walk.specs.SameWalkLaws.{opens-below}
-use Rattle.walk.specs.Wanted.{LeafList, vector-list, entry-list, listRead, heldIn, denies}
+use Rattle.walk.specs.Wanted.{Sought, LeafList, vector-list, entry-list, listRead, heldIn, denies}
 use Rattle.walk.specs.WantedLaws.{SameNumber, numbers-same}
-use Rattle.walk.specs.StoreView.{blockHeld, fieldOf, partOf, ownerOf, entryRead, storeView}
+use Rattle.walk.specs.StoreView.{blockHeld, fieldOf, partOf, ownerOf, endIn, storeView}
 use Rattle.walk.specs.StoreViewLaws.{block-within, store-children-below}
-use Rattle.walk.specs.ReadLaws.{SameCentroid, SameList, SameVector, SameLeaf, SameNode, SameRead, same-read}
+use Rattle.walk.specs.ReadLaws.{readingOf, SameCentroid, SameList, SameVector, SameLeaf, SameNode, SameRead, same-read}
 
 -- Two stores agree on what is held: vectors, centroids; document ids, owners, leaf order of vectors, the six of each node, child links, leaf order of
--- entries; entry hashes, filters; each up to its count
+-- entries, starts and lengths of labels; entry hashes, filters; label text; each up to its count
 pub record SameHeld (s : Shape) (c : Counts) (a b : Store) : Type 0 where
   pub vectors : part 0 (c .vectors * s .dimension) (a .floats) ≡ part 0 (c .vectors * s .dimension) (b .floats)
   pub centroids : part (centroidsAt s) (c .nodes * s .dimension) (a .floats) ≡ part (centroidsAt s) (c .nodes * s .dimension) (b .floats)
@@ -34,8 +33,11 @@ pub record SameHeld (s : Shape) (c : Counts) (a b : Store) : Type 0 where
   pub nodes : part (nodesAt s) (c .nodes * 6) (a .numbers) ≡ part (nodesAt s) (c .nodes * 6) (b .numbers)
   pub links : part (linksAt s) (c .nodes) (a .numbers) ≡ part (linksAt s) (c .nodes) (b .numbers)
   pub entry-order : part (entryOrderAt s) (c .entries) (a .numbers) ≡ part (entryOrderAt s) (c .entries) (b .numbers)
+  pub starts : part (startsAt s) (c .entries) (a .numbers) ≡ part (startsAt s) (c .entries) (b .numbers)
+  pub lengths : part (lengthsAt s) (c .entries) (a .numbers) ≡ part (lengthsAt s) (c .entries) (b .numbers)
   pub hashes : part 0 (c .entries) (a .hashes) ≡ part 0 (c .entries) (b .hashes)
   pub filters : part (filtersAt s) (c .nodes * 4) (a .hashes) ≡ part (filtersAt s) (c .nodes * 4) (b .hashes)
+  pub text : part 0 (c .bytes) (a .text) ≡ part 0 (c .bytes) (b .text)
 
 -- a store with itself
 pub held-itself : (s : Shape) (c : Counts) (a : Store) → SameHeld s c a a
@@ -49,8 +51,11 @@ held-itself s c a =
       nodes = refl;
       links = refl;
       entry-order = refl;
+      starts = refl;
+      lengths = refl;
       hashes = refl;
       filters = refl;
+      text = refl;
     }
 
 module _ {A : Type 0} where
@@ -107,11 +112,27 @@ module _ (s : Shape) (c : Counts) (a b : Store) (same : SameHeld s c a b) where
       subst (λ (at : ℕ). getD (a .hashes) at 0 ≡ getD (b .hashes) at 0) (zero-add e)
       (same-at 0 (c .entries) (a .hashes) (b .hashes) (same .hashes) e 0 h)
 
+  start-same : (e : ℕ) → e < c .entries → entryStart s (a .numbers) e ≡ entryStart s (b .numbers) e
+  start-same e h = same-at (startsAt s) (c .entries) (a .numbers) (b .numbers) (same .starts) e 0 h
+
+  length-same : (e : ℕ) → e < c .entries → entryLength s (a .numbers) e ≡ entryLength s (b .numbers) e
+  length-same e h = same-at (lengthsAt s) (c .entries) (a .numbers) (b .numbers) (same .lengths) e 0 h
+
+  end-same : (e : ℕ) → e < c .entries → endIn s (a .numbers) e ≡ endIn s (b .numbers) e
+  end-same e h = ap₂ (λ (x y : ℕ). x + y) (start-same e h) (length-same e h)
+
+  -- the bytes of a label that are held
+  name-same : (e : ℕ) → e < c .entries → endIn s (a .numbers) e ≤ c .bytes → entryName s (a .numbers) (a .text) e ≡ entryName s (b .numbers) (b .text) e
+  name-same e h ends =
+      subst (λ (at : ℕ). part at (entryLength s (a .numbers) e) (a .text) ≡ part at (entryLength s (a .numbers) e) (b .text)) (zero-add (entryStart s (a .numbers) e))
+      (same-part 0 (c .bytes) (a .text) (b .text) (same .text) (entryStart s (a .numbers) e) (entryLength s (a .numbers) e) ends)
+      ∙ ap₂ (λ (x y : ℕ). part x y (b .text)) (start-same e h) (length-same e h)
+
   vector-held : (v : ℕ) → v < c .vectors → SameVector s c a b v
   vector-held v h = record { document = document-same v h; components = vector-same v h }
 
-  number-held : (wanted : Wanted) (x : ℕ) → SameNumber wanted c (entryRead s c a) (entryRead s c b) (SameVector s c a b) x
-  number-held wanted x = numbers-same c (entryRead s c a) (entryRead s c b) (SameVector s c a b) wanted owner-same hash-same vector-held x
+  number-held : (wanted : Sought) (x : ℕ) → SameNumber wanted c (readingOf s c a) (readingOf s c b) (SameVector s c a b) x
+  number-held wanted x = numbers-same c (readingOf s c a) (readingOf s c b) (SameVector s c a b) wanted owner-same hash-same end-same name-same vector-held x
 
   list-held : (i field base held : ℕ) (Same : ℕ → Type 0) → i < c .nodes → field + 1 < 6 → part base held (a .numbers) ≡ part base held (b .numbers)
       → ((x : ℕ) → Same x) → SameList s c a b i field base held Same
@@ -130,17 +151,17 @@ module _ (s : Shape) (c : Counts) (a b : Store) (same : SameHeld s c a b) where
   field-low vector-list = omega arith
   field-low entry-list = omega arith
 
-  leaf-held : (wanted : Wanted) (i : ℕ) → i < c .nodes → SameLeaf s c a b wanted i
+  leaf-held : (wanted : Sought) (i : ℕ) → i < c .nodes → SameLeaf s c a b wanted i
   leaf-held wanted i h =
       let l = listRead wanted in
-      list-held i (fieldOf l) (partOf s l) (heldIn l c) (SameNumber wanted c (entryRead s c a) (entryRead s c b) (SameVector s c a b)) h (field-low l) (list-same l)
+      list-held i (fieldOf l) (partOf s l) (heldIn l c) (SameNumber wanted c (readingOf s c a) (readingOf s c b) (SameVector s c a b)) h (field-low l) (list-same l)
       (number-held wanted)
 
   filter-held : (i : ℕ) → i < c .nodes → nodeFilter s (a .hashes) i ≡ nodeFilter s (b .hashes) i
   filter-held i h =
       same-part (filtersAt s) (c .nodes * 4) (a .hashes) (b .hashes) (same .filters) (i * 4) 4 (let t : i * 4 + 4 ≤ c .nodes * 4 = omega arith in t)
 
-  node-held : (wanted : Wanted) (i : ℕ) → i < c .nodes → SameNode s c a b wanted i
+  node-held : (wanted : Sought) (i : ℕ) → i < c .nodes → SameNode s c a b wanted i
   node-held wanted i h = record {
     filter = ap (denies wanted) (filter-held i h);
     shows = λ passes. record {
@@ -152,13 +173,13 @@ module _ (s : Shape) (c : Counts) (a b : Store) (same : SameHeld s c a b) where
   }
 
   -- They agree on what any search reads, so they give the same walk, damaged or not
-  pub held-read : (query : List Float) (wanted : Wanted) → 0 < c .nodes → c .nodes ≤ 2 ^ 64 → (ef : ℕ) → SameRead s c a b query wanted ef
+  pub held-read : (query : List Float) (wanted : Sought) → 0 < c .nodes → c .nodes ≤ 2 ^ 64 → (ef : ℕ) → SameRead s c a b query wanted ef
   held-read query wanted pos fits ef = record {
     root = centroid-same 0 pos;
     opened = λ i o. node-held wanted i
         (opens-below (storeView s c a query wanted) (c .nodes) fits pos (store-children-below s c a query wanted) ef i o);
   }
 
-  pub same-held : (query : List Float) (wanted : Wanted) → 0 < c .nodes → c .nodes ≤ 2 ^ 64 → (ef : ℕ)
+  pub same-held : (query : List Float) (wanted : Sought) → 0 < c .nodes → c .nodes ≤ 2 ^ 64 → (ef : ℕ)
       → walk (storeView s c a query wanted) ef ≡ walk (storeView s c b query wanted) ef
   same-held query wanted pos fits ef = same-read s c a b query wanted ef (held-read query wanted pos fits ef)

@@ -17,20 +17,23 @@ use Rattle.store.specs.declared.Shape.{Shape}
 use Rattle.store.specs.Store.{Store, vectorAt, linksAt, nodeField, childLinks, nodeFilter}
 use Rattle.distance.specs.Distance.{distance}
 use Rattle.total_order.specs.TotalOrder.{keyOf}
-use Rattle.walk.specs.declared.Wanted.{Wanted}
 use Rattle.store.specs.declared.Counts.{Counts}
 use Rattle.walk.specs.declared.Searched.{Searched}
 use Rattle.walk.specs.Walk.{Shown, State, children, hits, damage, damaged, going, shown, walk}
 use Rattle.walk.specs.WalkLaws.{shownChildren}
 use Rattle.walk.specs.SameWalkLaws.{AlikeAt, Opens, same-walk}
 use Rattle.walk.specs.Answer.{hitOf}
-use Rattle.walk.specs.Wanted.{listRead, heldIn, denies, passes, given}
-use Rattle.walk.specs.WantedLaws.{SameNumber, passes-same, given-same, given-read}
-use Rattle.walk.specs.StoreView.{blockHeld, fieldOf, partOf, hitAt, childrenShown, entryRead, listShown, leafShown, nodeShown, storeView}
+use Rattle.walk.specs.Wanted.{Sought, listRead, heldIn, denies, passes, given}
+use Rattle.walk.specs.WantedLaws.{Reading, SameNumber, passes-same, given-same, given-read}
+use Rattle.walk.specs.StoreView.{blockHeld, fieldOf, partOf, hitAt, childrenShown, endIn, entryRead, listShown, leafShown, nodeShown, storeView}
 use Rattle.walk.specs.StoreViewLaws.{store-shown, store-child}
 use Rattle.walk.specs.Contracts.{SearchEnds, SearchGives}
 
 -- ---- what is read, in the order in which a search comes to it
+
+-- how a store's entries are read
+abbrev pub readingOf : Shape → Counts → Store → Reading
+readingOf s c store = record { entries = entryRead s c store; end = endIn s (store .numbers) }
 
 module _ (s : Shape) (c : Counts) (a b : Store) where
   -- of a node that is pushed: its centroid
@@ -54,24 +57,24 @@ module _ (s : Shape) (c : Counts) (a b : Store) where
     pub components : vectorAt (s .dimension) (a .floats) v ≡ vectorAt (s .dimension) (b .floats) v
 
   -- of a leaf: the list that is read, and of each of its numbers what `SameNumber` says (WantedLaws.antt)
-  abbrev pub SameLeaf : Wanted → ℕ → Type 0
+  abbrev pub SameLeaf : Sought → ℕ → Type 0
   SameLeaf wanted i =
       SameList i (fieldOf (listRead wanted)) (partOf s (listRead wanted)) (heldIn (listRead wanted) c)
-      (SameNumber wanted c (entryRead s c a) (entryRead s c b) SameVector)
+      (SameNumber wanted c (readingOf s c a) (readingOf s c b) SameVector)
 
   -- of a node that is opened and not denied: the count of children; where there are some, they and their centroids; where there are none, the leaf's list
-  pub record SameShown (wanted : Wanted) (i : ℕ) : Type 0 where
+  pub record SameShown (wanted : Sought) (i : ℕ) : Type 0 where
     pub count : nodeField s (a .numbers) i 1 ≡ nodeField s (b .numbers) i 1
     pub inner : (nodeField s (a .numbers) i 1 ≡ 0 → ⊥) → SameList i 0 (linksAt s) (c .nodes) (λ child. i < child → child < c .nodes → SameCentroid child)
     pub leaf : nodeField s (a .numbers) i 1 ≡ 0 → SameLeaf wanted i
 
   -- of a node that is opened: whether its filter denies; an unfiltered search does not read it
-  pub record SameNode (wanted : Wanted) (i : ℕ) : Type 0 where
+  pub record SameNode (wanted : Sought) (i : ℕ) : Type 0 where
     pub filter : denies wanted (nodeFilter s (a .hashes) i) ≡ denies wanted (nodeFilter s (b .hashes) i)
     pub shows : denies wanted (nodeFilter s (a .hashes) i) ≡ false → SameShown wanted i
 
   -- Two stores agree on what a search reads: the root's centroid, and what is read of each node that the search opens
-  pub record SameRead (query : List Float) (wanted : Wanted) (ef : ℕ) : Type 0 where
+  pub record SameRead (query : List Float) (wanted : Sought) (ef : ℕ) : Type 0 where
     pub root : SameCentroid 0
     pub opened : (i : ℕ) → Opens (storeView s c a query wanted) ef i → SameNode wanted i
 
@@ -114,32 +117,34 @@ module _ (s : Shape) (c : Counts) (a b : Store) where
   hit-same : (query : List Float) (v : ℕ) → SameVector s c a b v → hitAt s (a .floats) (a .numbers) query v ≡ hitAt s (b .floats) (b .numbers) query v
   hit-same query v same = ap₂ (λ (x : List Float) (d : ℕ). hitOf (distance query x) d v) (same .components) (same .document)
 
-  shown-list : (query : List Float) (wanted : Wanted) (l : List ℕ)
-      → ((x : ℕ) → List·Memᴰ x l → SameNumber wanted c (entryRead s c a) (entryRead s c b) (SameVector s c a b) x)
+  shown-list : (query : List Float) (wanted : Sought) (l : List ℕ)
+      → ((x : ℕ) → List·Memᴰ x l → SameNumber wanted c (readingOf s c a) (readingOf s c b) (SameVector s c a b) x)
       → listShown s c a query wanted l ≡ listShown s c b query wanted l
   unfolding listShown
   shown-list query wanted l same =
       let ra = entryRead s c a in
       let rb = entryRead s c b in
-      same-cond (allPass (passes wanted c ra) l) (allPass (passes wanted c rb) l)
+      let reads = readingOf s c a in
+      let reads′ = readingOf s c b in
+      same-cond (allPass (passes wanted c ra (endIn s (a .numbers))) l) (allPass (passes wanted c rb (endIn s (b .numbers))) l)
       (hits (map (hitAt s (a .floats) (a .numbers) query) (given wanted ra l))) (hits (map (hitAt s (b .floats) (b .numbers) query) (given wanted rb l)))
-      (passes-same c ra rb (SameVector s c a b) wanted l same)
+      (passes-same c reads reads′ (SameVector s c a b) wanted l same)
       (λ e. ap hits
-      (map-on (hitAt s (a .floats) (a .numbers) query) (hitAt s (b .floats) (b .numbers) query) (given wanted ra l) (λ v m. hit-same query v (given-read c ra rb (SameVector s c a b) wanted l same e v m))
-      ∙ ap (map (hitAt s (b .floats) (b .numbers) query)) (given-same c ra rb (SameVector s c a b) wanted l same e)))
+      (map-on (hitAt s (a .floats) (a .numbers) query) (hitAt s (b .floats) (b .numbers) query) (given wanted ra l) (λ v m. hit-same query v (given-read c reads reads′ (SameVector s c a b) wanted l same e v m))
+      ∙ ap (map (hitAt s (b .floats) (b .numbers) query)) (given-same c reads reads′ (SameVector s c a b) wanted l same e)))
 
   children-same : (parent : ℕ) (l : List ℕ) → childrenShown s c a parent l ≡ childrenShown s c b parent l
   unfolding childrenShown
   children-same parent l = refl
 
-  leaf-same : (query : List Float) (wanted : Wanted) (i : ℕ) → SameLeaf s c a b wanted i → leafShown s c a query wanted i ≡ leafShown s c b query wanted i
+  leaf-same : (query : List Float) (wanted : Sought) (i : ℕ) → SameLeaf s c a b wanted i → leafShown s c a query wanted i ≡ leafShown s c b query wanted i
   unfolding leafShown
   leaf-same query wanted i same =
       list-same i (fieldOf (listRead wanted)) (partOf s (listRead wanted)) (heldIn (listRead wanted) c)
-      (SameNumber wanted c (entryRead s c a) (entryRead s c b) (SameVector s c a b)) same (listShown s c a query wanted) (listShown s c b query wanted)
+      (SameNumber wanted c (readingOf s c a) (readingOf s c b) (SameVector s c a b)) same (listShown s c a query wanted) (listShown s c b query wanted)
       (shown-list query wanted)
 
-  node-same : (query : List Float) (wanted : Wanted) (i : ℕ) → SameShown s c a b wanted i → nodeShown s c a query wanted i ≡ nodeShown s c b query wanted i
+  node-same : (query : List Float) (wanted : Sought) (i : ℕ) → SameShown s c a b wanted i → nodeShown s c a query wanted i ≡ nodeShown s c b query wanted i
   unfolding nodeShown
   node-same query wanted i same = go (which (eqb (nodeField s (a .numbers) i 1) 0))
     where
@@ -162,7 +167,7 @@ module _ (s : Shape) (c : Counts) (a b : Store) where
           (same .inner (eqb-false (nodeField s (a .numbers) i 1) 0 e)) (childrenShown s c a i) (childrenShown s c b i) (λ l h. children-same i l)
           ∙ ap (λ (t : Bool). shownOf t b) (sym e ∙ ap (λ (n : ℕ). eqb n 0) (same .count))
 
-  shown-same : (query : List Float) (wanted : Wanted) (i : ℕ) → SameNode s c a b wanted i
+  shown-same : (query : List Float) (wanted : Sought) (i : ℕ) → SameNode s c a b wanted i
       → shown (storeView s c a query wanted) i ≡ shown (storeView s c b query wanted) i
   shown-same query wanted i same =
       store-shown s c a query wanted i ∙ go (which (denies wanted (nodeFilter s (a .hashes) i)))
@@ -173,15 +178,15 @@ module _ (s : Shape) (c : Counts) (a b : Store) where
       go (inl e) = rw e
       go (inr e) = ap (cond (denies wanted (nodeFilter s (a .hashes) i)) (hits [])) (node-same query wanted i (same .shows e))
 
-  key-same : (query : List Float) (wanted : Wanted) (i : ℕ) → SameCentroid s c a b i → storeView s c a query wanted .key i ≡ storeView s c b query wanted .key i
+  key-same : (query : List Float) (wanted : Sought) (i : ℕ) → SameCentroid s c a b i → storeView s c a query wanted .key i ≡ storeView s c b query wanted .key i
   unfolding storeView
   key-same query wanted i same = ap (λ (v : List Float). keyOf (distance query v)) same
 
-  most-same : (query : List Float) (wanted : Wanted) → storeView s c a query wanted .most ≡ storeView s c b query wanted .most
+  most-same : (query : List Float) (wanted : Sought) → storeView s c a query wanted .most ≡ storeView s c b query wanted .most
   unfolding storeView
   most-same query wanted = refl
 
-  node-alike : (query : List Float) (wanted : Wanted) (i : ℕ) → SameNode s c a b wanted i → AlikeAt (storeView s c a query wanted) (storeView s c b query wanted) i
+  node-alike : (query : List Float) (wanted : Sought) (i : ℕ) → SameNode s c a b wanted i → AlikeAt (storeView s c a query wanted) (storeView s c b query wanted) i
   node-alike query wanted i same = record {
     shows = shown-same query wanted i same;
     keys = λ x m. keys (shown (storeView s c a query wanted) i) refl x m;
@@ -197,7 +202,7 @@ module _ (s : Shape) (c : Counts) (a b : Store) where
           key-same query wanted x (same .shows (shows .0) .inner (child .inner) .each (child .held) x (child .listed) (child .above) (child .below))
 
   -- Two stores that agree on what a search reads give the same walk
-  pub same-read : (query : List Float) (wanted : Wanted) (ef : ℕ) → SameRead s c a b query wanted ef
+  pub same-read : (query : List Float) (wanted : Sought) (ef : ℕ) → SameRead s c a b query wanted ef
       → walk (storeView s c a query wanted) ef ≡ walk (storeView s c b query wanted) ef
   same-read query wanted ef same =
       same-walk (storeView s c a query wanted) (storeView s c b query wanted) (most-same query wanted) (key-same query wanted 0 (same .root)) ef
@@ -212,7 +217,7 @@ ends-same (going p) k r r′ ids ids′ ids″ distances distances′ distances�
     (x .is ∙ sym (y .is), x .ids-are ∙ sym (y .ids-are), x .distances-are ∙ sym (y .distances-are))
 
 -- and the same search, whatever stands in work: the same answer or damage, and the same answer lists
-pub same-search : (s : Shape) (c : Counts) (store store′ : Store) (query : List Float) (wanted : Wanted)
+pub same-search : (s : Shape) (c : Counts) (store store′ : Store) (query : List Float) (wanted : Sought)
     (ef k : ℕ) (work work₁ work′ work₂ ids ids₁ ids₂ : List ℕ) (distances distances₁ distances₂ : List Float) (r₁ r₂ : Searched)
     → SameRead s c store store′ query wanted ef → SearchGives s c ef store query wanted k work ids distances r₁ work₁ ids₁ distances₁
     → SearchGives s c ef store′ query wanted k work′ ids distances r₂ work₂ ids₂ distances₂ → (r₁ ≡ r₂) × (ids₁ ≡ ids₂) × (distances₁ ≡ distances₂)

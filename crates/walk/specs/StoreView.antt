@@ -8,14 +8,13 @@ use lib.ListN.{getD}
 use Rattle.lists.specs.Lists.{part}
 use Rattle.lists.specs.Tests.{allPass}
 use Rattle.store.specs.declared.Shape.{Shape}
-use Rattle.store.specs.Store.{Store, vectorAt, ownersAt, orderAt, entryOrderAt, nodeField, childLinks, nodeFilter}
+use Rattle.store.specs.Store.{Store, vectorAt, ownersAt, orderAt, entryOrderAt, nodeField, childLinks, nodeFilter, entryStart, entryLength, entryName}
 use Rattle.distance.specs.Distance.{distance}
 use Rattle.total_order.specs.TotalOrder.{keyOf}
-use Rattle.walk.specs.declared.Wanted.{Wanted}
 use Rattle.store.specs.declared.Counts.{Counts}
 use Rattle.walk.specs.Walk.{View, Shown, children, hits, damage}
 use Rattle.walk.specs.Answer.{hitOf}
-use Rattle.walk.specs.Wanted.{EntryRead, LeafList, vector-list, entry-list, denies, listRead, passes, given, heldIn, most}
+use Rattle.walk.specs.Wanted.{Sought, EntryRead, LeafList, vector-list, entry-list, denies, listRead, passes, given, heldIn, most}
 
 -- 'a place outside the list's part', read with 'Parts past the counts held are never read': a block that is not empty ends within what is held
 unfoldable pub blockHeld : ℕ → ℕ → ℕ → Bool
@@ -36,8 +35,13 @@ partOf s vector-list = orderAt s
 partOf s entry-list = entryOrderAt s
 
 -- what the lists have of an entry
-abbrev pub entriesIn : Shape → List ℕ → List ℕ → EntryRead
-entriesIn s numbers hashes = record { hash = λ entry. getD hashes entry 0; owner = λ entry. getD numbers (ownersAt s + entry) 0 }
+abbrev pub entriesIn : Shape → List ℕ → List ℕ → List ℕ → EntryRead
+entriesIn s numbers hashes text =
+    record { hash = λ entry. getD hashes entry 0; owner = λ entry. getD numbers (ownersAt s + entry) 0; name = entryName s numbers text }
+
+-- where an entry's bytes end: its 'start plus length'
+abbrev pub endIn : Shape → List ℕ → ℕ → ℕ
+endIn s numbers entry = entryStart s numbers entry + entryLength s numbers entry
 
 module _ (s : Shape) (c : Counts) (store : Store) where
   -- the distance from a query to the centroid with a number
@@ -54,15 +58,15 @@ module _ (s : Shape) (c : Counts) (store : Store) where
 
   -- what a store has of an entry
   abbrev pub entryRead : EntryRead
-  entryRead = entriesIn s (store .numbers) (store .hashes)
+  entryRead = entriesIn s (store .numbers) (store .hashes) (store .text)
 
   -- a leaf's list where every number passes gives hits; otherwise it is damaged
-  unfoldable pub listShown : List Float → Wanted → List ℕ → Shown
+  unfoldable pub listShown : List Float → Sought → List ℕ → Shown
   unfolding allPass passes given distance keyOf
   listShown query wanted numbers =
-      cond (allPass (passes wanted c entryRead) numbers) (hits (map (hitAt s (store .floats) (store .numbers) query) (given wanted entryRead numbers))) damage
+      cond (allPass (passes wanted c entryRead (endIn s (store .numbers))) numbers) (hits (map (hitAt s (store .floats) (store .numbers) query) (given wanted entryRead numbers))) damage
 
-  unfoldable pub leafShown : List Float → Wanted → ℕ → Shown
+  unfoldable pub leafShown : List Float → Sought → ℕ → Shown
   unfolding listShown blockHeld
   leafShown query wanted i =
       let list = listRead wanted in
@@ -71,7 +75,7 @@ module _ (s : Shape) (c : Counts) (store : Store) where
       cond (blockHeld start count (heldIn list c)) (listShown query wanted (part (partOf s list + start) count (store .numbers))) damage
 
   -- 'children; where there are none, entries, unfiltered vectors'
-  unfoldable pub nodeShown : List Float → Wanted → ℕ → Shown
+  unfoldable pub nodeShown : List Float → Sought → ℕ → Shown
   unfolding leafShown childrenShown blockHeld
   nodeShown query wanted i =
       cond (eqb (nodeField s (store .numbers) i 1) 0) (leafShown query wanted i)
@@ -79,7 +83,7 @@ module _ (s : Shape) (c : Counts) (store : Store) where
       (childrenShown i (childLinks s (store .numbers) i)) damage)
 
   -- the view of a lent store from a normalised query
-  unfoldable pub storeView : List Float → Wanted → View
+  unfoldable pub storeView : List Float → Sought → View
   unfolding nodeShown denies distance keyOf
   storeView query wanted =
       record {

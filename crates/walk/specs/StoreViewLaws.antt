@@ -13,12 +13,11 @@ use Rattle.store.specs.declared.Shape.{Shape}
 use Rattle.store.specs.Store.{Store, nodeField, childLinks, nodeFilter}
 use Rattle.lists.specs.Tests.{either, allPass}
 use Rattle.lists.specs.Tests.{and-left, and-right, allPass-Memᴰ, cond-cases}
-use Rattle.walk.specs.declared.Wanted.{Wanted}
 use Rattle.store.specs.declared.Counts.{Counts}
 use Rattle.walk.specs.Walk.{Shown, children, hits, damage, shown}
 use Rattle.walk.specs.DifferentLaws.{ChildrenBelow}
-use Rattle.walk.specs.Wanted.{listRead, heldIn, denies, passes, given}
-use Rattle.walk.specs.StoreView.{blockHeld, fieldOf, partOf, hitAt, childrenShown, entryRead, listShown, leafShown, nodeShown, storeView}
+use Rattle.walk.specs.Wanted.{Sought, listRead, heldIn, denies, passes, given}
+use Rattle.walk.specs.StoreView.{blockHeld, fieldOf, partOf, hitAt, childrenShown, endIn, entryRead, listShown, leafShown, nodeShown, storeView}
 
 -- ---- blocks
 
@@ -52,13 +51,13 @@ childless-cond true x y f g = f
 childless-cond false x y f g = g
 
 module _ (s : Shape) (c : Counts) (store : Store) where
-  childless-list : (query : List Float) (wanted : Wanted) (l : List ℕ) → Childless (listShown s c store query wanted l)
+  childless-list : (query : List Float) (wanted : Sought) (l : List ℕ) → Childless (listShown s c store query wanted l)
   unfolding listShown
   childless-list query wanted l =
       let found : List ℕ = map (hitAt s (store .floats) (store .numbers) query) (given wanted (entryRead s c store) l) in
-      childless-cond (allPass (passes wanted c (entryRead s c store)) l) (hits found) damage (childless-hits found) childless-damage
+      childless-cond (allPass (passes wanted c (entryRead s c store) (endIn s (store .numbers))) l) (hits found) damage (childless-hits found) childless-damage
 
-  childless-leaf : (query : List Float) (wanted : Wanted) (i : ℕ) → Childless (leafShown s c store query wanted i)
+  childless-leaf : (query : List Float) (wanted : Sought) (i : ℕ) → Childless (leafShown s c store query wanted i)
   unfolding leafShown
   childless-leaf query wanted i =
       let list = listRead wanted in
@@ -88,7 +87,7 @@ module _ (s : Shape) (c : Counts) (store : Store) where
     pub above : i < x
     pub below : x < c .nodes
 
-  nodeShown-child : (query : List Float) (wanted : Wanted) (i : ℕ) (numbers : List ℕ) → nodeShown s c store query wanted i ≡ children numbers
+  nodeShown-child : (query : List Float) (wanted : Sought) (i : ℕ) (numbers : List ℕ) → nodeShown s c store query wanted i ≡ children numbers
       → (x : ℕ) → List·Memᴰ x numbers → ShownChild i x
   unfolding nodeShown
   nodeShown-child query wanted i numbers e x m =
@@ -101,13 +100,13 @@ module _ (s : Shape) (c : Counts) (store : Store) where
       record { inner = eqb-false (nodeField s (store .numbers) i 1) 0 (p .0); held = q .0; listed = child .0; above = child .1; below = child .2 })
       (λ q. absurd (childless-damage numbers (sym (q .1) ∙ sym (p .1) ∙ e))))
 
-  pub store-shown : (query : List Float) (wanted : Wanted) (i : ℕ)
+  pub store-shown : (query : List Float) (wanted : Sought) (i : ℕ)
       → shown (storeView s c store query wanted) i ≡ cond (denies wanted (nodeFilter s (store .hashes) i)) (hits []) (nodeShown s c store query wanted i)
   unfolding shown storeView
   store-shown query wanted i = refl
 
   -- The children that a store shows, by a node that its filter does not deny
-  pub store-child : (query : List Float) (wanted : Wanted) (i : ℕ) (numbers : List ℕ) (x : ℕ) → shown (storeView s c store query wanted) i ≡ children numbers
+  pub store-child : (query : List Float) (wanted : Sought) (i : ℕ) (numbers : List ℕ) (x : ℕ) → shown (storeView s c store query wanted) i ≡ children numbers
       → List·Memᴰ x numbers → (denies wanted (nodeFilter s (store .hashes) i) ≡ false) × ShownChild i x
   store-child query wanted i numbers x e m =
       either (cond-cases (denies wanted (nodeFilter s (store .hashes) i)) (hits []) (nodeShown s c store query wanted i))
@@ -115,9 +114,9 @@ module _ (s : Shape) (c : Counts) (store : Store) where
       (λ p. (p .0, nodeShown-child query wanted i numbers (sym (p .1) ∙ sym (store-shown query wanted i) ∙ e) x m))
 
   -- They are above their parent and below the node count
-  pub store-children : (query : List Float) (wanted : Wanted) (i : ℕ) (numbers : List ℕ) (x : ℕ) → shown (storeView s c store query wanted) i ≡ children numbers
+  pub store-children : (query : List Float) (wanted : Sought) (i : ℕ) (numbers : List ℕ) (x : ℕ) → shown (storeView s c store query wanted) i ≡ children numbers
       → List·Memᴰ x numbers → (i < x) × (x < c .nodes)
   store-children query wanted i numbers x e m = let child = store-child query wanted i numbers x e m .1 in (child .above, child .below)
 
-  pub store-children-below : (query : List Float) (wanted : Wanted) → ChildrenBelow (storeView s c store query wanted) (c .nodes)
+  pub store-children-below : (query : List Float) (wanted : Sought) → ChildrenBelow (storeView s c store query wanted) (c .nodes)
   store-children-below query wanted i numbers x e m = store-children query wanted i numbers x e m .1

@@ -8,18 +8,18 @@ use Rattle.store.specs.declared.Shape.{Shape}
 use Rattle.store.specs.Store.{Store}
 use Rattle.total_order.specs.TotalOrder.{keyOf}
 use Rattle.bloom.specs.Filter.{emptyFilter, insertAll}
-use Rattle.walk.specs.declared.Wanted.the-variants.{Label}
+use Rattle.walk.specs.Wanted.{with-label}
 use Rattle.store.specs.declared.Counts.{Counts}
 use Rattle.walk.specs.Walk.{State, damaged, going, walk}
 use Rattle.walk.specs.Answer.{hitOf, documentOf, dropRepeats, answer}
 use Rattle.walk.specs.StoreView.{storeView}
 
--- D 2 and B 2 of the trial; V 4, E 4 and M 8 leave room behind what is held
+-- D 2 and B 2 of the trial; V 4, E 4, M 8 and 6 bytes leave room behind what is held
 unfoldable pub trialShape : Shape
-trialShape = record { dimension = 2; branching = 2; vectors = 4; entries = 4; nodes = 8 }
+trialShape = record { dimension = 2; branching = 2; vectors = 4; entries = 4; nodes = 8; text = 6 }
 
-unfoldable pub trialCounts : Counts
-trialCounts = record { vectors = 3; entries = 3; nodes = 5 }
+unfoldable pub trialCounts : ℕ → Counts
+trialCounts bytes = record { vectors = 3; entries = 3; nodes = 5; bytes = bytes }
 
 -- the hashes of the labels `a` and `b`
 unfoldable pub hashA : ℕ
@@ -38,13 +38,14 @@ trialFloats =
     ∷ 0x3F088889 ∷ 0x3F199999 ∷ 0x3F800000 ∷ 0 ∷ 0x3E99999A ∷ 0x3F666666 ∷ 0 ∷ 0x3F800000 ∷ 0x3F19999A ∷ 0x3F4CCCCD ∷ 0 ∷ 0 ∷ 0 ∷ 0 ∷ 0 ∷ 0
     ∷ 0 ∷ 0 ∷ 0 ∷ 0 ∷ [])
 
--- document ids, entry owners, leaf order of vectors, the six of each node, child links, leaf order of entries
+-- document ids, entry owners, leaf order of vectors, the six of each node, child links, leaf order of entries, starts and
+-- lengths of labels
 unfoldable pub trialNumbers : List ℕ
 trialNumbers =
     (7 ∷ 8 ∷ 9 ∷ 0 ∷ []) ++ (0 ∷ 1 ∷ 2 ∷ 0 ∷ []) ++ (0 ∷ 1 ∷ 2 ∷ 0 ∷ [])
     ++ (0 ∷ 2 ∷ 0 ∷ 0 ∷ 0 ∷ 0 ∷ []) ++ (0 ∷ 0 ∷ 0 ∷ 1 ∷ 0 ∷ 1 ∷ []) ++ (2 ∷ 2 ∷ 0 ∷ 0 ∷ 0 ∷ 0 ∷ []) ++ (0 ∷ 0 ∷ 1 ∷ 1 ∷ 1 ∷ 1 ∷ [])
     ++ (0 ∷ 0 ∷ 2 ∷ 1 ∷ 2 ∷ 1 ∷ []) ++ (0 ∷ 0 ∷ 0 ∷ 0 ∷ 0 ∷ 0 ∷ []) ++ (0 ∷ 0 ∷ 0 ∷ 0 ∷ 0 ∷ 0 ∷ []) ++ (0 ∷ 0 ∷ 0 ∷ 0 ∷ 0 ∷ 0 ∷ [])
-    ++ (1 ∷ 2 ∷ 3 ∷ 4 ∷ 0 ∷ 0 ∷ 0 ∷ 0 ∷ []) ++ (0 ∷ 1 ∷ 2 ∷ 0 ∷ [])
+    ++ (1 ∷ 2 ∷ 3 ∷ 4 ∷ 0 ∷ 0 ∷ 0 ∷ 0 ∷ []) ++ (0 ∷ 1 ∷ 2 ∷ 0 ∷ []) ++ (0 ∷ 1 ∷ 2 ∷ 0 ∷ []) ++ (1 ∷ 1 ∷ 1 ∷ 0 ∷ [])
 
 -- entry hashes; filters, each of the hashes at and below its node
 unfoldable pub trialHashes : List ℕ
@@ -54,9 +55,13 @@ trialHashes =
     ++ insertAll emptyFilter (hashA ∷ hashB ∷ hashA ∷ []) ++ insertAll emptyFilter (hashA ∷ []) ++ insertAll emptyFilter (hashB ∷ hashA ∷ [])
     ++ insertAll emptyFilter (hashB ∷ []) ++ insertAll emptyFilter (hashA ∷ []) ++ emptyFilter ++ emptyFilter ++ emptyFilter
 
+-- the labels' bytes: `a`, `b`, `a`
+unfoldable pub trialText : List ℕ
+trialText = 97 ∷ 98 ∷ 97 ∷ 0 ∷ 0 ∷ 0 ∷ []
+
 unfoldable pub trialStore : Store
-unfolding trialFloats trialNumbers trialHashes
-trialStore = record { floats = trialFloats; numbers = trialNumbers; hashes = trialHashes }
+unfolding trialFloats trialNumbers trialHashes trialText
+trialStore = record { floats = trialFloats; numbers = trialNumbers; hashes = trialHashes; text = trialText }
 
 -- what is printed of an answer: ids, distance bits, whole or cut, opened
 pub record Printed : Type 0 where
@@ -76,10 +81,15 @@ outcome (going p) =
     let a = answer 4 p in
     printed (record { ids = a .ids; bits = map (toBits binary32) (a .distances); whole = a .complete; opened = a .opened })
 
+-- with so many bytes held, for a label of a hash and bytes
+unfoldable pub labelWalk : ℕ → ℕ → List ℕ → ℕ → Outcome
+unfolding outcome walk storeView trialShape trialCounts trialStore
+labelWalk bytes hash name ef =
+    outcome (walk (storeView trialShape (trialCounts bytes) trialStore (ofBits binary32 0x3F800000 ∷ ofBits binary32 0 ∷ []) (with-label hash name)) ef)
+
 unfoldable pub trialWalk : ℕ → Outcome
-unfolding outcome walk storeView trialShape trialCounts trialStore hashA
-trialWalk ef =
-    outcome (walk (storeView trialShape trialCounts trialStore (ofBits binary32 0x3F800000 ∷ ofBits binary32 0 ∷ []) (Label hashA)) ef)
+unfolding labelWalk hashA
+trialWalk ef = labelWalk 3 hashA (97 ∷ []) ef
 
 -- '7 00000000 / 9 3ecccccc / whole 5'; 'ef 0: cut 0 alone. ef 2: 7, cut 2. ef 4: 7 and 9, cut 4.'
 pub trials : (trialWalk 5 ≡ printed (record { ids = 7 ∷ 9 ∷ []; bits = 0 ∷ 0x3ECCCCCC ∷ []; whole = true; opened = 5 }))
@@ -88,6 +98,23 @@ pub trials : (trialWalk 5 ≡ printed (record { ids = 7 ∷ 9 ∷ []; bits = 0 �
     × (trialWalk 4 ≡ printed (record { ids = 7 ∷ 9 ∷ []; bits = 0 ∷ 0x3ECCCCCC ∷ []; whole = false; opened = 4 }))
 unfolding trialWalk
 trials = (refl, refl, refl, refl)
+
+-- 02, K4: 'an entry is a label's if its hash and bytes are': with other bytes, longer or shorter ones nothing is found, and the same nodes are opened
+abbrev nothingFound : Outcome
+nothingFound = printed (record { ids = []; bits = []; whole = true; opened = 5 })
+
+pub by-bytes : (labelWalk 3 hashA (98 ∷ []) 5 ≡ nothingFound) × (labelWalk 3 hashA (97 ∷ 98 ∷ []) 5 ≡ nothingFound) × (labelWalk 3 hashA [] 5 ≡ nothingFound)
+unfolding labelWalk hashA
+by-bytes = (refl, refl, refl)
+
+-- 'one of a hash searched for whose start plus length passes the bytes held is 15': with 2 bytes held that of document 9's `a`, once its leaf is opened;
+-- a search for `b` does not read it
+pub past-the-bytes : (labelWalk 2 hashA (97 ∷ []) 5 ≡ broken)
+    × (labelWalk 2 hashA (97 ∷ []) 2 ≡ printed (record { ids = 7 ∷ []; bits = 0 ∷ []; whole = false; opened = 2 }))
+    × (labelWalk 2 hashA (98 ∷ []) 5 ≡ broken)
+    × (labelWalk 2 hashB (98 ∷ []) 5 ≡ printed (record { ids = 8 ∷ []; bits = 0x3F800000 ∷ []; whole = true; opened = 5 }))
+unfolding labelWalk hashA hashB
+past-the-bytes = (refl, refl, refl, refl)
 
 -- 'adjacent equal document ids lose the later': of the ids 7, 8, 7 at rising distances all three stay, of 7, 7, 8 the second goes
 unfoldable pub idsLeft : ℕ → ℕ → ℕ → List ℕ

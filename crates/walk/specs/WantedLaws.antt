@@ -1,104 +1,209 @@
 -- What each case of what is wanted owes: what a leaf's list gives depends on what is read of its numbers alone, and what it gives is held.
 -- Assumes nothing.
-use Prim.Native.Nat.{ℕ, _<_}
-use mathlib.Core.Path.{_≡_, refl, sym, ap, _∙_, subst}
+use Prim.Native.Nat.{ℕ, _≤_, _<_}
+use mathlib.Core.Path.{_≡_, refl, sym, ap, ap₂, _∙_, subst}
 use mathlib.Core.Logic.{_⊎_, inl, inr}
-use mathlib.Core.Bool.{Bool, true, false, _&&_}
+use mathlib.Core.Bool.{Bool, true, false, not, _&&_, _||_}
 use mathlib.Core.List.{List, [], map, List·Memᴰ}
-use lib.Dec.{ltb, eqb}
-use borrow.Author.Tests.{ltb-true, eqb-true}
+use lib.Dec.{leb, ltb, eqb}
+use borrow.Author.Tests.{leb-true, ltb-true, eqb-true, eq-eqb, le-leb, lt-ltb}
 use Rattle.lists.specs.Maps.{map-on, Memᴰ-map}
-use Rattle.lists.specs.Lists.{keep}
+use Rattle.lists.specs.Lists.{keep, sameList}
+use Rattle.lists.specs.Same.{same-equal}
 use Rattle.lists.specs.Tests.{which, and-left, and-right, allPass, allPass-Memᴰ, allPass-congr}
 use Rattle.lists.specs.Counting.{keep-nil, keep-congr, Memᴰ-keep}
 use Rattle.store.specs.declared.Counts.{Counts}
-use Rattle.walk.specs.declared.Wanted.{Wanted}
-use Rattle.walk.specs.declared.Wanted.the-variants.{Everything, Label}
-use Rattle.walk.specs.Wanted.{EntryRead, passes, given}
+use Rattle.walk.specs.Wanted.{Sought, all-vectors, with-label, EntryRead, passes, isLabels, given}
 
 -- an empty list gives nothing
-pub given-nil : (wanted : Wanted) (read : EntryRead) → given wanted read [] ≡ []
+pub given-nil : (wanted : Sought) (read : EntryRead) → given wanted read [] ≡ []
 unfolding given
-given-nil Everything read = refl
-given-nil (Label hash) read = ap (map (read .owner)) (keep-nil (λ entry. eqb (read .hash entry) hash))
+given-nil all-vectors read = refl
+given-nil (with-label hash name) read = ap (map (read .owner)) (keep-nil (isLabels read hash name))
+
+-- ---- a vector, an entry that passes
+
+-- a vector's number is held
+vector-held : (c : Counts) (read : EntryRead) (end : ℕ → ℕ) (x : ℕ) → passes all-vectors c read end x ≡ true → x < c .vectors
+unfolding passes
+vector-held c read end x t = ltb-true x (c .vectors) t
+
+vectors-alike : (c : Counts) (a b : EntryRead) (end end′ : ℕ → ℕ) (l : List ℕ)
+    → allPass (passes all-vectors c a end) l ≡ allPass (passes all-vectors c b end′) l
+unfolding passes
+vectors-alike c a b end end′ l = refl
+
+-- its number and its owner are held, and if it has the hash, so are its bytes
+pub record EntryHeld (c : Counts) (read : EntryRead) (end : ℕ → ℕ) (hash x : ℕ) : Type 0 where
+  pub entry : x < c .entries
+  pub owner : read .owner x < c .vectors
+  pub bytes : read .hash x ≡ hash → end x ≤ c .bytes
+
+-- where a hash has to be another one or a test to hold
+unless-equal : (h hash : ℕ) (b : Bool) → (not (eqb h hash) || b) ≡ true → h ≡ hash → b ≡ true
+unless-equal h hash b t e = subst (λ (z : Bool). (not z || b) ≡ true) (eq-eqb h hash e) t
+
+pub passes-held : (hash : ℕ) (name : List ℕ) (c : Counts) (read : EntryRead) (end : ℕ → ℕ) (x : ℕ) → passes (with-label hash name) c read end x ≡ true
+    → EntryHeld c read end hash x
+unfolding passes
+passes-held hash name c read end x t =
+    let ends = not (eqb (read .hash x) hash) || leb (end x) (c .bytes) in
+    let rest = and-right (ltb x (c .entries)) (ltb (read .owner x) (c .vectors) && ends) t in
+    record {
+      entry = ltb-true x (c .entries) (and-left (ltb x (c .entries)) (ltb (read .owner x) (c .vectors) && ends) t);
+      owner = ltb-true (read .owner x) (c .vectors) (and-left (ltb (read .owner x) (c .vectors)) ends rest);
+      bytes = λ e. leb-true (end x) (c .bytes)
+          (unless-equal (read .hash x) hash (leb (end x) (c .bytes)) (and-right (ltb (read .owner x) (c .vectors)) ends rest) e);
+    }
+
+-- and the other way round
+pub held-passes-entry : (hash : ℕ) (name : List ℕ) (c : Counts) (read : EntryRead) (end : ℕ → ℕ) (x : ℕ) → EntryHeld c read end hash x
+    → passes (with-label hash name) c read end x ≡ true
+unfolding passes
+held-passes-entry hash name c read end x h =
+    ap₂ _&&_ (lt-ltb x (c .entries) (h .entry)) (ap₂ _&&_ (lt-ltb (read .owner x) (c .vectors) (h .owner)) (go (which (eqb (read .hash x) hash))))
+  where
+    go : (eqb (read .hash x) hash ≡ true) ⊎ (eqb (read .hash x) hash ≡ false) → (not (eqb (read .hash x) hash) || leb (end x) (c .bytes)) ≡ true
+    go (inl e) =
+        ap₂ (λ (a b : Bool). not a || b) e (le-leb (end x) (c .bytes) (h .bytes (eqb-true (read .hash x) hash e)))
+    go (inr e) = ap (λ (a : Bool). not a || leb (end x) (c .bytes)) e
+
+-- an entry that is a label's has its hash and its bytes
+pub labels-hash : (read : EntryRead) (hash : ℕ) (name : List ℕ) (x : ℕ) → isLabels read hash name x ≡ true → read .hash x ≡ hash
+unfolding isLabels
+labels-hash read hash name x t = eqb-true (read .hash x) hash (and-left (eqb (read .hash x) hash) (sameList (read .name x) name) t)
+
+pub labels-name : (read : EntryRead) (hash : ℕ) (name : List ℕ) (x : ℕ) → isLabels read hash name x ≡ true → read .name x ≡ name
+unfolding isLabels
+labels-name read hash name x t =
+    same-equal (read .name x) name (and-right (eqb (read .hash x) hash) (sameList (read .name x) name) t)
 
 -- what is given is held
-pub given-held : (wanted : Wanted) (c : Counts) (read : EntryRead) (l : List ℕ) → allPass (passes wanted c read) l ≡ true
+pub given-held : (wanted : Sought) (c : Counts) (read : EntryRead) (end : ℕ → ℕ) (l : List ℕ) → allPass (passes wanted c read end) l ≡ true
     → (v : ℕ) → List·Memᴰ v (given wanted read l) → v < c .vectors
-unfolding given passes
-given-held Everything c read l t v m = ltb-true v (c .vectors) (allPass-Memᴰ (λ x. ltb x (c .vectors)) l t v m)
-given-held (Label hash) c read l t v m =
+unfolding given
+given-held all-vectors c read end l t v m = vector-held c read end v (allPass-Memᴰ (passes all-vectors c read end) l t v m)
+given-held (with-label hash name) c read end l t v m =
     let (x, k, e) = Memᴰ-map (read .owner) m in
-    let both = allPass-Memᴰ (λ entry. ltb entry (c .entries) && ltb (read .owner entry) (c .vectors)) l t x (Memᴰ-keep (λ entry. eqb (read .hash entry) hash) x l k .1) in
-    subst (λ (n : ℕ). n < c .vectors) (sym e) (ltb-true (read .owner x) (c .vectors) (and-right (ltb x (c .entries)) (ltb (read .owner x) (c .vectors)) both))
+    let passed = allPass-Memᴰ (passes (with-label hash name) c read end) l t x (Memᴰ-keep (isLabels read hash name) x l k .1) in
+    subst (λ (n : ℕ). n < c .vectors) (sym e) (passes-held hash name c read end x passed .owner)
 
 -- ---- two ways to read the entries
 
--- of an entry: its owner; if that is held, its hash; if that is the hash wanted, something of the owner
-pub record SameEntry (c : Counts) (a b : EntryRead) (Same : ℕ → Type 0) (hash entry : ℕ) : Type 0 where
-  pub owner : a .owner entry ≡ b .owner entry
-  pub own-hash : a .owner entry < c .vectors → a .hash entry ≡ b .hash entry
-  pub vector : a .owner entry < c .vectors → a .hash entry ≡ hash → Same (a .owner entry)
+-- where one way to read an entry finds its bytes
+pub record Reading : Type 0 where
+  pub entries : EntryRead
+  pub end : ℕ → ℕ
+
+-- of an entry: its owner; if that is held, its hash; if that is the hash wanted, where its bytes end; if they are held, the bytes; if those are the
+-- label's, something of the owner
+pub record SameEntry (c : Counts) (a b : Reading) (Same : ℕ → Type 0) (hash : ℕ) (name : List ℕ) (entry : ℕ) : Type 0 where
+  pub owner : a .entries .owner entry ≡ b .entries .owner entry
+  pub own-hash : a .entries .owner entry < c .vectors → a .entries .hash entry ≡ b .entries .hash entry
+  pub end : a .entries .owner entry < c .vectors → a .entries .hash entry ≡ hash → a .end entry ≡ b .end entry
+  pub own-name : a .entries .owner entry < c .vectors → a .entries .hash entry ≡ hash → a .end entry ≤ c .bytes
+      → a .entries .name entry ≡ b .entries .name entry
+  pub vector : a .entries .owner entry < c .vectors → a .entries .hash entry ≡ hash → a .end entry ≤ c .bytes → a .entries .name entry ≡ name
+      → Same (a .entries .owner entry)
 
 -- of a number of the list that is read, if it is held: itself as a vector, or as an entry
-abbrev pub SameNumber : Wanted → Counts → EntryRead → EntryRead → (ℕ → Type 0) → ℕ → Type 0
-SameNumber Everything c a b Same x = x < c .vectors → Same x
-SameNumber (Label hash) c a b Same x = x < c .entries → SameEntry c a b Same hash x
+abbrev pub SameNumber : Sought → Counts → Reading → Reading → (ℕ → Type 0) → ℕ → Type 0
+SameNumber all-vectors c a b Same x = x < c .vectors → Same x
+SameNumber (with-label hash name) c a b Same x = x < c .entries → SameEntry c a b Same hash name x
 
-module _ (c : Counts) (a b : EntryRead) (Same : ℕ → Type 0) where
+module _ (c : Counts) (a b : Reading) (Same : ℕ → Type 0) where
   -- it is the same where all that is held is
-  pub numbers-same : (wanted : Wanted) → ((e : ℕ) → e < c .entries → a .owner e ≡ b .owner e) → ((e : ℕ) → e < c .entries → a .hash e ≡ b .hash e)
-      → ((v : ℕ) → v < c .vectors → Same v) → (x : ℕ) → SameNumber wanted c a b Same x
-  numbers-same Everything owners hashes vectors x = λ h. vectors x h
-  numbers-same (Label hash) owners hashes vectors x =
-      λ h. record { owner = owners x h; own-hash = λ o. hashes x h; vector = λ o w. vectors (a .owner x) o }
+  pub numbers-same : (wanted : Sought) → ((e : ℕ) → e < c .entries → a .entries .owner e ≡ b .entries .owner e)
+      → ((e : ℕ) → e < c .entries → a .entries .hash e ≡ b .entries .hash e) → ((e : ℕ) → e < c .entries → a .end e ≡ b .end e)
+      → ((e : ℕ) → e < c .entries → a .end e ≤ c .bytes → a .entries .name e ≡ b .entries .name e) → ((v : ℕ) → v < c .vectors → Same v)
+      → (x : ℕ) → SameNumber wanted c a b Same x
+  numbers-same all-vectors owners hashes ends names vectors x = λ h. vectors x h
+  numbers-same (with-label hash name) owners hashes ends names vectors x =
+      λ h. record {
+        owner = owners x h;
+        own-hash = λ o. hashes x h;
+        end = λ o w. ends x h;
+        own-name = λ o w n. names x h n;
+        vector = λ o w n m. vectors (a .entries .owner x) o;
+      }
+
+  -- an entry passes alike
+  same-passes : (hash : ℕ) (name : List ℕ) (x : ℕ) → (x < c .entries → SameEntry c a b Same hash name x)
+      → passes (with-label hash name) c (a .entries) (a .end) x ≡ passes (with-label hash name) c (b .entries) (b .end) x
+  unfolding passes
+  same-passes hash name x same = low (which (ltb x (c .entries)))
+    where
+      rest : Reading → Bool
+      rest r = not (eqb (r .entries .hash x) hash) || leb (r .end x) (c .bytes)
+
+      hashed : SameEntry c a b Same hash name x → a .entries .owner x < c .vectors → (eqb (a .entries .hash x) hash ≡ true) ⊎ (eqb (a .entries .hash x) hash ≡ false)
+          → rest a ≡ rest b
+      hashed s o (inl e) =
+          ap₂ (λ (h n : ℕ). not (eqb h hash) || leb n (c .bytes)) (s .own-hash o) (s .end o (eqb-true (a .entries .hash x) hash e))
+      hashed s o (inr e) =
+          ap (λ (t : Bool). not t || leb (a .end x) (c .bytes)) e
+          ∙ sym (ap (λ (t : Bool). not t || leb (b .end x) (c .bytes)) (ap (λ (h : ℕ). eqb h hash) (sym (s .own-hash o)) ∙ e))
+
+      owned : SameEntry c a b Same hash name x → (ltb (a .entries .owner x) (c .vectors) ≡ true) ⊎ (ltb (a .entries .owner x) (c .vectors) ≡ false)
+          → (ltb (a .entries .owner x) (c .vectors) && rest a) ≡ (ltb (b .entries .owner x) (c .vectors) && rest b)
+      owned s (inl e) =
+          ap₂ _&&_ (ap (λ (o : ℕ). ltb o (c .vectors)) (s .owner))
+          (hashed s (ltb-true (a .entries .owner x) (c .vectors) e) (which (eqb (a .entries .hash x) hash)))
+      owned s (inr e) =
+          ap (λ (t : Bool). t && rest a) e
+          ∙ sym (ap (λ (t : Bool). t && rest b) (ap (λ (o : ℕ). ltb o (c .vectors)) (sym (s .owner)) ∙ e))
+
+      low : (ltb x (c .entries) ≡ true) ⊎ (ltb x (c .entries) ≡ false)
+          → (ltb x (c .entries) && (ltb (a .entries .owner x) (c .vectors) && rest a))
+          ≡ (ltb x (c .entries) && (ltb (b .entries .owner x) (c .vectors) && rest b))
+      low (inl e) =
+          ap (λ (t : Bool). ltb x (c .entries) && t) (owned (same (ltb-true x (c .entries) e)) (which (ltb (a .entries .owner x) (c .vectors))))
+      low (inr e) = rw e
 
   -- the tests are alike
-  pub passes-same : (wanted : Wanted) (l : List ℕ) → ((x : ℕ) → List·Memᴰ x l → SameNumber wanted c a b Same x)
-      → allPass (passes wanted c a) l ≡ allPass (passes wanted c b) l
-  unfolding passes
-  passes-same Everything l same = refl
-  passes-same (Label hash) l same =
-      allPass-congr (λ x. ltb x (c .entries) && ltb (a .owner x) (c .vectors)) (λ x. ltb x (c .entries) && ltb (b .owner x) (c .vectors)) l
-      (λ x m. go x (same x m) (which (ltb x (c .entries))))
+  pub passes-same : (wanted : Sought) (l : List ℕ) → ((x : ℕ) → List·Memᴰ x l → SameNumber wanted c a b Same x)
+      → allPass (passes wanted c (a .entries) (a .end)) l ≡ allPass (passes wanted c (b .entries) (b .end)) l
+  passes-same all-vectors l same = vectors-alike c (a .entries) (b .entries) (a .end) (b .end) l
+  passes-same (with-label hash name) l same =
+      allPass-congr (passes (with-label hash name) c (a .entries) (a .end)) (passes (with-label hash name) c (b .entries) (b .end)) l
+      (λ x m. same-passes hash name x (same x m))
+
+  -- an entry that passes is the label's alike
+  same-labels : (hash : ℕ) (name : List ℕ) (x : ℕ) → EntryHeld c (a .entries) (a .end) hash x → SameEntry c a b Same hash name x
+      → isLabels (a .entries) hash name x ≡ isLabels (b .entries) hash name x
+  unfolding isLabels
+  same-labels hash name x held same = go (which (eqb (a .entries .hash x) hash))
     where
-      go : (x : ℕ) → (x < c .entries → SameEntry c a b Same hash x) → (ltb x (c .entries) ≡ true) ⊎ (ltb x (c .entries) ≡ false)
-          → (ltb x (c .entries) && ltb (a .owner x) (c .vectors)) ≡ (ltb x (c .entries) && ltb (b .owner x) (c .vectors))
-      go x s (inl e) = ap (λ (o : ℕ). ltb x (c .entries) && ltb o (c .vectors)) (s (ltb-true x (c .entries) e) .owner)
-      go x s (inr e) = rw e
+      go : (eqb (a .entries .hash x) hash ≡ true) ⊎ (eqb (a .entries .hash x) hash ≡ false)
+          → (eqb (a .entries .hash x) hash && sameList (a .entries .name x) name) ≡ (eqb (b .entries .hash x) hash && sameList (b .entries .name x) name)
+      go (inl e) =
+          let is = eqb-true (a .entries .hash x) hash e in
+          ap₂ (λ (h : ℕ) (n : List ℕ). eqb h hash && sameList n name) (same .own-hash (held .owner)) (same .own-name (held .owner) is (held .bytes is))
+      go (inr e) =
+          ap (λ (t : Bool). t && sameList (a .entries .name x) name) e
+          ∙ sym (ap (λ (t : Bool). t && sameList (b .entries .name x) name) (ap (λ (h : ℕ). eqb h hash) (sym (same .own-hash (held .owner))) ∙ e))
 
   -- and where all pass, the same is given
-  pub given-same : (wanted : Wanted) (l : List ℕ) → ((x : ℕ) → List·Memᴰ x l → SameNumber wanted c a b Same x)
-      → allPass (passes wanted c a) l ≡ true → given wanted a l ≡ given wanted b l
-  unfolding passes given
-  given-same Everything l same t = refl
-  given-same (Label hash) l same t =
-      map-on (a .owner) (b .owner) (keep has l) (λ x m. let k = Memᴰ-keep has x l m in same x (k .1) (low x (k .1)) .owner)
-      ∙ ap (map (b .owner)) (keep-congr has (λ entry. eqb (b .hash entry) hash) l
-      (λ x m. ap (λ (h : ℕ). eqb h hash) (same x m (low x m) .own-hash (owned x m))))
-    where
-      has : ℕ → Bool
-      has entry = eqb (a .hash entry) hash
-
-      low : (x : ℕ) → List·Memᴰ x l → x < c .entries
-      low x m =
-          ltb-true x (c .entries)
-          (and-left (ltb x (c .entries)) (ltb (a .owner x) (c .vectors)) (allPass-Memᴰ (λ x. ltb x (c .entries) && ltb (a .owner x) (c .vectors)) l t x m))
-
-      owned : (x : ℕ) → List·Memᴰ x l → a .owner x < c .vectors
-      owned x m =
-          ltb-true (a .owner x) (c .vectors)
-          (and-right (ltb x (c .entries)) (ltb (a .owner x) (c .vectors)) (allPass-Memᴰ (λ x. ltb x (c .entries) && ltb (a .owner x) (c .vectors)) l t x m))
+  pub given-same : (wanted : Sought) (l : List ℕ) → ((x : ℕ) → List·Memᴰ x l → SameNumber wanted c a b Same x)
+      → allPass (passes wanted c (a .entries) (a .end)) l ≡ true → given wanted (a .entries) l ≡ given wanted (b .entries) l
+  unfolding given
+  given-same all-vectors l same t = refl
+  given-same (with-label hash name) l same t =
+      let has = isLabels (a .entries) hash name in
+      let held : (x : ℕ) → List·Memᴰ x l → EntryHeld c (a .entries) (a .end) hash x =
+      λ x m. passes-held hash name c (a .entries) (a .end) x (allPass-Memᴰ (passes (with-label hash name) c (a .entries) (a .end)) l t x m) in
+      map-on (a .entries .owner) (b .entries .owner) (keep has l) (λ x m. let k = Memᴰ-keep has x l m in same x (k .1) (held x (k .1) .entry) .owner)
+      ∙ ap (map (b .entries .owner)) (keep-congr has (isLabels (b .entries) hash name) l (λ x m. same-labels hash name x (held x m) (same x m (held x m .entry))))
 
   -- of each that is given the same is read
-  pub given-read : (wanted : Wanted) (l : List ℕ) → ((x : ℕ) → List·Memᴰ x l → SameNumber wanted c a b Same x)
-      → allPass (passes wanted c a) l ≡ true → (v : ℕ) → List·Memᴰ v (given wanted a l) → Same v
-  unfolding passes given
-  given-read Everything l same t v m = same v m (ltb-true v (c .vectors) (allPass-Memᴰ (λ x. ltb x (c .vectors)) l t v m))
-  given-read (Label hash) l same t v m =
-      let (x, k, e) = Memᴰ-map (a .owner) m in
-      let (h, listed) = Memᴰ-keep (λ entry. eqb (a .hash entry) hash) x l k in
-      let both = allPass-Memᴰ (λ x. ltb x (c .entries) && ltb (a .owner x) (c .vectors)) l t x listed in
-      let low = ltb-true x (c .entries) (and-left (ltb x (c .entries)) (ltb (a .owner x) (c .vectors)) both) in
-      let owned = ltb-true (a .owner x) (c .vectors) (and-right (ltb x (c .entries)) (ltb (a .owner x) (c .vectors)) both) in
-      subst Same (sym e) (same x listed low .vector owned (eqb-true (a .hash x) hash h))
+  pub given-read : (wanted : Sought) (l : List ℕ) → ((x : ℕ) → List·Memᴰ x l → SameNumber wanted c a b Same x)
+      → allPass (passes wanted c (a .entries) (a .end)) l ≡ true → (v : ℕ) → List·Memᴰ v (given wanted (a .entries) l) → Same v
+  unfolding given
+  given-read all-vectors l same t v m =
+      same v m (vector-held c (a .entries) (a .end) v (allPass-Memᴰ (passes all-vectors c (a .entries) (a .end)) l t v m))
+  given-read (with-label hash name) l same t v m =
+      let (x, k, e) = Memᴰ-map (a .entries .owner) m in
+      let (is, listed) = Memᴰ-keep (isLabels (a .entries) hash name) x l k in
+      let held = passes-held hash name c (a .entries) (a .end) x (allPass-Memᴰ (passes (with-label hash name) c (a .entries) (a .end)) l t x listed) in
+      let hashed = labels-hash (a .entries) hash name x is in
+      subst Same (sym e) (same x listed (held .entry) .vector (held .owner) hashed (held .bytes hashed) (labels-name (a .entries) hash name x is))

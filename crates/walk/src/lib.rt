@@ -1,7 +1,7 @@
 // What the best-first walk is about, and what a node of a lent store shows, whatever numbers stand in it (document 01, 'Search').
 pub mod look;
 
-// What a search is about: every vector, or those with a label's hash.
+// What a search is about: every vector, or those with a label, whose hash this is; its bytes go beside it, in two parts.
 pub enum Wanted {
     Everything,
     Label(u64),

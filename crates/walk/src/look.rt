@@ -9,8 +9,7 @@ ghost use Prim.Native.Nat.{_+_, _*_, _^_, _<_, _≤_};
 ghost use lib.ListN.{length};
 ghost use Rattle.lists.specs.Lists.{part};
 ghost use Rattle.store.specs.Store.{filtersAt};
-ghost use Rattle.walk.specs.Wanted.{denies};
-ghost use Rattle.walk.specs.Contracts.{FilterLent, LeafLent, NodeLent, BlockAsked, Placing, LeafPlacing, Looks};
+ghost use Rattle.walk.specs.Contracts.{FilterLent, LeafLent, NodeLent, BlockAsked, Denies, Placing, LeafPlaced, Looks};
 
 // A list's places in the numbers.
 pub struct Block {
@@ -34,7 +33,7 @@ pub enum Look {
 // Whether the filter of node i denies what is wanted.
 fn denied(shape: Shape, hashes: &[u64], wanted: Wanted, i: usize) -> bool
     requires { ⌜ FilterLent shape (now hashes) i ⌝ }
-    ensures { λ r. ⌜ r ≡ denies wanted (part (filtersAt shape + i * 4) 4 (now (hashes .entry))) ⌝ }
+    ensures { λ r. ⌜ Denies shape (now (hashes .entry)) wanted i r ⌝ }
 {
     match wanted {
         Wanted::Everything => false,
@@ -71,7 +70,7 @@ fn block_at(numbers: &[u32], at: usize, base: usize, held: usize) -> Placed
 // The list that a search reads in the leaf whose six numbers start at a place: its entries, unfiltered its vectors.
 fn leaf_list(shape: Shape, counts: Counts, numbers: &[u32], wanted: Wanted, at: usize) -> Placed
     requires { ⌜ LeafLent shape counts (now numbers) at ⌝ }
-    ensures { λ r. ⌜ LeafPlacing shape counts (now (numbers .entry)) wanted at r ⌝ }
+    ensures { λ r. ⌜ LeafPlaced shape counts (now (numbers .entry)) wanted at r ⌝ }
 {
     match wanted {
         Wanted::Everything => block_at(numbers, at + 2, shape.order_at(), counts.vectors),

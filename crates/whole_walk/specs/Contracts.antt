@@ -10,10 +10,9 @@ use Rattle.store.specs.declared.Shape.{Shape}
 use Rattle.store.specs.declared.Counts.{Counts}
 use Rattle.store.specs.Store.{Store, CountsWithin, numbersSize, hashesSize, workSize, marksAt}
 use Rattle.store.specs.Lent.{storeOf}
-use Rattle.walk.specs.declared.Wanted.{Wanted}
 use Rattle.walk.specs.Walk.{View, Progress, State, damaged, going, give, shown}
 use Rattle.walk.specs.KeysLaws.{keyed}
-use Rattle.walk.specs.Wanted.{most}
+use Rattle.walk.specs.Wanted.{Sought, most}
 use Rattle.walk.specs.StoreView.{hitAt, childrenShown, storeView}
 use Rattle.walk.specs.Contracts.{Works}
 use Rattle.leaf_hits.specs.declared.Added.{Added}
@@ -29,20 +28,22 @@ pub record ChildrenLent (s : Shape) (c : Counts) (numbers work : List ℕ) (star
   pub work-size : workSize s ≤ length work
   pub block : start + count ≤ length numbers
 
--- to open node i: a store's numbers and hashes, and no more hits so far than there can be
-pub record OpenLent (s : Shape) (c : Counts) (numbers hashes work : List ℕ) (hits : ℕ) (wanted : Wanted) (i : ℕ) : Type 0 where
+-- to open node i: a store's numbers, hashes and label text, and no more hits so far than there can be
+pub record OpenLent (s : Shape) (c : Counts) (numbers hashes text work : List ℕ) (hits : ℕ) (wanted : Sought) (i : ℕ) : Type 0 where
   pub within : CountsWithin s c
   pub numbers-size : numbersSize s ≤ length numbers
   pub hashes-size : hashesSize s ≤ length hashes
+  pub text-size : s .text ≤ length text
   pub work-size : workSize s ≤ length work
   pub node : i < c .nodes
   pub few : hits ≤ most wanted c
 
 -- for the pass: a store with a node, but for its floats, and the work list
-pub record PassLent (s : Shape) (c : Counts) (numbers hashes work : List ℕ) : Type 0 where
+pub record PassLent (s : Shape) (c : Counts) (numbers hashes text work : List ℕ) : Type 0 where
   pub within : CountsWithin s c
   pub numbers-size : numbersSize s ≤ length numbers
   pub hashes-size : hashesSize s ≤ length hashes
+  pub text-size : s .text ≤ length text
   pub some : 1 ≤ c .nodes
   pub work-size : workSize s ≤ length work
 
@@ -70,13 +71,13 @@ pub record MarksChildren (s : Shape) (c : Counts) (found parent : ℕ) (numbers 
   pub works : Works s work work′
 
 -- node i gave what it shows, from any query, with any vectors and keys
-pub record OpensNode (s : Shape) (c : Counts) (numbers hashes : List ℕ) (found : ℕ) (wanted : Wanted) (i : ℕ) (work : List ℕ) (r : Added) (work′ : List ℕ) : Type 0 where
+pub record OpensNode (s : Shape) (c : Counts) (numbers hashes text : List ℕ) (found : ℕ) (wanted : Sought) (i : ℕ) (work : List ℕ) (r : Added) (work′ : List ℕ) : Type 0 where
   pub gives : (floats query : List Float) (key : ℕ → ℕ) (p : Progress) → Notes s c (hitAt s floats numbers query) p work found
       → NotesState s c (hitAt s floats numbers query)
-      (give (keyed key (storeView s c (storeOf floats numbers hashes) query wanted)) (shown (storeView s c (storeOf floats numbers hashes) query wanted) i) p) r work′
+      (give (keyed key (storeView s c (storeOf floats numbers hashes text) query wanted)) (shown (storeView s c (storeOf floats numbers hashes text) query wanted) i) p) r work′
   pub works : Works s work work′
 
 -- The pass is the walk from any query, with any vectors, and with any budget of at least the node count
-abbrev pub WalksAny : Shape → Counts → List ℕ → List ℕ → Wanted → List ℕ → Walked → List ℕ → Type 0
-WalksAny s c numbers hashes wanted work r work′ =
-    (floats query : List Float) (ef : ℕ) → c .nodes ≤ ef → Walks s c ef (storeOf floats numbers hashes) query wanted work r work′
+abbrev pub WalksAny : Shape → Counts → List ℕ → List ℕ → List ℕ → Sought → List ℕ → Walked → List ℕ → Type 0
+WalksAny s c numbers hashes text wanted work r work′ =
+    (floats query : List Float) (ef : ℕ) → c .nodes ≤ ef → Walks s c ef (storeOf floats numbers hashes text) query wanted work r work′

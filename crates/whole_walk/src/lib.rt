@@ -15,6 +15,7 @@ use walk::look::Block;
 use walk::look::Look;
 use walk::look::look_at;
 ghost use Rattle.lists.specs.Lists.{part};
+ghost use Rattle.walk.specs.Wanted.{sought};
 ghost use Rattle.whole_walk.specs.Contracts.{ChildrenLent, MarksChildren, OpenLent, OpensNode, PassLent, WalksAny};
 
 // Marks the children of an inner node; the hits stay. A child that is not fresh is damage.
@@ -59,13 +60,16 @@ fn open_node(
     counts: Counts,
     numbers: &[u32],
     hashes: &[u64],
+    text: &[u8],
     work: &mut [u32],
     hits: usize,
     wanted: Wanted,
+    first: &[u8],
+    second: &[u8],
     i: usize,
 ) -> Added
-    requires { ⌜ OpenLent shape counts (now numbers) (now hashes) (now work) hits wanted i ⌝ }
-    ensures { λ r. ⌜ OpensNode shape counts (now (numbers .entry)) (now (hashes .entry)) hits wanted i (now (work .entry)) r (now (work .exit)) ⌝ }
+    requires { ⌜ OpenLent shape counts (now numbers) (now hashes) (now text) (now work) hits (sought wanted (now first) (now second)) i ⌝ }
+    ensures { λ r. ⌜ OpensNode shape counts (now (numbers .entry)) (now (hashes .entry)) (now (text .entry)) hits (sought wanted (now (first .entry)) (now (second .entry))) i (now (work .entry)) r (now (work .exit)) ⌝ }
 {
     let found_at = found_at(shape);
     let found_end = shape.work_size();
@@ -77,9 +81,12 @@ fn open_node(
             counts,
             numbers,
             hashes,
+            text,
             &mut work[found_at..found_end],
             hits,
             wanted,
+            first,
+            second,
             list,
         ),
         Look::Inner(children) => mark_children(shape, counts, numbers, work, hits, i, children),
@@ -92,11 +99,14 @@ pub fn whole_walk(
     counts: Counts,
     numbers: &[u32],
     hashes: &[u64],
+    text: &[u8],
     work: &mut [u32],
     wanted: Wanted,
+    first: &[u8],
+    second: &[u8],
 ) -> Walked
-    requires { ⌜ PassLent shape counts (now numbers) (now hashes) (now work) ⌝ }
-    ensures { λ r. ⌜ WalksAny shape counts (now (numbers .entry)) (now (hashes .entry)) wanted (now (work .entry)) r (now (work .exit)) ⌝ }
+    requires { ⌜ PassLent shape counts (now numbers) (now hashes) (now text) (now work) ⌝ }
+    ensures { λ r. ⌜ WalksAny shape counts (now (numbers .entry)) (now (hashes .entry)) (now (text .entry)) (sought wanted (now (first .entry)) (now (second .entry))) (now (work .entry)) r (now (work .exit)) ⌝ }
 {
     let nodes = counts.nodes;
     let marks_at = shape.marks_at();
@@ -118,7 +128,19 @@ pub fn whole_walk(
             i += 1;
         } else {
             opened += 1;
-            match open_node(shape, counts, numbers, hashes, work, hits, wanted, i) {
+            match open_node(
+                shape,
+                counts,
+                numbers,
+                hashes,
+                text,
+                work,
+                hits,
+                wanted,
+                first,
+                second,
+                i,
+            ) {
                 Added::Damaged => {
                     end = Walked::Damaged;
                     break 'walk;

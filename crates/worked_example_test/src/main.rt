@@ -1,6 +1,6 @@
 // Document 01's worked example: three echoes are added, the index is built, and the nearest are looked up, at budgets below, at and above the node count,
 // with a label that no echo has and with one of 300 bytes. Then the same after numbers of the store were overwritten: each kind of damage at the first and at
-// the last place where it can stand, and garbage that no search reads. Those lines are reasoned from 01's list of damage. Last, names in other parts.
+// the last place where it can stand, and garbage that no search reads. Those lines are reasoned from 01's list of damage and 02's K4. Last, names in other parts, and two labels of one hash.
 use curator::Changed;
 use curator::CuratorIndex;
 use curator::Found;
@@ -64,8 +64,8 @@ struct Damage {
     second_value: u32,
 }
 
-fn overwrite(numbers: &mut [u32; 51], place: usize, value: u32) {
-    if place < 51 {
+fn overwrite(numbers: &mut [u32; 59], place: usize, value: u32) {
+    if place < 59 {
         numbers[place] = value;
     }
 }
@@ -81,6 +81,7 @@ fn fresh_index(ef_search: usize) -> Changed {
         vectors: 4,
         entries: 4,
         nodes: 5,
+        text: 24,
     };
     CuratorIndex::new(2, params, capacities)
 }
@@ -89,8 +90,9 @@ fn fresh_index(ef_search: usize) -> Changed {
 fn added(
     index: CuratorIndex,
     floats: &mut [f32; 22],
-    numbers: &mut [u32; 51],
+    numbers: &mut [u32; 59],
     hashes: &mut [u64; 24],
+    text: &mut [u8; 24],
     doc_id: u32,
     vector: &[f32],
     lengths: &[u8],
@@ -98,18 +100,36 @@ fn added(
 ) -> CuratorIndex {
     kept(
         index,
-        index.add(floats, numbers, hashes, doc_id, vector, lengths, label),
+        index.add(
+            floats,
+            numbers,
+            hashes,
+            text,
+            doc_id,
+            vector,
+            lengths,
+            label,
+        ),
     )
 }
 
-// Two echoes, 7 and 8, with a label each, both parted alike.
+// What is taught: the three echoes of the example; two with the names `ab` and `ba`, each in two parts; two whose labels have one hash.
+enum Echoes {
+    Three,
+    Parted,
+    OneHash,
+}
+
+// Two echoes, 7 and 8, with a label each.
 fn two_echoes(
     fresh: CuratorIndex,
     floats: &mut [f32; 22],
-    numbers: &mut [u32; 51],
+    numbers: &mut [u32; 59],
     hashes: &mut [u64; 24],
+    text: &mut [u8; 24],
     lengths: &[u8],
     label: &[u8],
+    other_lengths: &[u8],
     other: &[u8],
 ) -> CuratorIndex {
     let index = added(
@@ -117,6 +137,7 @@ fn two_echoes(
         floats,
         numbers,
         hashes,
+        text,
         7,
         &[1.0, 0.0],
         lengths,
@@ -127,9 +148,10 @@ fn two_echoes(
         floats,
         numbers,
         hashes,
+        text,
         8,
         &[0.0, 2.0],
-        lengths,
+        other_lengths,
         other,
     )
 }
@@ -138,15 +160,27 @@ fn two_echoes(
 fn example_echoes(
     fresh: CuratorIndex,
     floats: &mut [f32; 22],
-    numbers: &mut [u32; 51],
+    numbers: &mut [u32; 59],
     hashes: &mut [u64; 24],
+    text: &mut [u8; 24],
 ) -> CuratorIndex {
-    let index = two_echoes(fresh, floats, numbers, hashes, &[1, 0], b"a", b"b");
+    let index = two_echoes(
+        fresh,
+        floats,
+        numbers,
+        hashes,
+        text,
+        &[1, 0],
+        b"a",
+        &[1, 0],
+        b"b",
+    );
     added(
         index,
         floats,
         numbers,
         hashes,
+        text,
         9,
         &[3.0, 4.0],
         &[1, 0],
@@ -154,30 +188,66 @@ fn example_echoes(
     )
 }
 
-// Those echoes, or two with the names `ab` and `ba`, each in two parts, built.
+// Some of these echoes.
+fn taught(
+    fresh: CuratorIndex,
+    floats: &mut [f32; 22],
+    numbers: &mut [u32; 59],
+    hashes: &mut [u64; 24],
+    text: &mut [u8; 24],
+    echoes: Echoes,
+) -> CuratorIndex {
+    match echoes {
+        Echoes::Three => example_echoes(fresh, floats, numbers, hashes, text),
+        Echoes::Parted => two_echoes(
+            fresh,
+            floats,
+            numbers,
+            hashes,
+            text,
+            &[1, 1],
+            b"ab",
+            &[1, 1],
+            b"ba",
+        ),
+        Echoes::OneHash => two_echoes(
+            fresh,
+            floats,
+            numbers,
+            hashes,
+            text,
+            &[8, 0],
+            b"\xd5\x6b\xb9\x53\x42\x87\x08\x36",
+            &[2, 9],
+            b"77kepQFQ8Kl",
+        ),
+    }
+}
+
+// They, built.
 fn example_index(
     fresh: CuratorIndex,
     floats: &mut [f32; 22],
-    numbers: &mut [u32; 51],
+    numbers: &mut [u32; 59],
     hashes: &mut [u64; 24],
+    text: &mut [u8; 24],
     work: &mut [u32; 27],
-    two_parts: bool,
+    echoes: Echoes,
 ) -> CuratorIndex {
-    let index: CuratorIndex;
-    if two_parts {
-        index = two_echoes(fresh, floats, numbers, hashes, &[1, 1], b"ab", b"ba");
-    } else {
-        index = example_echoes(fresh, floats, numbers, hashes);
-    }
-    kept(index, build::build(index, floats, numbers, hashes, work))
+    let index = taught(fresh, floats, numbers, hashes, text, echoes);
+    kept(
+        index,
+        build::build(index, floats, numbers, hashes, text, work),
+    )
 }
 
 // The four nearest to (1, 0): those with a label, or all.
 fn look_up(
     index: CuratorIndex,
     floats: &[f32; 22],
-    numbers: &[u32; 51],
+    numbers: &[u32; 59],
     hashes: &[u64; 24],
+    text: &[u8; 24],
     work: &mut [u32; 27],
     filtered: bool,
     first: &[u8],
@@ -193,6 +263,7 @@ fn look_up(
             floats,
             numbers,
             hashes,
+            text,
             work,
             &query,
             first,
@@ -207,6 +278,7 @@ fn look_up(
             floats,
             numbers,
             hashes,
+            text,
             work,
             &query,
             4,
@@ -217,11 +289,11 @@ fn look_up(
     print_found(found, &ids, &distances);
 }
 
-// The worked example with damage: V 4, E 4, M 5, so owners stand at 4, the leaf order of vectors at 8, six numbers per node at 12, child links at 42 and the
-// leaf order of entries at 47. Nodes 0 and 2 are inner, 1, 3 and 4 hold the vectors 0, 1 and 2.
+// The worked example with damage: V 4, E 4, M 5, so owners stand at 4, the leaf order of vectors at 8, six numbers per node at 12, child links at 42, the
+// leaf order of entries at 47, starts of labels at 51 and lengths at 55. Nodes 0 and 2 are inner, 1, 3 and 4 hold the vectors 0, 1 and 2.
 fn example(
     ef_search: usize,
-    two_parts: bool,
+    echoes: Echoes,
     filtered: bool,
     first: &[u8],
     second: &[u8],
@@ -233,16 +305,18 @@ fn example(
         return;
     };
     let mut floats = [0.0f32; 22];
-    let mut numbers = [0u32; 51];
+    let mut numbers = [0u32; 59];
     let mut hashes = [0u64; 24];
+    let mut text = [0u8; 24];
     let mut work = [0u32; 27];
     let index = example_index(
         fresh,
         &mut floats,
         &mut numbers,
         &mut hashes,
+        &mut text,
         &mut work,
-        two_parts,
+        echoes,
     );
     overwrite(&mut numbers, damage.first, damage.first_value);
     overwrite(&mut numbers, damage.second, damage.second_value);
@@ -251,6 +325,7 @@ fn example(
         &floats,
         &numbers,
         &hashes,
+        &text,
         &mut work,
         filtered,
         first,
@@ -262,14 +337,14 @@ fn example(
 fn one_place_at(ef_search: usize, filtered: bool, place: usize, value: u32) {
     example(
         ef_search,
-        false,
+        Echoes::Three,
         filtered,
         b"a",
         b"",
         Damage {
             first: place,
             first_value: value,
-            second: 51,
+            second: 59,
             second_value: 0,
         },
     );
@@ -314,7 +389,7 @@ fn leaves() {
 fn other() {
     example(
         5,
-        false,
+        Echoes::Three,
         true,
         b"a",
         b"",
@@ -331,7 +406,7 @@ fn other() {
     one_place(true, 18, 4294967295);
     example(
         0,
-        false,
+        Echoes::Three,
         true,
         b"a",
         b"",
@@ -346,15 +421,15 @@ fn other() {
 
 fn undamaged() -> Damage {
     Damage {
-        first: 51,
+        first: 59,
         first_value: 0,
-        second: 51,
+        second: 59,
         second_value: 0,
     }
 }
 
 fn labelled(ef_search: usize, first: &[u8], second: &[u8]) {
-    example(ef_search, false, true, first, second, undamaged());
+    example(ef_search, Echoes::Three, true, first, second, undamaged());
 }
 
 fn budgets() {
@@ -371,7 +446,7 @@ fn budgets() {
 }
 
 fn named(first: &[u8], second: &[u8]) {
-    example(5, true, true, first, second, undamaged());
+    example(5, Echoes::Parted, true, first, second, undamaged());
 }
 
 // Names in other parts: the first empty; each part of 300 bytes; `ab` and `ba`, parted in every way.
@@ -387,10 +462,40 @@ fn parts() {
     named(b"", b"ba");
 }
 
+// Start or length of the first `a`, of which three bytes are held: it passes them by one, by far; another length; the bytes of `b`, then those of the other
+// `a`. Those of `b` are not read, nor are any without a label.
+fn texts() {
+    one_place(true, 51, 3);
+    one_place(true, 51, 4294967295);
+    one_place(true, 55, 4);
+    one_place(true, 55, 4294967295);
+    one_place(true, 55, 0);
+    one_place(true, 55, 3);
+    one_place(true, 51, 1);
+    one_place(true, 51, 2);
+    one_place(true, 52, 4294967295);
+    one_place(true, 56, 4294967295);
+    one_place(false, 51, 4294967295);
+}
+
+fn of_one_hash(first: &[u8], second: &[u8]) {
+    example(5, Echoes::OneHash, true, first, second, undamaged());
+}
+
+// Each label finds its own echo, however it is parted.
+fn one_hash() {
+    of_one_hash(b"\xd5\x6b\xb9\x53\x42\x87\x08\x36", b"");
+    of_one_hash(b"\xd5\x6b\xb9", b"\x53\x42\x87\x08\x36");
+    of_one_hash(b"77kepQFQ8Kl", b"");
+    of_one_hash(b"", b"77kepQFQ8Kl");
+}
+
 fn main() {
     budgets();
     children();
     leaves();
     other();
     parts();
+    texts();
+    one_hash();
 }

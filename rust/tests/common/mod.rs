@@ -6,6 +6,7 @@ pub const SMALL: Capacities = Capacities {
     vectors: 4,
     entries: 8,
     nodes: 16,
+    text: 8 * 510,
 };
 
 pub fn params(branching_factor: usize, max_leaf_size: usize, ef_search: usize) -> CuratorParams {

@@ -1,5 +1,5 @@
 //! The inputs of the benchmark: the same for both sides.
-use crate::case::{Case, Doc, Query};
+use crate::case::{Case, Doc, Label, Query};
 use crate::ours::Shape;
 use crate::random::Random;
 
@@ -8,8 +8,8 @@ pub const LABELS: usize = 20;
 pub const K: usize = 5;
 pub const QUERIES: usize = 200;
 
-fn label(i: usize) -> String {
-    format!("label:{}", i % LABELS)
+fn label(i: usize) -> Label {
+    Label(format!("label:{}", i % LABELS).into())
 }
 
 fn vector(random: &mut Random) -> Vec<f32> {
@@ -27,7 +27,7 @@ pub fn case(n: usize, each: usize, ef: usize) -> Case {
         })
         .collect();
     let queries = (0..QUERIES).map(|i| Query { vector: vector(&mut random), label: Some(label(i)), k: K }).collect();
-    let shape =
-        Shape { dimension: DIMENSION, branching: 16, leaf_size: 128, ef, beam: 4, vectors: n, entries: n * each, nodes: (n / 2).max(32) };
+    let (entries, nodes, text) = (n * each, (n / 2).max(32), docs.iter().map(Doc::bytes).sum());
+    let shape = Shape { dimension: DIMENSION, branching: 16, leaf_size: 128, ef, beam: 4, vectors: n, entries, nodes, text };
     Case { shape, docs, queries }
 }

@@ -1,6 +1,6 @@
 //! Times of both sides in one process. The sides take turns, a block of calls each; a row has the median of each block.
 use super::inputs::K;
-use crate::case::{Case, Query};
+use crate::case::{Case, Label, Query};
 use crate::check::search::{same_hits, search};
 use crate::ffi::{self, Added, Asked, Filled};
 use crate::ours::{Lists, Ours};
@@ -124,10 +124,10 @@ fn add_ours(case: &Case, given: &[Added]) -> f64 {
 /// The same of the original, which takes a vector and its labels for itself: they are copied beforehand.
 fn add_theirs(case: &Case) -> f64 {
     let mut theirs = theirs::empty(case);
-    let given = case.docs.clone();
+    let given: Vec<_> = case.docs.iter().map(|doc| (doc.id, doc.vector.clone(), theirs::texts(doc))).collect();
     let time = processor_microseconds(|| {
-        for doc in given {
-            theirs.add(doc.id, doc.vector, doc.labels).expect("add");
+        for (id, vector, labels) in given {
+            theirs.add(id, vector, labels).expect("add");
         }
     });
     black_box(theirs);
@@ -167,9 +167,9 @@ pub fn builds(case: &Case, rounds: usize, size: usize) -> Times {
 }
 
 /// The label is given in two halves.
-fn search_ours(ours: &mut Ours, query: &[f32], label: Option<&str>) -> f64 {
+fn search_ours(ours: &mut Ours, query: &[f32], label: Option<&Label>) -> f64 {
     let (mut ids, mut distances, mut answer) = ([0; K], [0.0; K], [0; 3]);
-    let label = label.map(|label| Name::cut(label.as_bytes(), label.len() / 2));
+    let label = label.map(|label| Name::cut(label, label.len() / 2));
     let asked = Asked { query, label, k: K };
     let mut code = 0;
     let time = microseconds(|| {
@@ -181,7 +181,8 @@ fn search_ours(ours: &mut Ours, query: &[f32], label: Option<&str>) -> f64 {
     time
 }
 
-fn search_theirs(theirs: &CuratorIndex, query: &[f32], label: Option<&str>) -> f64 {
+fn search_theirs(theirs: &CuratorIndex, query: &[f32], label: Option<&Label>) -> f64 {
+    let label = label.map(|label| label.text().expect("text"));
     microseconds(|| {
         let hits = match label {
             Some(label) => theirs.search_filtered(query, K, label),
@@ -207,7 +208,7 @@ pub fn searches(case: &Case, call: Call, rounds: usize) -> Times {
     ours.build().expect("build");
     let theirs = theirs::built(case);
     compare_answers(case, call, &mut ours, &theirs);
-    let label = |i: usize| case.queries[i].label.as_deref().filter(|_| call == Call::Filtered);
+    let label = |i: usize| case.queries[i].label.as_ref().filter(|_| call == Call::Filtered);
     let each = || case.queries.iter().enumerate().map(|(i, query)| (&query.vector[..], label(i)));
     let mut times = Times::default();
     for _ in 0..rounds {

@@ -21,8 +21,10 @@ fn summary(tally: &Tally) {
     println!("  ids and distances equal to the original's: {}", tally.whole_domain);
     println!("  distances, and ids at unshared distances: {}", tally.distances);
     println!("  outside the domain of equality: {}", tally.outside);
-    println!("  equal to the brute-force first k: {}", tally.brute);
+    println!("  without the original, by a label of which another has the hash, or beside labels that are no text: {}", tally.no_reference);
+    println!("  equal to the brute-force first k: {}, {} of these without the original", tally.brute, tally.brute_alone);
     println!("adds taken back: {}", tally.taken_back);
+    println!("adds refused for want of label text: {}", tally.text_full);
     println!("names parted twice: {} in adds, {} in searches", tally.parted_adds, tally.parted_searches);
     println!("builds refused for want of nodes: {}", tally.too_many);
 }

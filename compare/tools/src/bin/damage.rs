@@ -1,5 +1,6 @@
 //! damage SEED COUNT: calls on damaged indexes, their lists between guard pages, against the model.
 use std::collections::BTreeMap;
+use tools::case::Label;
 use tools::damage::check::{self, Ended};
 use tools::damage::make::to_take_back;
 use tools::damage::names::label_hash;
@@ -8,14 +9,14 @@ use tools::damage::random_calls::{added, cut_twice, damaged, parted_otherwise, v
 use tools::damage::short::{short_answer, short_state};
 use tools::damage::take_back::take_back;
 use tools::ffi::Asked;
-use tools::ours::Ours;
+use tools::ours::{Ours, STATE};
 use tools::random::Random;
 
 /// How often each call ended with each number, and of these with a NaN.
 type Codes = BTreeMap<(&'static str, u32), (usize, usize)>;
 
 /// Every call on one damaged index.
-fn calls(random: &mut Random, ours: &Ours, labels: &[String], codes: &mut Codes) -> Result<(), String> {
+fn calls(random: &mut Random, ours: &Ours, labels: &[Label], codes: &mut Codes) -> Result<(), String> {
     let dimension = ours.state[0];
     let mut note = |name, end: Ended| {
         let times = codes.entry((name, end.code)).or_default();
@@ -45,7 +46,7 @@ fn calls(random: &mut Random, ours: &Ours, labels: &[String], codes: &mut Codes)
     take_back(&to_take_back(random, ours), random.from(1, 4), &mut note)?;
     let query = vector(random, dimension);
     let asked = Asked { query: &query, label: None, k: random.below(5) };
-    short_state(ours, &added(random, dimension), asked, random.below(12))?;
+    short_state(ours, &added(random, dimension), asked, random.below(STATE))?;
     short_answer(ours, asked, random.below(3))
 }
 

@@ -5,7 +5,7 @@ use tools::check::search::search;
 use tools::ours::{Lists, Ours, Shape};
 use tools::theirs;
 
-const SHAPE: Shape = Shape { dimension: 1, branching: 2, leaf_size: 9, ef: 9, beam: 4, vectors: 9, entries: 0, nodes: 1 };
+const SHAPE: Shape = Shape { dimension: 1, branching: 2, leaf_size: 9, ef: 9, beam: 4, vectors: 9, entries: 2, nodes: 1, text: 21 };
 
 /// Vectors that are all the same, with these ids.
 fn equal(ids: &[u32], k: usize) -> Case {
@@ -46,9 +46,18 @@ fn not_finite() -> bool {
     refused == Err(8) && original
 }
 
+/// Two labels of one hash, a vector with each, and a search for one: ours finds its own vector, the original both.
+fn one_hash() -> Case {
+    let labels = ["77kepQFQ8Kl", "!0IC=VloaY"];
+    let doc = |(id, label): (u32, &str)| Doc { id, vector: vec![1.0], labels: vec![label.into()] };
+    let query = Query { vector: vec![1.0], label: Some(labels[1].into()), k: 3 };
+    Case { shape: SHAPE, docs: vec![doc((5, labels[0])), doc((6, labels[1]))], queries: vec![query] }
+}
+
 fn main() {
     let known = shows("ids 2 and 1 at one distance, k 1", &equal(&[2, 1], 1), &[1])
         & shows("ids 5, 6 and 5 at one distance, k 3", &equal(&[5, 6, 5], 3), &[5, 6])
+        & shows("ids 5 and 6 with labels of one hash, k 3", &one_hash(), &[6])
         & not_finite();
     std::process::exit(i32::from(!known));
 }

@@ -41,7 +41,7 @@ fn main() {
     for (n, each) in [(4096, 1), (4096, 4), (256, 1), (256, 4)] {
         let case = case(n, each, 256);
         let shape = Shape { nodes: nodes(n, each), ..case.shape };
-        let store = 4 * shape.floats() + 4 * shape.numbers() + 8 * shape.hashes();
+        let store = 4 * shape.floats() + 4 * shape.numbers() + 8 * shape.hashes() + shape.text;
         let work = 4 * shape.work();
         let before = HELD.load(Relaxed);
         let index = theirs::built(&case);

@@ -11,7 +11,7 @@ use tools::sample::{printed, sample, NODES, SIZES};
 /// The same from the static library, at the sizes of `echoes`.
 fn ours(case: &Case) -> String {
     let mut shape = case.shape;
-    (shape.vectors, shape.entries, shape.nodes) = (SIZES.vectors, SIZES.entries, NODES);
+    (shape.vectors, shape.entries, shape.nodes, shape.text) = (SIZES.vectors, SIZES.entries, NODES, SIZES.text);
     let mut ours = Ours::new(shape, Lists::new(shape, 0, 0)).expect("new");
     for doc in &case.docs {
         ours.add(doc.id, &doc.vector, &doc.labels).expect("add");

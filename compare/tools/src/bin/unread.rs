@@ -1,5 +1,6 @@
 //! unread SEED COUNT, to be run under a memory checker: calls on damaged indexes in lists that hold nothing past the counts. The checker reports a read
 //! of what is not held, and of what lies outside a list.
+use tools::case::Label;
 use tools::damage::bare::{Bare, BareLists};
 use tools::damage::check::{search_result, take_back_result};
 use tools::damage::make::to_take_back;
@@ -10,35 +11,37 @@ use tools::ours::Ours;
 use tools::random::Random;
 
 fn store_mut(lists: &mut BareLists) -> (StoreMut<'_>, &mut [u32]) {
-    let store = StoreMut { floats: lists.floats.get_mut(), numbers: lists.numbers.get_mut(), hashes: lists.hashes.get_mut() };
+    let (floats, numbers) = (lists.floats.get_mut(), lists.numbers.get_mut());
+    let store = StoreMut { floats, numbers, hashes: lists.hashes.get_mut(), text: lists.text.get_mut() };
     (store, lists.work.get_mut())
 }
 
-/// A search; whether it ends as the model says.
+/// A search; whether it ends as the model says. Without a label there are no starts, lengths and bytes to be read.
 fn search(ours: &Ours, asked: Asked) -> bool {
-    let mut lists = BareLists::new(&State::of(&ours.state), &ours.lists);
+    let bare = if asked.label.is_some() { BareLists::new } else { BareLists::no_labels };
+    let BareLists { floats, numbers, hashes, text, mut work } = bare(&State::of(&ours.state), &ours.lists);
+    let store = Store { floats: floats.get(), numbers: numbers.get(), hashes: hashes.get(), text: text.get() };
     let (mut ids, mut distances, mut answer) = (Bare::new(asked.k), Bare::new(asked.k), Bare::new(3));
     let filled = Filled { ids: ids.get_mut(), distances: distances.get_mut(), answer: answer.get_mut() };
-    let store = Store { floats: lists.floats.get(), numbers: lists.numbers.get(), hashes: lists.hashes.get() };
-    let code = ffi::search(&ours.state, store, lists.work.get_mut(), asked, filled);
+    let code = ffi::search(&ours.state, store, work.get_mut(), asked, filled);
     let (expected, hits) = search_result(ours, asked, asked.k);
     let Some(hits) = hits else { return code == expected };
     let same = |i: usize| ids.get()[i] == hits.hits[i].0 && distances.get()[i].to_bits() == hits.hits[i].1.to_bits();
     code == expected && answer.get()[0] == hits.hits.len() && (0..hits.hits.len()).all(same)
 }
 
-/// A taking back in lists that hold the owners alone; whether it ends as the model says.
+/// A taking back in lists that hold the owners alone, and the start of the first entry that goes; whether it ends as the model says.
 fn take_back(ours: &Ours) -> bool {
-    let lists = BareLists::owners(&State::of(&ours.state), &ours.lists);
-    let store = Store { floats: lists.floats.get(), numbers: lists.numbers.get(), hashes: lists.hashes.get() };
+    let BareLists { floats, numbers, hashes, text, .. } = BareLists::owners(&State::of(&ours.state), &ours.lists);
+    let store = Store { floats: floats.get(), numbers: numbers.get(), hashes: hashes.get(), text: text.get() };
     let mut state = ours.state;
     let code = ffi::take_back(&mut state, store);
     (code, state) == take_back_result(ours)
 }
 
-/// All calls; the built store is read by nobody here.
-fn calls(random: &mut Random, ours: &Ours, labels: &[String]) -> bool {
-    let held = || BareLists::new(&State::of(&ours.state), &ours.lists);
+/// All calls; the built store is read by nobody here. Add and build read no starts, lengths and bytes.
+fn calls(random: &mut Random, ours: &Ours, labels: &[Label]) -> bool {
+    let held = || BareLists::no_labels(&State::of(&ours.state), &ours.lists);
     let mut state = ours.state;
     ffi::add(&mut state, store_mut(&mut held()).0, &added(random, ours.state[0]));
     let (mut state, mut lists) = (ours.state, held());

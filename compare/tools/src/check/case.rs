@@ -6,7 +6,7 @@ use super::pool::unpooled;
 use super::search::{same, same_hits, search};
 use super::teach::teach;
 use crate::case::{Case, Query};
-use crate::model::search::{answer, brute_force, walk};
+use crate::model::search::{answer, brute_force, shares_hash, walk, Walk};
 use crate::model::tree::Tree;
 use crate::ours::{Answer, Lists, Ours};
 use crate::theirs;
@@ -19,11 +19,14 @@ pub struct Tally {
     pub whole_domain: usize,
     pub distances: usize,
     pub outside: usize,
+    pub no_reference: usize,
     pub brute: usize,
+    pub brute_alone: usize,
     pub whole: usize,
     pub cut: usize,
     pub too_many: usize,
     pub taken_back: usize,
+    pub text_full: usize,
     pub parted_adds: usize,
     pub parted_searches: usize,
 }
@@ -80,32 +83,52 @@ fn search_twice(query: &Query, pair: &mut [Ours; 2], tally: &mut Tally) -> Resul
     Ok(got)
 }
 
-fn check_search(
-    query: &Query,
-    plain: bool,
-    tree: &Tree,
-    pair: &mut [Ours; 2],
-    theirs: &CuratorIndex,
-    tally: &mut Tally,
-) -> Result<(), String> {
-    let walk = walk(tree, query);
-    let got = search_twice(query, pair, tally)?;
-    let model = answer(&walk, query.k);
-    need(same(&got, &model), || format!("ours {got:?} model {model:?}"))?;
-    let domain = domain::of(&walk, plain);
+/// An answer against the original's, as far as the domain of equality goes.
+fn check_original(query: &Query, plain: bool, walk: &Walk, got: &Answer, theirs: &CuratorIndex, tally: &mut Tally) -> Result<(), String> {
+    let domain = domain::of(walk, plain);
     let original = theirs::search(theirs, query);
-    need(domain::agree(domain, &walk, &got.hits, &original), || format!("{domain:?}: ours {got:?} original {original:?}"))?;
-    if plain && got.whole {
-        let first = brute_force(tree, query);
-        need(same_hits(&got.hits, &first), || format!("ours {got:?} brute force {first:?}"))?;
-        tally.brute += 1;
-    }
-    tally.searches += 1;
+    need(domain::agree(domain, walk, &got.hits, &original), || format!("{domain:?}: ours {got:?} original {original:?}"))?;
     match domain {
         Domain::Whole => tally.whole_domain += 1,
         Domain::Distances => tally.distances += 1,
         Domain::Outside => tally.outside += 1,
     }
+    Ok(())
+}
+
+/// What the searches of a case are compared with. The original is there where all labels are text.
+struct References<'a> {
+    case: &'a Case,
+    tree: &'a Tree,
+    plain: bool,
+    theirs: Option<CuratorIndex>,
+}
+
+impl References<'_> {
+    /// The original, where it is the reference for a search: the label is text, and no vector has another of its hash.
+    fn original(&self, query: &Query) -> Option<&CuratorIndex> {
+        let text = query.label.as_ref().is_none_or(|label| label.text().is_some());
+        self.theirs.as_ref().filter(|_| text && !shares_hash(self.tree, query))
+    }
+}
+
+fn check_search(query: &Query, references: &References, pair: &mut [Ours; 2], tally: &mut Tally) -> Result<(), String> {
+    let walk = walk(references.tree, query);
+    let got = search_twice(query, pair, tally)?;
+    let model = answer(&walk, query.k);
+    need(same(&got, &model), || format!("ours {got:?} model {model:?}"))?;
+    let original = references.original(query);
+    match original {
+        Some(theirs) => check_original(query, references.plain, &walk, &got, theirs, tally)?,
+        None => tally.no_reference += 1,
+    }
+    if references.plain && got.whole {
+        let first = brute_force(references.case, query);
+        need(same_hits(&got.hits, &first), || format!("ours {got:?} brute force {first:?}"))?;
+        tally.brute += 1;
+        tally.brute_alone += usize::from(original.is_none());
+    }
+    tally.searches += 1;
     if got.whole {
         tally.whole += 1;
     } else {
@@ -117,6 +140,7 @@ fn check_search(
 pub fn check(case: &Case, tree: &Tree, tally: &mut Tally) -> Result<(), String> {
     let taught = teach(case)?;
     tally.taken_back += taught.taken_back;
+    tally.text_full += taught.text_full;
     tally.parted_adds += taught.parted;
     let (mut pair, lists) = (taught.pair, taught.lists);
     if case.shape.nodes < tree.nodes.len() {
@@ -126,11 +150,11 @@ pub fn check(case: &Case, tree: &Tree, tally: &mut Tally) -> Result<(), String> 
     let [ours, twin] = &mut pair;
     check_build(ours, tree, lists)?;
     check_twin(ours, twin)?;
-    let theirs = theirs::built(case);
-    let plain = case.plain();
+    let theirs = case.has_text_alone().then(|| theirs::built(case));
+    let references = References { case, tree, plain: case.plain(), theirs };
     let before = pair.clone();
     for query in &case.queries {
-        check_search(query, plain, tree, &mut pair, &theirs, tally)?;
+        check_search(query, &references, &mut pair, tally)?;
     }
     let kept = |i: usize| pair[i].state == before[i].state && layout::same_store(&case.shape, &pair[i].lists, &before[i].lists);
     need(kept(0) && kept(1), || "a search changed the store".into())

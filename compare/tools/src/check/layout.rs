@@ -28,7 +28,7 @@ fn narrow(list: &[usize]) -> impl Iterator<Item = u32> + '_ {
     list.iter().map(|&x| x as u32)
 }
 
-/// What one add writes, which is accepted in a state.
+/// What one add writes, which is accepted in a state: label text and, for each label, its start and length behind those held (K4 of document 02).
 pub fn put_one(state: &State, lists: &mut Lists, added: &Added) {
     let s = &state.shape;
     put(&mut lists.floats, state.vectors * s.dimension, normalized(&added.vector));
@@ -38,8 +38,11 @@ pub fn put_one(state: &State, lists: &mut Lists, added: &Added) {
         let end = from + usize::from(parts[0]) + usize::from(parts[1]);
         lists.numbers[s.vectors + state.entries + i] = state.vectors as u32;
         lists.hashes[state.entries + i] = hash_bytes(&added.bytes[from..end]);
+        lists.numbers[s.starts() + state.entries + i] = (state.bytes + from) as u32;
+        lists.numbers[s.lengths() + state.entries + i] = (end - from) as u32;
         from = end;
     }
+    put(&mut lists.text, state.bytes, added.bytes.iter().copied());
 }
 
 /// What all adds write.
@@ -48,6 +51,9 @@ fn put_added(tree: &Tree, shape: &Shape, lists: &mut Lists) {
     put(&mut lists.numbers, 0, tree.ids.iter().copied());
     put(&mut lists.numbers, shape.vectors, narrow(&tree.owners));
     put(&mut lists.hashes, 0, tree.hashes.iter().copied());
+    put(&mut lists.numbers, shape.starts(), narrow(&tree.names.starts));
+    put(&mut lists.numbers, shape.lengths(), narrow(&tree.names.lengths));
+    put(&mut lists.text, 0, tree.names.text.iter().copied());
 }
 
 /// What build writes.
@@ -90,7 +96,7 @@ pub fn same_bits(a: &[f32], b: &[f32]) -> bool {
 
 /// Whether every place of the stores is the same.
 pub fn same_lists(a: &Lists, b: &Lists) -> bool {
-    same_bits(&a.floats, &b.floats) && a.numbers == b.numbers && a.hashes == b.hashes
+    same_bits(&a.floats, &b.floats) && a.numbers == b.numbers && a.hashes == b.hashes && a.text == b.text
 }
 
 /// Whether the stores are the same outside the parts that are free after a build: cluster centres, and the work list.
@@ -102,6 +108,7 @@ pub fn same_store(shape: &Shape, a: &Lists, b: &Lists) -> bool {
         && same_bits(&a.floats[end..], &b.floats[end..])
         && a.numbers == b.numbers
         && a.hashes == b.hashes
+        && a.text == b.text
         && a.work[work..] == b.work[work..]
 }
 
@@ -112,8 +119,9 @@ pub fn same_added(shape: &Shape, a: &Lists, b: &Lists) -> bool {
     same_bits(&a.floats[..vectors], &b.floats[..vectors])
         && same_bits(&a.floats[shape.floats()..], &b.floats[shape.floats()..])
         && a.numbers[..owners] == b.numbers[..owners]
-        && a.numbers[shape.numbers()..] == b.numbers[shape.numbers()..]
+        && a.numbers[shape.starts()..] == b.numbers[shape.starts()..]
         && a.hashes[..shape.entries] == b.hashes[..shape.entries]
         && a.hashes[shape.hashes()..] == b.hashes[shape.hashes()..]
+        && a.text == b.text
         && a.work[shape.work()..] == b.work[shape.work()..]
 }

@@ -1,5 +1,5 @@
 //! Names in two parts (K7 of document 02): the two ways in which a case's names are cut, and the hash carried on from part to part.
-use crate::case::{Doc, Query};
+use crate::case::{Doc, Label, Query};
 use crate::ffi::{self, Added};
 use crate::model::label::{hash_bytes, START};
 use crate::parting::{added, places, Name, PART};
@@ -36,12 +36,12 @@ pub fn spoilt(random: &mut Random, given: &Added) -> Added {
 pub fn cuts(query: &Query) -> [usize; 2] {
     let mut bytes: Vec<u8> = query.vector.iter().flat_map(|x| x.to_bits().to_le_bytes()).collect();
     bytes.extend(query.k.to_le_bytes());
-    let length = query.label.as_ref().map_or(0, String::len);
+    let length = query.label.as_ref().map_or(0, |label| label.len());
     places(&mut Random::new(hash_bytes(&bytes)), length, length)
 }
 
 /// Whether the library's hash of the first part, carried on through the second, is that of the name.
-pub fn carried_on(label: &str, at: usize) -> bool {
-    let name = Name::cut(label.as_bytes(), at);
-    ffi::label_hash(ffi::label_hash(START, name.first), name.second) == hash_bytes(label.as_bytes())
+pub fn carried_on(label: &Label, at: usize) -> bool {
+    let name = Name::cut(label, at);
+    ffi::label_hash(ffi::label_hash(START, name.first), name.second) == hash_bytes(label)
 }

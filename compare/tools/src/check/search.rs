@@ -13,7 +13,7 @@ pub fn search(ours: &mut Ours, query: &Query, at: usize) -> Result<Answer, Strin
     let places = query.k + 2;
     let (mut ids, mut distances) = (vec![OLD_ID; places], vec![OLD_DISTANCE; places]);
     let mut answer = [usize::MAX; 3];
-    let parts = query.label.as_ref().map(|label| [label.as_bytes()[..at].to_vec(), label.as_bytes()[at..].to_vec()]);
+    let parts = query.label.as_ref().map(|label| [label[..at].to_vec(), label[at..].to_vec()]);
     let label = parts.as_ref().map(|[first, second]| Name { first, second });
     let asked = Asked { query: &query.vector, label, k: query.k };
     let filled = Filled { ids: &mut ids, distances: &mut distances, answer: &mut answer };

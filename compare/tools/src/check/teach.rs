@@ -1,6 +1,6 @@
 //! Teaching a case: its documents in order, and in between others that are taken back (K3 of document 02). Every call is compared with a model that keeps
-//! the states before the adds that stand, and in each place of the lists what the last add wrote there. Two indexes are taught the same names, each cut in
-//! two ways (K7).
+//! the states before the adds that stand, and in each place of the lists what the last add wrote there, label text too (K4). Two indexes are taught the same
+//! names, each cut in two ways (K7).
 use super::case::need;
 use super::layout::{put_one, same_lists};
 use super::names::{spoilt, twice};
@@ -10,7 +10,7 @@ use crate::generate::labels;
 use crate::generate::vectors::Maker;
 use crate::model::label::hash_bytes;
 use crate::model::refusal::{self, Lent, State};
-use crate::ours::{Lists, Ours};
+use crate::ours::{Lists, Ours, STATE};
 use crate::parting::NAME;
 use crate::random::Random;
 
@@ -20,9 +20,10 @@ const JUNK: u32 = 0x3F12_3456;
 pub struct Taught {
     pub pair: [Ours; 2],
     pub lists: Lists,
-    state: [usize; 12],
-    before: Vec<[usize; 12]>,
+    state: [usize; STATE],
+    before: Vec<[usize; STATE]>,
     pub taken_back: usize,
+    pub text_full: usize,
     pub parted: usize,
 }
 
@@ -30,7 +31,8 @@ impl Taught {
     fn new(case: &Case) -> Result<Taught, String> {
         let lists = Lists::new(case.shape, JUNK, 3);
         let ours = Ours::new(case.shape, lists.clone()).map_err(|n| format!("new refused {n}"))?;
-        Ok(Taught { state: ours.state, pair: [ours.clone(), ours], lists, before: Vec::new(), taken_back: 0, parted: 0 })
+        let state = ours.state;
+        Ok(Taught { pair: [ours.clone(), ours], lists, state, before: Vec::new(), taken_back: 0, text_full: 0, parted: 0 })
     }
 
     /// Whether the state and every place are as the model has them.
@@ -55,6 +57,7 @@ impl Taught {
         let expected = refusal::add(&state, Lent::of(&self.lists), &given[0]);
         let got = [0, 1].map(|i| self.pair[i].give(&given[i]).err());
         need(got == [expected; 2], || format!("add: refused {got:?}, not {expected:?}"))?;
+        self.text_full += usize::from(expected == Some(20));
         if expected.is_some() {
             self.same("refused add")?;
             return Ok(false);
@@ -63,6 +66,7 @@ impl Taught {
         self.before.push(self.state);
         self.state[8] += 1;
         self.state[9] += given[0].labels();
+        self.state[13] += given[0].bytes.len();
         self.alike("add")?;
         Ok(true)
     }
@@ -135,7 +139,7 @@ fn other(random: &mut Random, case: &Case) -> Doc {
     }
     let id = if random.one_in(2) { own.id } else { random.bits() as u32 };
     let maker = Maker::new(random, case.shape.dimension);
-    let (pool, most) = (labels::pool(random, NAME), random.below(5));
+    let (pool, most) = (labels::pool(random, NAME, true), random.below(5));
     Doc { id, vector: maker.vector(random), labels: labels::some(random, &pool, most, true) }
 }
 
@@ -143,7 +147,7 @@ fn other(random: &mut Random, case: &Case) -> Doc {
 fn seed(doc: &Doc) -> u64 {
     let mut bytes = doc.id.to_le_bytes().to_vec();
     doc.vector.iter().for_each(|x| bytes.extend(x.to_bits().to_le_bytes()));
-    doc.labels.iter().for_each(|label| bytes.extend(label.bytes()));
+    doc.labels.iter().for_each(|label| bytes.extend(label.iter()));
     hash_bytes(&bytes)
 }
 

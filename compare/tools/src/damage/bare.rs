@@ -1,5 +1,6 @@
 //! Lists whose memory is not initialised but for what an index holds. Under a memory checker a call that reads anything else is reported.
 use crate::model::refusal::State;
+use crate::model::store::View;
 use crate::ours::Lists;
 use std::alloc::{alloc, dealloc, Layout};
 
@@ -40,6 +41,7 @@ pub struct BareLists {
     pub floats: Bare<f32>,
     pub numbers: Bare<u32>,
     pub hashes: Bare<u64>,
+    pub text: Bare<u8>,
     pub work: Bare<u32>,
 }
 
@@ -49,9 +51,14 @@ impl BareLists {
         BareLists::with(state, from, BareLists::put_held)
     }
 
-    /// Of what is held the owners alone, which is all that a taking back may read.
+    /// Of what is held all but the labels' starts, lengths and bytes, which no build reads, and no search that is not filtered.
+    pub fn no_labels(state: &State, from: &Lists) -> BareLists {
+        BareLists::with(state, from, BareLists::put_unlabelled)
+    }
+
+    /// Of what is held the owners and the start of the first entry that goes, which is all that a taking back may read.
     pub fn owners(state: &State, from: &Lists) -> BareLists {
-        BareLists::with(state, from, BareLists::put_owners)
+        BareLists::with(state, from, BareLists::put_to_take_back)
     }
 
     fn with(state: &State, from: &Lists, put: fn(&mut BareLists, &State, &Lists)) -> BareLists {
@@ -59,10 +66,11 @@ impl BareLists {
             floats: Bare::new(from.floats.len()),
             numbers: Bare::new(from.numbers.len()),
             hashes: Bare::new(from.hashes.len()),
+            text: Bare::new(from.text.len()),
             work: Bare::new(from.work.len()),
         };
         let s = &state.shape;
-        let sound = state.sound();
+        let sound = state.sound() && from.text.len() >= s.text;
         if sound && from.floats.len() >= s.floats() && from.numbers.len() >= s.numbers() && from.hashes.len() >= s.hashes() {
             put(&mut lists, state, from);
         }
@@ -73,7 +81,22 @@ impl BareLists {
         self.numbers.put(&from.numbers, state.shape.vectors, state.entries);
     }
 
+    fn put_to_take_back(&mut self, state: &State, from: &Lists) {
+        self.put_owners(state, from);
+        let taken = if state.vectors == 0 { 0 } else { View { state: *state, store: from.lend() }.taken_back() };
+        if taken > 0 {
+            self.numbers.put(&from.numbers, state.shape.starts() + state.entries - taken, 1);
+        }
+    }
+
     fn put_held(&mut self, state: &State, from: &Lists) {
+        self.put_unlabelled(state, from);
+        self.numbers.put(&from.numbers, state.shape.starts(), state.entries);
+        self.numbers.put(&from.numbers, state.shape.lengths(), state.entries);
+        self.text.put(&from.text, 0, state.bytes);
+    }
+
+    fn put_unlabelled(&mut self, state: &State, from: &Lists) {
         let s = &state.shape;
         let (n, e, nodes) = (state.vectors, state.entries, state.nodes);
         let order = s.vectors + s.entries;

@@ -1,7 +1,7 @@
 //! Calls on copies of the lists that lie between guard pages.
 use super::guard::Guarded;
 use crate::ffi::{self, Added, Asked, Filled, Store, StoreMut};
-use crate::ours::{Lists, Ours};
+use crate::ours::{Lists, Ours, STATE};
 use crate::parting::Name;
 
 /// What a call left.
@@ -21,6 +21,7 @@ struct Lent {
     floats: Guarded<f32>,
     numbers: Guarded<u32>,
     hashes: Guarded<u64>,
+    text: Guarded<u8>,
     work: Guarded<u32>,
     ids: Guarded<u32>,
     distances: Guarded<f32>,
@@ -34,6 +35,7 @@ impl Lent {
             floats: Guarded::new(&ours.lists.floats),
             numbers: Guarded::new(&ours.lists.numbers),
             hashes: Guarded::new(&ours.lists.hashes),
+            text: Guarded::new(&ours.lists.text),
             work: Guarded::new(&ours.lists.work),
             ids: Guarded::new(&vec![OLD.0; places]),
             distances: Guarded::new(&vec![OLD.1; places]),
@@ -42,7 +44,8 @@ impl Lent {
     }
 
     fn store_mut(&mut self) -> StoreMut<'_> {
-        StoreMut { floats: self.floats.get_mut(), numbers: self.numbers.get_mut(), hashes: self.hashes.get_mut() }
+        let (floats, numbers) = (self.floats.get_mut(), self.numbers.get_mut());
+        StoreMut { floats, numbers, hashes: self.hashes.get_mut(), text: self.text.get_mut() }
     }
 
     fn intact(&self) -> bool {
@@ -50,6 +53,7 @@ impl Lent {
             && self.floats.intact()
             && self.numbers.intact()
             && self.hashes.intact()
+            && self.text.intact()
             && self.work.intact()
             && self.ids.intact()
             && self.distances.intact()
@@ -64,9 +68,11 @@ impl Lent {
             floats: self.floats.get().to_vec(),
             numbers: self.numbers.get().to_vec(),
             hashes: self.hashes.get().to_vec(),
+            text: self.text.get().to_vec(),
             work: self.work.get().to_vec(),
         };
-        let ours = Ours { state: self.state.get().try_into().expect("12 numbers"), lists };
+        let state: [usize; STATE] = self.state.get().try_into().expect("a state");
+        let ours = Ours { state, lists };
         Ok(Left {
             code,
             ours,
@@ -88,7 +94,7 @@ pub fn add(ours: &Ours, added: &Added) -> Result<Left, String> {
 
 pub fn take_back(ours: &Ours) -> Result<Left, String> {
     let mut lent = Lent::new(ours, 0);
-    let store = Store { floats: lent.floats.get(), numbers: lent.numbers.get(), hashes: lent.hashes.get() };
+    let store = Store { floats: lent.floats.get(), numbers: lent.numbers.get(), hashes: lent.hashes.get(), text: lent.text.get() };
     let code = ffi::take_back(lent.state.get_mut(), store);
     lent.left(code)
 }
@@ -107,7 +113,7 @@ pub fn search(ours: &Ours, asked: Asked, places: usize) -> Result<Left, String> 
     let mut lent = Lent::new(ours, places);
     let parts = asked.label.map(|name| [Guarded::new(name.first), Guarded::new(name.second)]);
     let label = parts.as_ref().map(|[first, second]| Name { first: first.get(), second: second.get() });
-    let store = Store { floats: lent.floats.get(), numbers: lent.numbers.get(), hashes: lent.hashes.get() };
+    let store = Store { floats: lent.floats.get(), numbers: lent.numbers.get(), hashes: lent.hashes.get(), text: lent.text.get() };
     let filled = Filled { ids: lent.ids.get_mut(), distances: lent.distances.get_mut(), answer: lent.answer.get_mut() };
     let code = ffi::search(lent.state.get(), store, lent.work.get_mut(), Asked { label, ..asked }, filled);
     lent.left(code)

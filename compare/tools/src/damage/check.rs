@@ -2,12 +2,11 @@
 use super::calls::{self, Left, OLD};
 use crate::check::layout::{expected, put_one, same_added, same_lists, same_store};
 use crate::ffi::{Added, Asked};
-use crate::model::label::hash_bytes;
 use crate::model::refusal::{self, Lent, State};
 use crate::model::search::answer;
 use crate::model::store::View;
-use crate::model::tree::{Stored, Tree};
-use crate::ours::{Answer, Lists, Ours};
+use crate::model::tree::{Names, Stored, Tree};
+use crate::ours::{Answer, Lists, Ours, STATE};
 
 /// How a call ended: the number that it returned, and whether a NaN came out as a distance or in a centroid.
 #[derive(Clone, Copy)]
@@ -33,14 +32,15 @@ fn holds(left: &Left, answer: Option<&Answer>) -> bool {
         && left.distances.iter().enumerate().all(|(i, x)| x.to_bits() == bits(i))
 }
 
-/// The code, and for an answer the hits, that document 01 defines.
+/// The code, and for an answer the hits, that documents 01 and 02 define.
 pub fn search_result(ours: &Ours, asked: Asked, places: usize) -> (u32, Option<Answer>) {
     let state = State::of(&ours.state);
     if let Some(number) = refusal::search(&state, Lent::of(&ours.lists), asked, places) {
         return (number, None);
     }
     let store = ours.lists.lend();
-    match (View { state, store }).walk(asked.query, asked.label.map(|name| hash_bytes(&name.joined()))) {
+    let label = asked.label.map(|name| name.joined());
+    match (View { state, store }).walk(asked.query, label.as_deref()) {
         Ok(walk) => (0, Some(answer(&walk, asked.k))),
         Err(_) => (15, None),
     }
@@ -66,12 +66,13 @@ pub fn search(ours: &Ours, asked: Asked, places: usize) -> Checked {
 fn stored(state: &State, lists: &Lists) -> Stored {
     let s = &state.shape;
     let d = s.dimension;
-    let owners = &lists.numbers[s.vectors..s.vectors + state.entries];
+    let of_entries = |at: usize| lists.numbers[at..at + state.entries].iter().map(|&x| x as usize).collect();
     Stored {
         ids: lists.numbers[..state.vectors].to_vec(),
         vectors: (0..state.vectors).map(|i| lists.floats[i * d..i * d + d].to_vec()).collect(),
-        owners: owners.iter().map(|&x| x as usize).collect(),
+        owners: of_entries(s.vectors),
         hashes: lists.hashes[..state.entries].to_vec(),
+        names: Names { starts: of_entries(s.starts()), lengths: of_entries(s.lengths()), text: lists.text[..state.bytes].to_vec() },
     }
 }
 
@@ -93,7 +94,7 @@ fn check_made(ours: &Ours, left: &Left) -> Checked {
     if !same_store(shape, &expected(&tree, shape, before.clone(), true), after) {
         return Err("build: the store differs from the model".into());
     }
-    if left.ours.state[10..] != [tree.nodes.len(), 1] {
+    if left.ours.state[10..12] != [tree.nodes.len(), 1] {
         return Err("build: nodes or the built flag".into());
     }
     let nan = tree.nodes.iter().any(|node| node.centroid.iter().any(|x| x.is_nan()));
@@ -113,8 +114,11 @@ pub fn build(ours: &Ours) -> Checked {
         }
     };
     let code = end.code;
-    let changed = usize::from(code == 0) * 2;
-    if left.code != code || left.ours.state[..12 - changed] != ours.state[..12 - changed] {
+    let mut numbers = ours.state;
+    if code == 0 {
+        numbers[10..12].copy_from_slice(&left.ours.state[10..12]);
+    }
+    if left.code != code || left.ours.state != numbers {
         return Err(format!("build: {}, not {code}, or the state", left.code));
     }
     Ok(end)
@@ -128,6 +132,7 @@ pub fn add(ours: &Ours, added: &Added) -> Checked {
     if refused.is_none() {
         numbers[8] += 1;
         numbers[9] += added.labels();
+        numbers[13] += added.bytes.len();
         put_one(&state, &mut lists, added);
     }
     let code = refused.unwrap_or(0);
@@ -138,13 +143,15 @@ pub fn add(ours: &Ours, added: &Added) -> Checked {
 }
 
 /// The number that document 02 defines for a taking back, and the state after it.
-pub fn take_back_result(ours: &Ours) -> (u32, [usize; 12]) {
+pub fn take_back_result(ours: &Ours) -> (u32, [usize; STATE]) {
     let mut numbers = ours.state;
     let state = State::of(&numbers);
     let refused = refusal::take_back(&state, Lent::of(&ours.lists));
     if refused.is_none() {
         numbers[8] -= 1;
-        numbers[9] -= View { state, store: ours.lists.lend() }.taken_back();
+        let view = View { state, store: ours.lists.lend() };
+        numbers[9] -= view.taken_back();
+        numbers[13] = view.bytes_left();
     }
     (refused.unwrap_or(0), numbers)
 }

@@ -1,7 +1,7 @@
 //! What is damaged, and how.
 use crate::case::Case;
-use crate::model::refusal::State;
-use crate::ours::{Lists, Ours};
+use crate::model::refusal::{State, MOST_TEXT};
+use crate::ours::{Lists, Ours, STATE};
 use crate::parting::{added, place, PART};
 use crate::random::Random;
 
@@ -47,10 +47,10 @@ fn damage_numbers(random: &mut Random, ours: &mut Ours) {
     let s = ours.shape();
     let order = s.vectors + s.entries;
     let table = order + s.vectors;
-    let cuts = [0, s.vectors, order, table, table + 6 * s.nodes, table + 7 * s.nodes];
+    let cuts = [0, s.vectors, order, table, table + 6 * s.nodes, table + 7 * s.nodes, s.starts(), s.lengths()];
     let (start, end) = part(random, &cuts, s.numbers());
     for _ in 0..times(random, end - start) {
-        let near = *random.of(&[ours.state[8], ours.state[9], ours.state[10], 2]);
+        let near = *random.of(&[ours.state[8], ours.state[9], ours.state[10], ours.state[13], 2]);
         ours.lists.numbers[random.from(start, end - 1)] = number(random, near);
     }
 }
@@ -62,18 +62,53 @@ fn damage_floats(random: &mut Random, lists: &mut Lists) {
     }
 }
 
-fn damage_hashes(random: &mut Random, lists: &mut Lists) {
+/// A hash: none's, every filter's, or another entry's, which has other bytes.
+fn damage_hashes(random: &mut Random, lists: &mut Lists, entries: usize) {
     for _ in 0..times(random, lists.hashes.len()) {
         let at = random.below(lists.hashes.len());
-        lists.hashes[at] = if random.one_in(3) { u64::MAX } else { random.bits() };
+        lists.hashes[at] = match random.below(3) {
+            0 => u64::MAX,
+            1 if entries > 0 => lists.hashes[random.below(entries)],
+            _ => random.bits(),
+        };
     }
 }
 
-/// One or two numbers of the state: any, near a limit of document 01, or near what they were.
-fn damage_state(random: &mut Random, state: &mut [usize; 12]) {
-    let limits = [128, 64, 4096, 65537, 65535, 4096, 16384, 65537, 4096, 16384, 65537, 1];
+/// One entry's start and length: the sum at the bytes held or beside them, or another entry's.
+fn damage_label(random: &mut Random, ours: &mut Ours) {
+    let (s, held, entries) = (ours.shape(), ours.state[13], ours.state[9]);
+    if entries == 0 {
+        return;
+    }
+    let (at, other) = (random.below(entries), random.below(entries));
+    let numbers = &mut ours.lists.numbers;
+    let start = random.from(0, held);
+    let (start, length) = match random.below(4) {
+        0 => (numbers[s.starts() + other], numbers[s.lengths() + other]),
+        1 => (start as u32, (held - start) as u32),
+        2 => (start as u32, (held - start + 1) as u32),
+        _ => (u32::MAX - random.below(9) as u32, random.below(held + 20) as u32),
+    };
+    (numbers[s.starts() + at], numbers[s.lengths() + at]) = (start, length);
+}
+
+/// Starts and lengths of a few entries, and bytes of the text, held or not.
+fn damage_text(random: &mut Random, ours: &mut Ours) {
+    for _ in 0..random.below(4) {
+        damage_label(random, ours);
+    }
+    let places = ours.lists.text.len();
+    for _ in 0..if places == 0 { 0 } else { times(random, places) } {
+        let at = random.below(places);
+        ours.lists.text[at] = random.bits() as u8;
+    }
+}
+
+/// One or two numbers of the state: any, near a limit of document 01 or 02, or near what they were.
+fn damage_state(random: &mut Random, state: &mut [usize; STATE]) {
+    let limits = [128, 64, 4096, 65537, 65535, 4096, 16384, 65537, 4096, 16384, 65537, 1, MOST_TEXT, MOST_TEXT];
     for _ in 0..random.from(1, 2) {
-        let at = random.below(12);
+        let at = random.below(STATE);
         state[at] = match random.below(5) {
             0 => random.bits() as usize,
             1 => limits[at] + random.below(3),
@@ -102,7 +137,10 @@ pub fn damaged(random: &mut Random, case: &Case) -> Ours {
         damage_floats(random, &mut ours.lists);
     }
     if random.one_in(2) {
-        damage_hashes(random, &mut ours.lists);
+        damage_hashes(random, &mut ours.lists, ours.state[9]);
+    }
+    if random.one_in(3) {
+        damage_text(random, &mut ours);
     }
     if random.one_in(4) {
         damage_state(random, &mut ours.state);
@@ -129,8 +167,16 @@ fn owners_damaged(random: &mut Random, entries: usize) -> usize {
     }
 }
 
+/// A start for an entry that goes: any, or near the bytes held.
+fn start(random: &mut Random, bytes: usize) -> u32 {
+    match random.below(3) {
+        0 => (bytes + random.below(3)).saturating_sub(1) as u32,
+        _ => number(random, bytes),
+    }
+}
+
 /// A copy to take back from: not built in most cases, without vectors in some, with other owners at the end of those held, each by itself or all the last
-/// vector.
+/// vector, and in half of the cases with other starts.
 pub fn to_take_back(random: &mut Random, ours: &Ours) -> Ours {
     let mut ours = ours.clone();
     if !random.one_in(8) {
@@ -143,10 +189,13 @@ pub fn to_take_back(random: &mut Random, ours: &Ours) -> Ours {
     if !state.sound() || ours.lists.numbers.len() < state.shape.numbers() {
         return ours;
     }
-    let one = random.one_in(6);
-    let end = state.shape.vectors + state.entries;
-    for at in end - owners_damaged(random, state.entries)..end {
-        ours.lists.numbers[at] = if one { state.vectors.wrapping_sub(1) as u32 } else { owner(random, state.vectors) };
+    let (one, starts) = (random.one_in(6), random.one_in(2));
+    for entry in state.entries - owners_damaged(random, state.entries)..state.entries {
+        let owner = if one { state.vectors.wrapping_sub(1) as u32 } else { owner(random, state.vectors) };
+        ours.lists.numbers[state.shape.vectors + entry] = owner;
+        if starts {
+            ours.lists.numbers[state.shape.starts() + entry] = start(random, state.bytes);
+        }
     }
     ours
 }

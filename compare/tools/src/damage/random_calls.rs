@@ -1,14 +1,15 @@
 //! Random arguments of calls, and random damaged indexes.
 use super::make;
-use crate::case::Case;
+use crate::case::{Case, Label};
 use crate::ffi::Added;
 use crate::generate::index::{case, fit, Most};
+use crate::model::refusal::MOST_TEXT;
 use crate::model::tree::Tree;
 use crate::ours::Ours;
 use crate::parting::{places, recut, Name, NAME};
 use crate::random::Random;
 
-const SMALL: Most = Most { dimension: 16, vectors: 60, entries: 120, name: NAME };
+const SMALL: Most = Most { dimension: 16, vectors: 60, entries: 120, name: NAME, text: MOST_TEXT, alike: true };
 
 /// A component: finite in most cases.
 fn component(random: &mut Random) -> f32 {
@@ -24,11 +25,12 @@ pub fn vector(random: &mut Random, dimension: usize) -> Vec<f32> {
     (0..length).map(|_| component(random)).collect()
 }
 
-/// A part's length: none, the longest, or any.
+/// A part's length: none, the longest, short, or any.
 fn length(random: &mut Random) -> u8 {
     match random.below(6) {
         0 => 0,
         1 => u8::MAX,
+        2..=4 => random.below(6) as u8,
         _ => random.below(256) as u8,
     }
 }
@@ -52,8 +54,8 @@ pub fn parted_otherwise(random: &mut Random, given: &Added) -> Option<Added> {
 }
 
 /// A label's name, cut anywhere, at two places.
-pub fn cut_twice<'a>(random: &mut Random, label: &'a str) -> [Option<Name<'a>>; 2] {
-    places(random, label.len(), label.len()).map(|at| Some(Name::cut(label.as_bytes(), at)))
+pub fn cut_twice<'a>(random: &mut Random, label: &'a Label) -> [Option<Name<'a>>; 2] {
+    places(random, label.len(), label.len()).map(|at| Some(Name::cut(label, at)))
 }
 
 /// Makes one list shorter, now and then.
@@ -65,18 +67,19 @@ fn shorten(random: &mut Random, ours: &mut Ours) {
         1 => lists.numbers.truncate(lists.numbers.len().saturating_sub(by)),
         2 => lists.hashes.truncate(lists.hashes.len().saturating_sub(by)),
         3 => lists.work.truncate(lists.work.len().saturating_sub(by)),
+        4 => lists.text.truncate(lists.text.len().saturating_sub(by)),
         _ => {}
     }
 }
 
-/// The labels of a case, and one that it has not.
-fn labels(case: &Case) -> Vec<String> {
+/// The labels of a case, and two that it has not; another of its labels may have the hash of the second.
+fn labels(case: &Case) -> Vec<Label> {
     let all = case.docs.iter().flat_map(|doc| doc.labels.clone());
-    all.chain(["none".to_string()]).collect()
+    all.chain([Label::from("none"), Label::from("77kepQFQ8Kl\0\0\0")]).collect()
 }
 
 /// A damaged index, and labels to search for.
-pub fn damaged(random: &mut Random) -> (Ours, Vec<String>) {
+pub fn damaged(random: &mut Random) -> (Ours, Vec<Label>) {
     let mut case = case(random, SMALL);
     let nodes = Tree::build(&case).nodes.len();
     fit(random, &mut case, nodes);

@@ -1,8 +1,8 @@
-//! State and answer lists that are too short for what they are to hold: a state has 12 places, an answer 3.
+//! State and answer lists that are too short for what they are to hold: a state has 14 places, an answer 3.
 use super::guard::Guarded;
 use crate::ffi::{self, Added, Asked, Filled};
 use crate::model::refusal::{self, Lent, State};
-use crate::ours::Ours;
+use crate::ours::{Ours, STATE};
 
 /// The number that a search returns with a state of so many places and an answer list of so many.
 fn search(ours: &Ours, asked: Asked, places: usize, state: usize, answer: usize) -> Result<u32, String> {
@@ -39,7 +39,7 @@ pub fn short_answer(ours: &Ours, asked: Asked, places: usize) -> Result<(), Stri
     let lent = Lent::of(&ours.lists);
     let never = Asked { k: usize::MAX, ..asked };
     let expected = refusal::search(&State::of(&ours.state), lent, never, asked.k).unwrap_or(0);
-    let code = search(ours, asked, asked.k, 12, places)?;
+    let code = search(ours, asked, asked.k, STATE, places)?;
     if code == expected {
         return Ok(());
     }

@@ -4,12 +4,15 @@ use crate::model::refusal::State;
 use crate::model::store::View;
 use crate::ours::Ours;
 
-/// What the counts of calls name a taking back: how many entries go, and whether an entry that stays has the same owner.
+/// What the counts of calls name a taking back: how many entries go, whether an entry that stays has the same owner, and whether entries go and bytes stay.
 fn name(ours: &Ours, code: u32) -> &'static str {
     if code != 0 {
         return "take_back";
     }
     let view = View { state: State::of(&ours.state), store: ours.lists.lend() };
+    if view.taken_back() > 0 && view.bytes_left() == ours.state[13] && ours.state[13] > 0 {
+        return "take_back, the bytes held stay";
+    }
     match (view.taken_back(), view.kept_of_last()) {
         (0, false) => "take_back, no entry",
         (0, true) => "take_back, no entry, an earlier one stays",

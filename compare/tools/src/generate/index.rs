@@ -1,7 +1,8 @@
 //! Random cases: settings, documents and searches within the limits of document 01.
 use super::labels;
 use super::vectors::Maker;
-use crate::case::{Case, Doc, Query};
+use crate::case::{Case, Doc, Label, Query};
+use crate::model::refusal::MOST_TEXT;
 use crate::ours::Shape;
 use crate::parting::NAME;
 use crate::random::Random;
@@ -14,22 +15,35 @@ pub struct Most {
     pub entries: usize,
     /// Bytes of a label.
     pub name: usize,
+    /// Bytes of all labels.
+    pub text: usize,
+    /// Whether labels of one hash are among them.
+    pub alike: bool,
 }
 
 /// The sizes of documents 01 and 02.
-pub const WHOLE: Most = Most { dimension: 128, vectors: 4096, entries: 16384, name: NAME };
+pub const WHOLE: Most = Most { dimension: 128, vectors: 4096, entries: 16384, name: NAME, text: MOST_TEXT, alike: true };
 
 /// A case; its capacity of nodes is the largest tree's.
 pub fn case(random: &mut Random, most: Most) -> Case {
     let dimension = dimension(random).min(most.dimension);
     let n = size(random).min(most.vectors);
     let maker = Maker::new(random, dimension);
-    let pool = labels::pool(random, most.name);
-    let docs = docs(random, &maker, &pool, n, most.entries);
+    let pool = labels::pool(random, most.name, most.alike);
+    let docs = docs(random, &maker, &pool, n, most);
     let queries = (0..6).map(|_| query(random, &maker, &pool, &docs)).collect();
     let entries: usize = docs.iter().map(|doc: &Doc| doc.labels.len()).sum();
-    let shape = shape(random, dimension, n, entries, most);
-    Case { shape, docs, queries }
+    let mut case = Case { shape: shape(random, dimension, n, entries, most), docs, queries };
+    case.shape.text = room_for_text(&case, most.text);
+    case
+}
+
+/// Room for label text: just enough, a little more, or more. It is drawn from the beam width, so that the other numbers of a case do not hang on it.
+fn room_for_text(case: &Case, most: usize) -> usize {
+    let mut random = Random::new(case.shape.beam as u64);
+    let more = *random.of(&[0, 40, 2000]);
+    let bytes = case.bytes();
+    random.from(bytes, (bytes + more).min(most))
 }
 
 /// Room for nodes: more than needed, just enough, or one too few.
@@ -62,11 +76,26 @@ fn size(random: &mut Random) -> usize {
     }
 }
 
-fn docs(random: &mut Random, maker: &Maker, pool: &[String], n: usize, entries: usize) -> Vec<Doc> {
+fn docs(random: &mut Random, maker: &Maker, pool: &[Label], n: usize, most: Most) -> Vec<Doc> {
     let repeats = random.one_in(4);
     let ids = ids(random, n);
-    let most = random.from(0, 5).min(entries / n);
-    ids.into_iter().map(|id| Doc { id, vector: maker.vector(random), labels: labels::some(random, pool, most, repeats) }).collect()
+    let each = random.from(0, 5).min(most.entries / n);
+    let mut left = most.text;
+    let doc = |id: u32| {
+        let (vector, labels) = (maker.vector(random), labels::some(random, pool, each, repeats));
+        Doc { id, vector, labels: that_fit(labels, &mut left) }
+    };
+    ids.into_iter().map(doc).collect()
+}
+
+/// The labels whose bytes are not more than those that are left, from which they are taken.
+fn that_fit(labels: Vec<Label>, left: &mut usize) -> Vec<Label> {
+    let fits = |label: &Label| {
+        let rest = left.checked_sub(label.len());
+        *left = rest.unwrap_or(*left);
+        rest.is_some()
+    };
+    labels.into_iter().filter(fits).collect()
 }
 
 /// Document ids: in order, spread and different, or from a few.
@@ -85,7 +114,7 @@ fn ids(random: &mut Random, n: usize) -> Vec<u32> {
     }
 }
 
-fn query(random: &mut Random, maker: &Maker, pool: &[String], docs: &[Doc]) -> Query {
+fn query(random: &mut Random, maker: &Maker, pool: &[Label], docs: &[Doc]) -> Query {
     let vector = match random.below(3) {
         0 => random.of(docs).vector.clone(),
         _ => maker.vector(random),
@@ -131,5 +160,6 @@ fn shape(random: &mut Random, dimension: usize, n: usize, entries: usize, most: 
         vectors: random.from(n, (n + 5).min(most.vectors)),
         entries: random.from(entries, (entries + 5).min(most.entries)),
         nodes: 16 * n + 1,
+        text: 0,
     }
 }

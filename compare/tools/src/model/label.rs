@@ -13,10 +13,6 @@ pub fn hash_bytes(label: &[u8]) -> u64 {
     hash_from(START, label)
 }
 
-pub fn hash(label: &str) -> u64 {
-    hash_bytes(label.as_bytes())
-}
-
 /// 256 bits in four words.
 #[derive(Clone, Default, Debug, PartialEq)]
 pub struct Filter(pub [u64; 4]);

@@ -1,6 +1,9 @@
-//! 'Refusals and what they leave' of document 01, with rows 9 and 19 of document 02 (K7, K3): the rows of each call, in their order.
+//! 'Refusals and what they leave' of document 01, with rows 9, 19 and 20 of document 02 (K7, K3, K4): the rows of each call, in their order.
 use crate::ffi::{Added, Asked};
 use crate::ours::{Lists, Shape};
+
+/// The most bytes of label text that there may be room for.
+pub const MOST_TEXT: usize = 4_177_920;
 
 /// A state by its numbers.
 #[derive(Clone, Copy)]
@@ -10,14 +13,15 @@ pub struct State {
     pub entries: usize,
     pub nodes: usize,
     pub built: usize,
+    /// Of label text.
+    pub bytes: usize,
 }
 
 impl State {
     pub fn of(list: &[usize]) -> State {
-        let s = list;
-        let shape =
-            Shape { dimension: s[0], branching: s[1], leaf_size: s[2], ef: s[3], beam: s[4], vectors: s[5], entries: s[6], nodes: s[7] };
-        State { shape, vectors: s[8], entries: s[9], nodes: s[10], built: s[11] }
+        let [dimension, branching, leaf_size, ef, beam, vectors, entries, nodes] = *list.first_chunk().expect("eight numbers");
+        let shape = Shape { dimension, branching, leaf_size, ef, beam, vectors, entries, nodes, text: list[12] };
+        State { shape, vectors: list[8], entries: list[9], nodes: list[10], built: list[11], bytes: list[13] }
     }
 
     /// Row 4 does not hold.
@@ -25,8 +29,8 @@ impl State {
         let s = &self.shape;
         let settings =
             (1..=128).contains(&s.dimension) && (1..=64).contains(&s.branching) && s.leaf_size <= 4096 && s.ef <= 65537 && s.beam <= 65535;
-        let capacities = (1..=4096).contains(&s.vectors) && s.entries <= 16384 && (1..=65537).contains(&s.nodes);
-        let counts = self.vectors <= s.vectors && self.entries <= s.entries && self.nodes <= s.nodes;
+        let capacities = (1..=4096).contains(&s.vectors) && s.entries <= 16384 && (1..=65537).contains(&s.nodes) && s.text <= MOST_TEXT;
+        let counts = self.vectors <= s.vectors && self.entries <= s.entries && self.nodes <= s.nodes && self.bytes <= s.text;
         let flag = match self.built {
             0 => self.nodes == 0,
             1 => self.vectors > 0 && self.nodes > 0,
@@ -42,18 +46,21 @@ pub struct Lent {
     pub floats: usize,
     pub numbers: usize,
     pub hashes: usize,
+    pub text: usize,
     pub work: usize,
 }
 
 impl Lent {
     pub fn of(lists: &Lists) -> Lent {
-        Lent { floats: lists.floats.len(), numbers: lists.numbers.len(), hashes: lists.hashes.len(), work: lists.work.len() }
+        let Lists { floats, numbers, hashes, text, work } = lists;
+        Lent { floats: floats.len(), numbers: numbers.len(), hashes: hashes.len(), text: text.len(), work: work.len() }
     }
 }
 
 /// Row 3.
 fn short(s: &Shape, lent: Lent, with_work: bool) -> bool {
-    lent.floats < s.floats() || lent.numbers < s.numbers() || lent.hashes < s.hashes() || with_work && lent.work < s.work()
+    let store = lent.floats < s.floats() || lent.numbers < s.numbers() || lent.hashes < s.hashes() || lent.text < s.text;
+    store || with_work && lent.work < s.work()
 }
 
 /// The first row that holds, of rows whose test is only made if no earlier one holds.
@@ -76,6 +83,7 @@ pub fn add(state: &State, lent: Lent, added: &Added) -> Option<u32> {
         added.lengths.len() % 2 == 1 || sum != added.bytes.len() => 9,
         state.vectors == state.shape.vectors => 10,
         state.entries + added.labels() > state.shape.entries => 11,
+        state.bytes + added.bytes.len() > state.shape.text => 20,
     }
     None
 }

@@ -1,8 +1,8 @@
-//! 'Search' of document 01.
-use super::label::hash;
+//! 'Search' of document 01; a label is its bytes (K4 of document 02).
+use super::label::hash_bytes;
 use super::number::{distance, normalized};
 use super::tree::Tree;
-use crate::case::Query;
+use crate::case::{Case, Query};
 use crate::ours::Answer;
 
 /// What a walk gives: the raw hits (id, distance, vector number), the nodes opened, and whether no node waited.
@@ -12,16 +12,36 @@ pub struct Walk {
     pub whole: bool,
 }
 
-/// The vectors that an opened leaf gives.
-fn given(tree: &Tree, leaf: usize, wanted: Option<u64>) -> Vec<usize> {
+/// A label that is searched for.
+#[derive(Clone, Copy)]
+pub struct Wanted<'a> {
+    pub hash: u64,
+    pub bytes: &'a [u8],
+}
+
+impl<'a> Wanted<'a> {
+    pub fn of(bytes: &'a [u8]) -> Wanted<'a> {
+        Wanted { hash: hash_bytes(bytes), bytes }
+    }
+}
+
+/// The vectors that an opened leaf gives: 'an entry is a label's if its hash and bytes are'.
+fn given(tree: &Tree, leaf: usize, wanted: Option<Wanted>) -> Vec<usize> {
     let node = &tree.nodes[leaf];
     match wanted {
         None => node.vectors.clone(),
-        Some(hash) => {
-            let with = node.entries.iter().filter(|&&entry| tree.hashes[entry] == hash);
-            with.map(|&entry| tree.owners[entry]).collect()
+        Some(label) => {
+            let is = |&&entry: &&usize| tree.hashes[entry] == label.hash && tree.names.of_entry(entry) == label.bytes;
+            node.entries.iter().filter(is).map(|&entry| tree.owners[entry]).collect()
         }
     }
+}
+
+/// Whether an entry has another label of the hash that is searched for: then the original, which goes by the hash, is no reference.
+pub fn shares_hash(tree: &Tree, query: &Query) -> bool {
+    let Some(label) = &query.label else { return false };
+    let hash = hash_bytes(label);
+    (0..tree.hashes.len()).any(|entry| tree.hashes[entry] == hash && *tree.names.of_entry(entry) != **label)
 }
 
 /// The least waiting node by distance in total order, then number; it no longer waits.
@@ -33,7 +53,7 @@ pub fn take_least(waiting: &mut Vec<(f32, usize)>) -> Option<usize> {
 
 pub fn walk(tree: &Tree, query: &Query) -> Walk {
     let q = normalized(&query.vector);
-    let wanted = query.label.as_ref().map(|label| hash(label));
+    let wanted = query.label.as_ref().map(|label| Wanted::of(label));
     let mut walk = Walk { raw: Vec::new(), opened: 0, whole: true };
     let mut waiting = vec![(distance(&q, &tree.nodes[0].centroid), 0)];
     while !waiting.is_empty() {
@@ -44,7 +64,7 @@ pub fn walk(tree: &Tree, query: &Query) -> Walk {
         let number = take_least(&mut waiting).expect("a node waits");
         walk.opened += 1;
         let node = &tree.nodes[number];
-        if wanted.is_some_and(|hash| node.filter.denies(hash)) {
+        if wanted.is_some_and(|label| node.filter.denies(label.hash)) {
             continue;
         }
         if node.children.is_empty() {
@@ -66,18 +86,12 @@ pub fn answer(walk: &Walk, k: usize) -> Answer {
     Answer { hits: hits.into_iter().map(|(id, distance, _)| (id, distance)).collect(), opened: walk.opened, whole: walk.whole }
 }
 
-/// Without any tree: the first k of all vectors, or of those with the label, for ids that are all different and labels that are not repeated.
-pub fn brute_force(tree: &Tree, query: &Query) -> Vec<(u32, f32)> {
+/// Without any tree, store or hash: the first k of all vectors, or of those with a label of the same bytes, for ids that are all different and labels that
+/// are not repeated.
+pub fn brute_force(case: &Case, query: &Query) -> Vec<(u32, f32)> {
     let q = normalized(&query.vector);
-    let wanted = query.label.as_ref().map(|label| hash(label));
-    let chosen: Vec<usize> = match wanted {
-        None => (0..tree.ids.len()).collect(),
-        Some(hash) => {
-            let with = tree.owners.iter().zip(&tree.hashes).filter(|pair| *pair.1 == hash);
-            with.map(|pair| *pair.0).collect()
-        }
-    };
-    let mut hits: Vec<(u32, f32)> = chosen.iter().map(|&v| (tree.ids[v], distance(&q, &tree.vectors[v]))).collect();
+    let chosen = case.docs.iter().filter(|doc| query.label.as_ref().is_none_or(|label| doc.labels.contains(label)));
+    let mut hits: Vec<(u32, f32)> = chosen.map(|doc| (doc.id, distance(&q, &normalized(&doc.vector)))).collect();
     hits.sort_by(|a, b| a.1.total_cmp(&b.1).then(a.0.cmp(&b.0)));
     hits.truncate(query.k);
     hits

@@ -1,9 +1,9 @@
-//! Calls over the numbers of a store, whatever they are: a search ('Search' and 'Search's 15' of document 01), and how many entries a taking back takes
-//! (K3 of document 02).
+//! Calls over the numbers of a store, whatever they are: a search ('Search' and 'Search's 15' of document 01; labels by their bytes, K4 of document 02), and
+//! how many entries a taking back takes, and how many bytes it leaves (K3, K4).
 use super::label::Filter;
 use super::number::{distance, normalized};
 use super::refusal::State;
-use super::search::Walk;
+use super::search::{Walk, Wanted};
 use crate::ffi::Store;
 
 /// The store is damaged: refusal 15.
@@ -38,11 +38,11 @@ impl View<'_> {
         Ok((0..count).map(|i| self.number(base + start + i)).collect())
     }
 
-    fn denies(&self, node: usize, wanted: Option<u64>) -> bool {
+    fn denies(&self, node: usize, wanted: Option<Wanted>) -> bool {
         let at = self.state.shape.entries + 4 * node;
         let words = &self.store.hashes[at..at + 4];
         let filter = Filter([words[0], words[1], words[2], words[3]]);
-        wanted.is_some_and(|hash| filter.denies(hash))
+        wanted.is_some_and(|label| filter.denies(label.hash))
     }
 
     /// The children of a node.
@@ -52,11 +52,24 @@ impl View<'_> {
         self.list(table + 6 * node, table + 6 * s.nodes, self.state.nodes)
     }
 
+    /// Whether an entry is a label's. One of the label's hash whose start plus length passes the bytes held is damaged.
+    fn is(&self, entry: usize, label: Wanted) -> Result<bool, Damaged> {
+        let s = &self.state.shape;
+        if self.store.hashes[entry] != label.hash {
+            return Ok(false);
+        }
+        let (start, length) = (self.number(s.starts() + entry), self.number(s.lengths() + entry));
+        if start + length > self.state.bytes {
+            return Err(Damaged);
+        }
+        Ok(self.store.text[start..start + length] == *label.bytes)
+    }
+
     /// The vectors that a leaf gives.
-    fn given(&self, node: usize, wanted: Option<u64>) -> Result<Vec<usize>, Damaged> {
+    fn given(&self, node: usize, wanted: Option<Wanted>) -> Result<Vec<usize>, Damaged> {
         let s = &self.state.shape;
         let at = 2 * s.vectors + s.entries + 6 * node;
-        let Some(hash) = wanted else {
+        let Some(label) = wanted else {
             let list = self.list(at + 2, s.vectors + s.entries, self.state.vectors)?;
             return below(list, self.state.vectors);
         };
@@ -64,8 +77,13 @@ impl View<'_> {
         let entries = below(self.list(at + 4, order, self.state.entries)?, self.state.entries)?;
         let owners = entries.iter().map(|&entry| self.number(s.vectors + entry)).collect();
         let owners = below(owners, self.state.vectors)?;
-        let with = |&(entry, _): &(usize, usize)| self.store.hashes[entry] == hash;
-        Ok(entries.into_iter().zip(owners).filter(with).map(|pair| pair.1).collect())
+        let mut given = Vec::new();
+        for (entry, owner) in entries.into_iter().zip(owners) {
+            if self.is(entry, label)? {
+                given.push(owner);
+            }
+        }
+        Ok(given)
     }
 
     fn near(&self, query: &[f32], node: usize) -> (f32, usize) {
@@ -104,13 +122,23 @@ impl View<'_> {
         self.state.entries - kept.map_or(0, |entry| entry + 1)
     }
 
+    /// The bytes held after a taking back: the start of the first entry that goes, if one goes and that is lower.
+    pub fn bytes_left(&self) -> usize {
+        let first = self.state.entries - self.taken_back();
+        if first == self.state.entries {
+            return self.state.bytes;
+        }
+        self.state.bytes.min(self.number(self.state.shape.starts() + first))
+    }
+
     /// Whether one of the entries that stay has the last vector as its owner too.
     pub fn kept_of_last(&self) -> bool {
         let kept = self.state.entries - self.taken_back();
         self.owners()[..kept].iter().any(|&owner| owner as usize == self.state.vectors - 1)
     }
 
-    pub fn walk(&self, query: &[f32], wanted: Option<u64>) -> Result<Walk, Damaged> {
+    pub fn walk(&self, query: &[f32], label: Option<&[u8]>) -> Result<Walk, Damaged> {
+        let wanted = label.map(Wanted::of);
         let q = normalized(query);
         let most = if wanted.is_some() { self.state.entries } else { self.state.vectors };
         let mut pushed = vec![false; self.state.nodes];

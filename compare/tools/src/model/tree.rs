@@ -1,8 +1,9 @@
 //! 'Clusters', 'Tree' and 'Entries' of document 01.
-use super::label::{hash, Filter};
+use super::label::{hash_bytes, Filter};
 use super::number::{distance, mean, normalized};
-use crate::case::{Case, Doc};
+use crate::case::{Case, Doc, Label};
 use crate::ours::Shape;
+use crate::parting::joined;
 
 /// A node. A leaf has no children, an inner node no vectors or entries.
 #[derive(Debug, Default)]
@@ -22,7 +23,30 @@ pub struct Tree {
     pub vectors: Vec<Vec<f32>>,
     pub owners: Vec<usize>,
     pub hashes: Vec<u64>,
+    pub names: Names,
     pub nodes: Vec<Node>,
+}
+
+/// The bytes of the entries' labels (K4 of document 02): one text, and in it start and length of each.
+#[derive(Default)]
+pub struct Names {
+    pub starts: Vec<usize>,
+    pub lengths: Vec<usize>,
+    pub text: Vec<u8>,
+}
+
+impl Names {
+    /// The labels one after the other: an entry starts at the bytes before it.
+    fn of(labels: &[Label]) -> Names {
+        let lengths: Vec<usize> = labels.iter().map(|label| label.len()).collect();
+        let starts = (0..labels.len()).scan(0, |next, i| Some(std::mem::replace(next, *next + lengths[i]))).collect();
+        Names { starts, lengths, text: joined(labels) }
+    }
+
+    /// The bytes of an entry's label.
+    pub fn of_entry(&self, entry: usize) -> &[u8] {
+        &self.text[self.starts[entry]..][..self.lengths[entry]]
+    }
 }
 
 /// What the adds have stored.
@@ -31,17 +55,19 @@ pub struct Stored {
     pub vectors: Vec<Vec<f32>>,
     pub owners: Vec<usize>,
     pub hashes: Vec<u64>,
+    pub names: Names,
 }
 
 impl Stored {
     /// Vectors are normalised; entries stand by vector, then label place.
     pub fn of(docs: &[Doc]) -> Stored {
-        let labelled = || docs.iter().enumerate().flat_map(|(i, doc)| doc.labels.iter().map(move |l| (i, l)));
+        let labels: Vec<Label> = docs.iter().flat_map(|doc| doc.labels.clone()).collect();
         Stored {
             ids: docs.iter().map(|doc| doc.id).collect(),
             vectors: docs.iter().map(|doc| normalized(&doc.vector)).collect(),
-            owners: labelled().map(|(i, _)| i).collect(),
-            hashes: labelled().map(|(_, label)| hash(label)).collect(),
+            owners: docs.iter().enumerate().flat_map(|(i, doc)| vec![i; doc.labels.len()]).collect(),
+            hashes: labels.iter().map(|label| hash_bytes(label)).collect(),
+            names: Names::of(&labels),
         }
     }
 }
@@ -53,9 +79,9 @@ impl Tree {
 
     /// The tree over what is stored.
     pub fn over(shape: &Shape, stored: Stored) -> Tree {
-        let Stored { ids, vectors, owners, hashes } = stored;
+        let Stored { ids, vectors, owners, hashes, names } = stored;
         let nodes = Vec::new();
-        let mut tree = Tree { dimension: shape.dimension, ef: shape.ef, ids, vectors, owners, hashes, nodes };
+        let mut tree = Tree { dimension: shape.dimension, ef: shape.ef, ids, vectors, owners, hashes, names, nodes };
         let paths = tree.make_nodes(shape.branching, shape.leaf_size);
         tree.enter(&paths);
         tree

@@ -4,7 +4,7 @@ use Rattle.best_first_walk.specs.Walks.{hitsPart, foundIn, WalkEnds}
 use Rattle.best_first_walk.specs.declared.Walked.{Walked}
 use Rattle.best_first_walk.specs.declared.Walked.the-variants as walked
 use Rattle.best_first_search.specs.Ranks.{Firsts}
-use Rattle.walk.specs.Wanted.{most}
+use Rattle.walk.specs.Wanted.{Sought, sought, most}
 use Rattle.walk.specs.LentLaws.{works-trans, works-sets}
 use Rattle.walk.specs.Contracts.{Works}
 use Rattle.store.specs.Lent.{storeOf}
@@ -27,7 +27,7 @@ use Rattle.best_first_search.proofs.best_first_search.Tie as tie
 
 -- the places: entry, the walk ended, it ended with hits, and the first k are taken
 abbrev entry : tie.After-walk-store → tie.Start
-entry w = w .before .before .before .before .before .before .before .before .before .before .before .before
+entry w = w .before .before .before .before .before .before .before .before .before .before .before .before .before .before .before
 
 abbrev from : tie.After-walked → tie.After-walk-store
 from h = h .before .before .before .before
@@ -38,16 +38,20 @@ hits t = t .before .before .before .before .before
 abbrev hit : tie.Start → ℕ → ℕ
 hit e = hitAt (e .args .shape) (e .args .floats .now) (e .args .numbers .now) (e .args .query .now)
 
-abbrev view : tie.Start → View
-view e = storeView (e .args .shape) (e .args .counts) (storeOf (e .args .floats .now) (e .args .numbers .now) (e .args .hashes .now)) (e .args .query .now) (e .args .wanted)
+-- what the search is about, and the view of the store
+abbrev wants : tie.Start → Sought
+wants e = sought (e .args .wanted) (e .args .first .now) (e .args .second .now)
 
-most-is : (e : tie.Start) → view e .most ≡ most (e .args .wanted) (e .args .counts)
+abbrev view : tie.Start → View
+view e = storeView (e .args .shape) (e .args .counts) (storeOf (e .args .floats .now) (e .args .numbers .now) (e .args .hashes .now) (e .args .text .now)) (e .args .query .now) (wants e)
+
+most-is : (e : tie.Start) → view e .most ≡ most (wants e) (e .args .counts)
 unfolding storeView
 most-is e = refl
 
 -- the work list after the walk, and the hits' part of it
 abbrev work : tie.After-walk-store → List ℕ
-work w = w .walk-store .last .1 .1 .1 .1 .1 .1 .0
+work w = w .walk-store .last .1 .1 .1 .1 .1 .1 .1 .0
 
 ends : (w : tie.After-walk-store) (r : Walked) → w .walk-store .result ≡ r
     → WalkEnds (entry w .args .shape) (entry w .args .counts) (hit (entry w)) (walk (view (entry w)) (entry w .args .ef-search)) r (work w)
@@ -152,7 +156,9 @@ enum-known-walked : tie.Need-enum-known-walked
 enum-known-walked c = search needs
 
 mul-first-hits : tie.Need-mul-first-hits
-mul-first-hits c = search needs
+mul-first-hits c =
+    let w = from (c .before) in
+    omega (arith, hits-start w, entry w .pre .lent .within .limits .nodes-high)
 
 sub-first-hits : tie.Need-sub-first-hits
 sub-first-hits c = search needs
@@ -170,7 +176,7 @@ first-hits-requires c κs =
     let a = entry w .args in
     let pre = entry w .pre in
     let lent = pre .lent in
-    ended-first (a .shape) (a .counts) (hit (entry w)) (a .wanted) (view (entry w)) (a .ef-search) (a .k) (found h) (opened h) (whole h) (work w) (lentHits w) _ (pre .lent .within .limits)
+    ended-first (a .shape) (a .counts) (hit (entry w)) (wants (entry w)) (view (entry w)) (a .ef-search) (a .k) (found h) (opened h) (whole h) (work w) (lentHits w) _ (pre .lent .within .limits)
     (most-is (entry w)) (pre .lent .within .vectors) (pre .lent .within .entries) (size w) (lent-hits w) (from-is w) (ended h)
     (a .floats .now) (a .numbers .now) (record { within = lent .within; floats-size = lent .long .floats; numbers-size = lent .long .numbers })
     (a .ids .now) (a .distances .now) (pre .ids-room) (pre .distances-room)
@@ -207,7 +213,7 @@ returns-2 c =
     record {
       ends = ended-search (a .shape) (a .counts) (hit (entry w)) (walk (view (entry w)) (a .ef-search)) (a .k) (found h) (opened h) (whole h) (work w) (a .ids .now) _ (a .distances .now) _ (t .first-hits .result) (ended h)
           (subst (λ (l : List ℕ). Firsts (map (hit (entry w)) l) (a .k) (a .ids .now) (a .distances .now) (t .first-hits .result) (last .1 .1 .1 .1 .1 .1 .1 .1 .1 .0) (last .1 .1 .1 .1 .1 .1 .1 .1 .1 .1 .0))
-          (ended-numbers (a .shape) (a .counts) (hit (entry w)) (a .wanted) (view (entry w)) (a .ef-search) (a .k) (found h) (opened h) (whole h) (work w) (lentHits w) _ (pre .lent .within .limits)
+          (ended-numbers (a .shape) (a .counts) (hit (entry w)) (wants (entry w)) (view (entry w)) (a .ef-search) (a .k) (found h) (opened h) (whole h) (work w) (lentHits w) _ (pre .lent .within .limits)
           (most-is (entry w)) (pre .lent .within .vectors) (pre .lent .within .entries) (size w) (lent-hits w) (from-is w) (ended h))
           (t .first-hits .ensures));
       works = works-trans (a .shape) (a .work .now) (work w) (after t) (w .walk-store .ensures .works)

@@ -71,9 +71,9 @@ returns c =
     let p = c .before .before in
     let m = after-mark (after-key p) in
     let e = entry m in
-    λ hit numbers hashes wanted.
-    let view = storeView (e .args .shape) (e .args .counts) (storeOf (e .args .floats .now) numbers hashes) (e .args .query .now) wanted in
-    let key = view-key (e .args .shape) (e .args .counts) (e .args .floats .now) numbers hashes (e .args .query .now) wanted 0 (e .args .shape .vectors) _ (sym (add-zero (e .args .shape .vectors))) (after-key p .distance-key .ensures) in
+    λ hit numbers hashes text wanted.
+    let view = storeView (e .args .shape) (e .args .counts) (storeOf (e .args .floats .now) numbers hashes text) (e .args .query .now) wanted in
+    let key = view-key (e .args .shape) (e .args .counts) (e .args .floats .now) numbers hashes text (e .args .query .now) wanted 0 (e .args .shape .vectors) _ (sym (add-zero (e .args .shape .vectors))) (after-key p .distance-key .ensures) in
     begins (e .args .shape) (e .args .counts) hit view (e .args .work .now) _ (e .pre .within .nodes) (e .pre .some) (e .pre .work-size)
     (subst₂ (λ work key. PushedNodes (e .args .shape) work 0 ((key * 2 ^ 64 + 0) ∷ []) (p .push-node .last .1 .0)) (m .mark-root .ensures) key (p .push-node .ensures))
 

@@ -3,13 +3,12 @@
 mod Places
 mod AtLeaf
 mod AtChildren
-use Rattle.best_first_walk.proofs.best_first_walk.Proof.Places.{Inv-loop, μ-loop, Inv-walk, μ-walk, entry, begun, turn, least, leaf-opened, from, added-hits, inner-opened, parent, child, read, last, all-marked, hit, view, below, lends, first, marks, found-start, found-end, few, ended-works, node, work, node-low, opened, opened-works, shows}
+use Rattle.best_first_walk.proofs.best_first_walk.Proof.Places.{Inv-loop, μ-loop, Inv-walk, μ-walk, entry, begun, turn, least, leaf-opened, from, added-hits, inner-opened, parent, child, read, last, all-marked, hit, store, wants, view, below, lends, first, marks, found-start, found-end, few, ended-works, node, work, node-low, opened, opened-works, shows}
 use Rattle.best_first_walk.proofs.best_first_walk.Proof.AtLeaf.{at-leaf, passed, vectors, held, few-found, list, list-room, list-is, lent-found, work-room, back, at-hits, back-length, after-is, after-works, gave}
 use Rattle.best_first_walk.proofs.best_first_walk.Proof.AtChildren.{at-inner, children, child-works, number, next, fresh, low, total, many, all, room}
 use Rattle.best_first_walk.proofs.Walking.{Waits, waits-from, waits-start, opens-damage, leaf-damage, leaf-hits, ends-damaged, ends-whole, ends-cut}
 use Rattle.best_first_walk.proofs.Marking.{Marks, marks-start, child-damage, child-marked, children-held, children-pushed}
 use Rattle.best_first_walk.specs.ChildLaws.{children-shown}
-use Rattle.store.specs.Lent.{storeOf}
 use Rattle.best_first_walk.specs.WalksLaws.{few-hits, length-found}
 use Rattle.waiting_nodes.specs.Contracts.{waitingRecords}
 use Rattle.waiting_nodes.specs.PushLaws.{nodes-wait}
@@ -45,7 +44,7 @@ walk-holds c =
     let b = c .before .before in
     let e = entry b in
     let w = lends e in
-    waits-start (e .args .shape) (e .args .counts) (hit e) (view e) (e .args .ef-search) (first b) (w .within .limits) (w .within .nodes) (w .some) (below e) (e .args .work .now) (b .begin .ensures (hit e) (e .args .numbers .now) (e .args .hashes .now) (e .args .wanted))
+    waits-start (e .args .shape) (e .args .counts) (hit e) (view e) (e .args .ef-search) (first b) (w .within .limits) (w .within .nodes) (w .some) (below e) (e .args .work .now) (b .begin .ensures (hit e) (e .args .numbers .now) (e .args .hashes .now) (e .args .text .now) (wants e))
 
 pop-requires : tie.Need-pop-requires Inv-loop μ-loop Inv-walk μ-walk
 pop-requires c κs =
@@ -112,12 +111,13 @@ add-hits-requires c κs =
       within = w .within;
       numbers-size = w .long .numbers;
       hashes-size = w .long .hashes;
+      text-size = w .long .text;
       hits =
-          subst (λ (found : List ℕ). AddHits (e .args .numbers .now) found (turn p .walk .hits) (most (e .args .wanted) (e .args .counts)) (block .start) (block .count)) (sym (lent-found p))
+          subst (λ (found : List ℕ). AddHits (e .args .numbers .now) found (turn p .walk .hits) (most (wants e) (e .args .counts)) (block .start) (block .count)) (sym (lent-found p))
           (record {
             block = list-room l;
             few = omega (arith, opened p .1 .few, opened p .1 .holds .finds .count, few-found e);
-            room = omega (arith, few-hits (e .args .shape) (e .args .counts) (e .args .wanted) (w .within .vectors) (w .within .entries), length-found (e .args .shape) (work p) (w .within .limits) (work-room p));
+            room = omega (arith, few-hits (e .args .shape) (e .args .counts) (wants e) (w .within .vectors) (w .within .entries), length-found (e .args .shape) (work p) (w .within .limits) (work-room p));
           });
     }
 
@@ -154,7 +154,7 @@ loop-holds c =
       omega arith,
       shown .0,
       marks-start (e .args .shape) (e .args .counts) (hit e) (view e) (e .args .ef-search) (first (begun (turn p))) (w .within .limits) (w .within .nodes) (w .some) (below e) (node p) (work p) (turn p .walk .waiting - 1) (turn p .walk .hits) (turn p .walk .opened + 1) (children i)
-          (opened p) (shown .1 (e .args .floats .now) (e .args .query .now) ∙ children-shown (e .args .shape) (e .args .counts) (storeOf (e .args .floats .now) (e .args .numbers .now) (e .args .hashes .now)) (node p) (children i)),
+          (opened p) (shown .1 (e .args .floats .now) (e .args .query .now) (e .args .text .now) ∙ children-shown (e .args .shape) (e .args .counts) (store e) (node p) (children i)),
     )
 
 add-wide : tie.Need-add-wide Inv-loop μ-loop Inv-walk μ-walk
@@ -257,7 +257,7 @@ walk-again-2 c =
     waits-from (e .args .shape) (e .args .counts) (hit e) (view e) (e .args .ef-search) (first (begun (turn p))) (work p) (pushed .last .1 .1 .1 .0) waiting (turn p .walk .hits) (turn p .walk .opened + 1) (opened p .1 .works)
     (children-pushed (e .args .shape) (e .args .counts) (hit e) (view e) (e .args .ef-search) (work p) (w .within .limits) (w .within .nodes) (w .some) (below e) (node p) (children i) (k .loop .j) (k .loop .work) (turn p .walk .waiting - 1) (turn p .walk .hits) (turn p .walk .opened + 1) (k .loop .inv .2) (all d)
     (pushed .last .1 .1 .1 .0) (waitingRecords (e .args .shape) (e .args .floats .now) (e .args .query .now) (children i)) waiting
-    (nodes-wait (e .args .shape) (e .args .counts) (e .args .floats .now) (e .args .numbers .now) (e .args .hashes .now) (e .args .query .now) (e .args .wanted) (children i)) (omega (arith, many d)) (pushed .ensures))
+    (nodes-wait (e .args .shape) (e .args .counts) (e .args .floats .now) (e .args .numbers .now) (e .args .hashes .now) (e .args .text .now) (e .args .query .now) (wants e) (children i)) (omega (arith, many d)) (pushed .ensures))
 
 same-length : tie.Need-same-length Inv-loop μ-loop Inv-walk μ-walk
 same-length c = ended-works (c .before) .size
@@ -297,7 +297,7 @@ returns-3 c =
     record {
       ends = ends-damaged (e .args .shape) (e .args .counts) (hit e) (view e) (e .args .ef-search) (first (begun (turn p))) (w .within .limits) (w .within .nodes) (w .some) (below e) _
           (opens-damage (e .args .shape) (e .args .counts) (hit e) (view e) (e .args .ef-search) (first (begun (turn p))) (w .within .limits) (w .within .nodes) (w .some) (below e) (node p) (work p) (turn p .walk .waiting - 1) (turn p .walk .hits) (turn p .walk .opened + 1) (opened p)
-          (shows o look.Damaged (c .enum-told .given .1) (e .args .floats .now) (e .args .query .now)));
+          (shows o look.Damaged (c .enum-told .given .1) (e .args .floats .now) (e .args .query .now) (e .args .text .now)));
       works = opened-works p;
     }
 

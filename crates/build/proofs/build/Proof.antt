@@ -16,17 +16,17 @@ use lib.ListN.{length}
 
 -- the function's entry, from the place where the check is known to be `Fine`
 abbrev entry : tie.After-enum-told → tie.Start
-entry c = c .before .before .before .before .before .before .before .before
+entry c = c .before .before .before .before .before .before .before .before .before
 
 abbrev storeOf : tie.Start → Store
-storeOf s = lent (s .args .floats) (s .args .numbers) (s .args .hashes)
+storeOf s = lent (s .args .floats) (s .args .numbers) (s .args .hashes) (s .args .text)
 
 fine : (c : tie.After-enum-told)
     → buildChecked (entry c .args .index) (lengthsOf (storeOf (entry c))) (length (now (entry c .args .work))) (now (entry c .args .numbers)) ≡ Fine
 fine c = sym (c .before .before .build-check .ensures) ∙ c .enum-told .given .1
 
 abbrev start : tie.After-build-check → tie.Start
-start c = c .before .before .before .before .before .before
+start c = c .before .before .before .before .before .before .before
 
 abbrev after-build-check : tie.After-known-told → tie.After-build-check
 after-build-check c = c .before .before .before

@@ -8,10 +8,10 @@ use Rattle.curator_c.proofs.curator_add.Tie as tie
 -- ---- the places that needs go back to (primed: the same place, from another one)
 
 abbrev after-index : tie.After-add → tie.After-index
-after-index c = c .before .before .before .before .before
+after-index c = c .before .before .before .before .before .before
 
-abbrev after-add : tie.After-slice-known8 → tie.After-add
-after-add c = c .before .before .before .before .before .before .before .before .before .before
+abbrev after-add : tie.After-slice-known10 → tie.After-add
+after-add c = c .before .before .before .before .before .before .before .before .before .before .before .before
 
 state-in-requires : tie.Need-state-in-requires
 state-in-requires c κs = search needs
@@ -46,6 +46,9 @@ same-length-4 c = search needs
 same-length-5 : tie.Need-same-length-5
 same-length-5 c = search needs
 
+same-length-6 : tie.Need-same-length-6
+same-length-6 c = search needs
+
 returns-2 : tie.Need-returns-2
 returns-2 c =
     let added = after-add c in
@@ -67,4 +70,5 @@ curator-add-spec =
     same-length-3
     same-length-4
     same-length-5
+    same-length-6
     returns-2)

@@ -18,13 +18,13 @@ callOf s = unfiltered (s .args .query) (s .args .k) (s .args .ids) (s .args .dis
 
 -- the function's entry: from the place where the state is known, and from the place where the search has answered
 abbrev entry : tie.After-known-told → tie.Start
-entry c = c .before .before .before .before .before .before .before .before .before .before .before .before .before
+entry c = c .before .before .before .before .before .before .before .before .before .before .before .before .before .before
 
 abbrev start : tie.After-search → tie.Start
 start c = entry (c .before .before .before .before .before)
 
 abbrev at-start : tie.After-enum-told → tie.Start
-at-start c = c .before .before .before .before .before .before .before .before .before .before .before .before
+at-start c = c .before .before .before .before .before .before .before .before .before .before .before .before .before
 
 abbrev after-index : tie.After-hits-asked → tie.After-index
 after-index c = c .before .before

@@ -24,6 +24,12 @@ array-borrow-prefix-hashes c = search needs
 slice-aggregate-add-3 : tie.Need-slice-aggregate-add-3
 slice-aggregate-add-3 c = sym (length-take-le _ _ (omega arith))
 
+array-borrow-prefix-text : tie.Need-array-borrow-prefix-text
+array-borrow-prefix-text c = search needs
+
+slice-aggregate-add-4 : tie.Need-slice-aggregate-add-4
+slice-aggregate-add-4 c = sym (length-take-le _ _ (omega arith))
+
 add-requires : tie.Need-add-requires
 add-requires c κs = search needs
 
@@ -46,6 +52,8 @@ try-add-spec =
     slice-aggregate-add-2
     array-borrow-prefix-hashes
     slice-aggregate-add-3
+    array-borrow-prefix-text
+    slice-aggregate-add-4
     add-requires
     print-answer-requires
     print-lists-requires

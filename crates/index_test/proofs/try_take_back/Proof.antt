@@ -12,6 +12,12 @@ array-write-numbers c = search needs
 array-write-numbers-2 : tie.Need-array-write-numbers-2
 array-write-numbers-2 c = search needs
 
+array-write-numbers-3 : tie.Need-array-write-numbers-3
+array-write-numbers-3 c = search needs
+
+array-write-numbers-4 : tie.Need-array-write-numbers-4
+array-write-numbers-4 c = search needs
+
 array-share-prefix-floats : tie.Need-array-share-prefix-floats
 array-share-prefix-floats c = search needs
 
@@ -30,6 +36,12 @@ array-share-prefix-hashes c = search needs
 slice-aggregate-take-back-3 : tie.Need-slice-aggregate-take-back-3
 slice-aggregate-take-back-3 c = sym (length-take-le _ _ (omega arith))
 
+array-share-prefix-text : tie.Need-array-share-prefix-text
+array-share-prefix-text c = search needs
+
+slice-aggregate-take-back-4 : tie.Need-slice-aggregate-take-back-4
+slice-aggregate-take-back-4 c = sym (length-take-le _ _ (omega arith))
+
 take-back-requires : tie.Need-take-back-requires
 take-back-requires c κs = search needs
 
@@ -45,12 +57,16 @@ try-take-back-spec =
     (tie.spec
     array-write-numbers
     array-write-numbers-2
+    array-write-numbers-3
+    array-write-numbers-4
     array-share-prefix-floats
     slice-aggregate-take-back
     array-share-prefix-numbers
     slice-aggregate-take-back-2
     array-share-prefix-hashes
     slice-aggregate-take-back-3
+    array-share-prefix-text
+    slice-aggregate-take-back-4
     take-back-requires
     print-answer-requires
     returns)

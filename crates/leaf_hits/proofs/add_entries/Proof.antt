@@ -1,17 +1,18 @@
--- `add_entries` meets its contract: the loop keeps that the numbers read so far were gathered, and each way out adds what came of the next ones. The
--- measure is the numbers left. Assumes nothing.
-use Rattle.leaf_hits.proofs.LeafLists.{gathered-none, damage-append, gathers-append}
+-- `add_entries` meets its contract: the loop keeps that what the numbers read so far give was added, and each way out adds what came of the next chunk.
+-- The measure is the numbers left: a chunk has one at least, since there is room for one number more than there can be hits. Assumes nothing.
+use Rattle.leaf_hits.proofs.LeafLists.{gathered-none, gathers-further, damage-further}
 use Rattle.leaf_hits.specs.declared.Added.{Added}
 use Rattle.leaf_hits.specs.declared.Added.the-variants as added
-use Rattle.leaf_hits.specs.Contracts.{GatheredBy, GatherDamageBy, GathersBy}
+use Rattle.leaf_hits.specs.Contracts.{AddedEntries}
 use Rattle.lists.specs.Lists.{part}
-use Rattle.lists.specs.Parts.{part-append-parts}
-use lib.Dec.{ltb, eqb}
+use Rattle.store.specs.Store.{ownersAt}
+use Rattle.walk.specs.StoreView.{entriesIn, endIn}
+use Rattle.walk.specs.Wanted.{with-label, passes, isLabels}
+use lib.Arith.{lt-of-le-ne}
 use lib.ListN.{length, getD}
-use mathlib.Core.Bool.{Bool, true, false, _&&_, _||_}
-use mathlib.Core.List.{List}
-use mathlib.Core.Path.{_≡_, refl, ap, subst, _∙_}
-use borrow.Author.Tests.{ltb-false}
+use mathlib.Core.Bool.{Bool}
+use mathlib.Core.List.{List, _++_}
+use mathlib.Core.Path.{_≡_, refl, subst, _∙_}
 use native.Mathlib.Omega.{arith}
 use Prim.Native.Nat.{ℕ, _+_, _-_, _≤_}
 use borrow.Author.Needs.{needs}
@@ -19,98 +20,92 @@ use Rattle.leaf_hits.proofs.add_entries.Statement.{statement}
 use Rattle.leaf_hits.proofs.add_entries.Tie as tie
 
 abbrev Inv-loop : tie.InvT-loop
-Inv-loop counts numbers hashes found₀ before hash owners-at start count total₀ read₀ found total read =
+Inv-loop shape counts numbers hashes text found₀ before hash first second start count total₀ read₀ found total read =
     (read ≤ count)
-    × GatheredBy (λ x. ltb x (counts .entries) && ltb (getD numbers (owners-at + x) 0) (counts .vectors)) (λ x. eqb (getD hashes x 0) hash)
-    (λ x. getD numbers (owners-at + x) 0) (counts .entries) (part start read numbers) before found₀ total found
+    × AddedEntries shape counts numbers hashes text hash (first ++ second) (part start read numbers) before found₀ (added.Hits total) found
     × (length found ≡ length found₀)
 
 abbrev μ-loop : tie.MeasureT-loop
-μ-loop counts numbers hashes found₀ before hash owners-at start count total₀ read₀ found total read = count - read
+μ-loop shape counts numbers hashes text found₀ before hash first second start count total₀ read₀ found total read = count - read
 
--- the places: entry, a turn of the loop
+-- the places: entry, a turn of the loop, numbers left, a chunk's size, the chunk added
 abbrev Entry : Type 0
 Entry = tie.Start Inv-loop μ-loop
 
 abbrev Turn : Type 0
 Turn = tie.At-loop Inv-loop μ-loop
 
-abbrev Four : Type 0
-Four = tie.Else1 Inv-loop μ-loop
+abbrev Left : Type 0
+Left = tie.Else1 Inv-loop μ-loop
+
+abbrev Sized : Type 0
+Sized = tie.After-smaller Inv-loop μ-loop
+
+abbrev Chunk : Type 0
+Chunk = tie.After-add-chunk Inv-loop μ-loop
 
 abbrev entry : Turn → Entry
-entry t = t .before .before .before .before
+entry t = t .before .before .before .before .before .before .before
 
-abbrev owner : Entry → ℕ → ℕ
-owner e x = getD (e .args .numbers .now) (e .args .owners-at + x) 0
+abbrev turn : Left → Turn
+turn l = l .before
+
+abbrev left : Sized → Left
+left s = s .before .before
+
+abbrev sized : Chunk → Sized
+sized k = k .before .before
+
+abbrev chunk : tie.After-known-told Inv-loop μ-loop → Chunk
+chunk c = c .before .before .before .before .before
+
+abbrev chunk′ : tie.After-enum-told Inv-loop μ-loop → Chunk
+chunk′ c = c .before .before .before .before
+
+abbrev at-start : tie.After-shared-slice-known5 Inv-loop μ-loop → Entry
+at-start c = c .before .before .before .before .before .before
+
+abbrev name : Entry → List ℕ
+name e = e .args .first .now ++ e .args .second .now
 
 abbrev test : Entry → ℕ → Bool
-test e x = ltb x (e .args .counts .entries) && ltb (owner e x) (e .args .counts .vectors)
+test e = let a = e .args in passes (with-label (a .hash) (name e)) (a .counts) (entriesIn (a .shape) (a .numbers .now) (a .hashes .now) (a .text .now)) (endIn (a .shape) (a .numbers .now))
 
 abbrev wants : Entry → ℕ → Bool
-wants e x = eqb (getD (e .args .hashes .now) x 0) (e .args .hash)
+wants e = let a = e .args in isLabels (entriesIn (a .shape) (a .numbers .now) (a .hashes .now) (a .text .now)) (a .hash) (name e)
 
-neither : (a b : Bool) → (a || b) ≡ false → (a ≡ false) × (b ≡ false)
-neither true b f = absurd (no f)
-  where
-    no : true ≡ false → ⊥
-    no e = let z : _≡_ {A = ℕ} 0 1 = cc in omega arith
-neither false b f = (refl, f)
+abbrev owner : Entry → ℕ → ℕ
+owner e x = getD (e .args .numbers .now) (ownersAt (e .args .shape) + x) 0
 
 -- what came of the first n numbers
 abbrev Due : Entry → ℕ → Added → List ℕ → Type 0
 Due e n r found =
-    GathersBy (test e) (wants e) (owner e) (e .args .counts .entries) (part (e .args .start) n (e .args .numbers .now)) (e .args .before) (e .args .found .now) r found
+    let a = e .args in
+    AddedEntries (a .shape) (a .counts) (a .numbers .now) (a .hashes .now) (a .text .now) (a .hash) (name e) (part (a .start) n (a .numbers .now)) (a .before) (a .found .now) r found
 
--- of those read, and the m behind them
-further : (t : Turn) (m : ℕ) (r : Added) (found : List ℕ) → let e = entry t in
-    GathersBy (test e) (wants e) (owner e) (e .args .counts .entries) (part (e .args .start + t .loop .read) m (e .args .numbers .now)) (t .loop .total) (t .loop .found) r found
-    → Due e (t .loop .read + m) r found
-further t m r found came =
+-- a chunk has a number at least, and is within what is left and the room
+some : (s : Sized) → let t = turn (left s) in
+    (1 ≤ s .smaller .result) × (t .loop .read + s .smaller .result ≤ entry t .args .count) × (t .loop .total + s .smaller .result ≤ entry t .args .counts .entries + 1)
+some s =
+    let t = turn (left s) in
+    let more = lt-of-le-ne (t .loop .inv .0) (left s .if1 .left) in
+    let few = t .loop .inv .1 .few in
+    (omega (arith, more, few, s .smaller .ensures), omega (arith, more, s .smaller .ensures), omega (arith, few, s .smaller .ensures))
+
+-- of the numbers read and the chunk
+further : (k : Chunk) (r : Added) → k .add-chunk .result ≡ r → let s = sized k in let t = turn (left s) in
+    Due (entry t) (t .loop .read + s .smaller .result) r (k .add-chunk .last .1 .1 .1 .1 .1 .0)
+further k r is =
+    let s = sized k in
+    let t = turn (left s) in
     let e = entry t in
-    let numbers : List ℕ = e .args .numbers .now in
-    subst (λ (l : List ℕ). GathersBy (test e) (wants e) (owner e) (e .args .counts .entries) l (e .args .before) (e .args .found .now) r found)
-    (part-append-parts (e .args .start) (t .loop .read) m numbers)
-    (gathers-append (test e) (wants e) (owner e) (e .args .counts .entries) (part (e .args .start) (t .loop .read) numbers) (part (e .args .start + t .loop .read) m numbers) (e .args .before)
-    (t .loop .total) (e .args .found .now) (t .loop .found) found r (t .loop .inv .1) came)
+    let found : List ℕ = k .add-chunk .last .1 .1 .1 .1 .1 .0 in
+    subst (λ (r : Added). Due e (t .loop .read + s .smaller .result) r found) is
+    (gathers-further (test e) (wants e) (owner e) (e .args .counts .entries) (e .args .numbers .now) (e .args .start) (e .args .before) (t .loop .read) (s .smaller .result) (t .loop .total)
+    (e .args .found .now) (t .loop .found) found (k .add-chunk .result) (t .loop .inv .1) (k .add-chunk .ensures))
 
--- ---- the places that needs go back to (primed: the same place, from another one)
-
-abbrev at-start : tie.After-slice-known Inv-loop μ-loop → tie.Start Inv-loop μ-loop
-at-start c = c .before .before .before
-
-abbrev at-loop : tie.Else1 Inv-loop μ-loop → tie.At-loop Inv-loop μ-loop
-at-loop c = c .before .before
-
-abbrev at-loop′ : tie.After-add-rest-arg Inv-loop μ-loop → tie.At-loop Inv-loop μ-loop
-at-loop′ c = c .before .before .before
-
-abbrev else1 : tie.After-add-four Inv-loop μ-loop → tie.Else1 Inv-loop μ-loop
-else1 c = c .before .before
-
-abbrev at-loop′′ : tie.After-slice-known2 Inv-loop μ-loop → tie.At-loop Inv-loop μ-loop
-at-loop′′ c = c .before .before .before .before .before .before
-
-abbrev after-add-four′ : tie.After-enum-told Inv-loop μ-loop → tie.After-add-four Inv-loop μ-loop
-after-add-four′ c = c .before .before .before .before
-
-abbrev after-add-four : tie.After-known-told Inv-loop μ-loop → tie.After-add-four Inv-loop μ-loop
-after-add-four c = c .before .before .before .before .before
-
--- of the next four
-four : (a : tie.After-add-four Inv-loop μ-loop) (r : Added) → a .add-four .result ≡ r → let t = at-loop (else1 a) in Due (entry t) (t .loop .read + 4) r (a .add-four .last .1 .1 .1 .0)
-four a r is =
-    let t = a .before .before .before .before in
-    let found : List ℕ = a .add-four .last .1 .1 .1 .0 in
-    subst (λ (r : Added). Due (entry t) (t .loop .read + 4) r found) is (further t 4 (a .add-four .result) found (a .add-four .ensures))
-
--- there are four numbers left, and room for as many hits
-many : (f : Four) → let t = f .before .before in (t .loop .read + 4 ≤ entry t .args .count) × (t .loop .total + 4 ≤ entry t .args .counts .entries)
-many f =
-    let t = f .before .before in
-    let e = entry t in
-    let test = neither (ltb (e .args .count - t .loop .read) 4) (ltb (e .args .counts .entries) (t .loop .total + 4)) (f .if1 .left) in
-    (omega (arith, ltb-false (e .args .count - t .loop .read) 4 (test .0), t .loop .inv .0), omega (arith, ltb-false (e .args .counts .entries) (t .loop .total + 4) (test .1)))
+same-size : (k : Chunk) → length (k .add-chunk .last .1 .1 .1 .1 .1 .0) ≡ length (entry (turn (left (sized k))) .args .found .now)
+same-size k = k .add-chunk .kept .1 .1 .1 .1 .1 .0 ∙ turn (left (sized k)) .loop .inv .2
 
 loop-holds : tie.Need-loop-holds Inv-loop μ-loop
 loop-holds c =
@@ -120,37 +115,31 @@ loop-holds c =
 add-at : tie.Need-add-at Inv-loop μ-loop
 add-at c = search needs
 
-sub-left : tie.Need-sub-left Inv-loop μ-loop
-sub-left c = search needs
+sub-smaller : tie.Need-sub-smaller Inv-loop μ-loop
+sub-smaller c = search needs
 
-add-if1 : tie.Need-add-if1 Inv-loop μ-loop
-add-if1 c = search needs
+add-smaller : tie.Need-add-smaller Inv-loop μ-loop
+add-smaller c = search needs
 
-add-rest-requires : tie.Need-add-rest-requires Inv-loop μ-loop
-add-rest-requires c κs =
-    let t = at-loop′ c in
-    let e = entry t in
-    let pre = e .pre .hits in
+sub-smaller-2 : tie.Need-sub-smaller-2 Inv-loop μ-loop
+sub-smaller-2 c = search needs
+
+smaller-requires : tie.Need-smaller-requires Inv-loop μ-loop
+smaller-requires c κs = search needs
+
+add-chunk-requires : tie.Need-add-chunk-requires Inv-loop μ-loop
+add-chunk-requires c κs =
+    let s = c .before in
+    let t = turn (left s) in
+    let pre = entry t .pre in
     record {
-      owners-held = e .pre .owners-held;
-      hashes-held = e .pre .hashes-held;
-      hits = record { block = omega (arith, pre .block, t .loop .inv .0); few = t .loop .inv .1 .few; room = omega (arith, pre .room, t .loop .inv .2) };
-    }
-
-add-four-requires : tie.Need-add-four-requires Inv-loop μ-loop
-add-four-requires c κs =
-    let t = at-loop (c .before) in
-    let e = entry t in
-    let pre = e .pre .hits in
-    let more = many (c .before) in
-    record {
-      entries =
-          record {
-            owners-held = e .pre .owners-held;
-            hashes-held = e .pre .hashes-held;
-            hits = record { block = omega (arith, pre .block, more .0); few = t .loop .inv .1 .few; room = omega (arith, pre .room, t .loop .inv .2) };
-          };
-      four = more .1;
+      within = pre .within;
+      numbers-size = pre .numbers-size;
+      hashes-size = pre .hashes-size;
+      text-size = pre .text-size;
+      block = omega (arith, pre .hits .block, some s .1);
+      few = some s .2;
+      room = omega (arith, pre .hits .room, t .loop .inv .2);
     }
 
 enum-told : tie.Need-enum-told Inv-loop μ-loop
@@ -161,46 +150,37 @@ enum-known-more c = search needs
 
 add-read : tie.Need-add-read Inv-loop μ-loop
 add-read c =
-    let left = else1 (after-add-four c) in
-    let t = at-loop left in omega (arith, many (left) .0, entry t .good)
+    let s = sized (chunk c) in
+    omega (arith, some s .1, entry (turn (left s)) .good)
 
 loop-less : tie.Need-loop-less Inv-loop μ-loop
-loop-less c = omega (arith, many (else1 (after-add-four c)) .0)
+loop-less c = let s = sized (chunk c) in omega (arith, some s .0, some s .1)
 
 loop-again : tie.Need-loop-again Inv-loop μ-loop
 loop-again c =
-    let a = after-add-four c in
+    let k = chunk c in
     let more = c .before .more .given in
-    (many (a .before .before) .0, four a (added.Hits (more .0 .0)) (more .1), a .add-four .kept .1 .1 .1 .0 ∙ at-loop (else1 a) .loop .inv .2)
+    (some (sized k) .1, further k (added.Hits (more .0 .0)) (more .1), same-size k)
 
 same-length : tie.Need-same-length Inv-loop μ-loop
-same-length c = c .before .before .add-rest .kept .1 .1 .1 .0 ∙ at-loop′′ c .loop .inv .2
+same-length c = c .before .loop .inv .2
 
 returns : tie.Need-returns Inv-loop μ-loop
 returns c =
-    let rest = c .before .before .add-rest in
-    let t = at-loop′′ c in
-    let e = entry t in
-    let found : List ℕ = rest .last .1 .1 .1 .0 in
-    let all : t .loop .read + (e .args .count - t .loop .read) ≡ e .args .count = omega (arith, t .loop .inv .0) in
-    subst (λ (n : ℕ). Due e n (rest .result) found) all (further t (e .args .count - t .loop .read) (rest .result) found (rest .ensures))
+    let t = c .before in
+    subst (λ (n : ℕ). Due (entry t) n (added.Hits (t .loop .total)) (t .loop .found)) (c .if1 .taken) (t .loop .inv .1)
 
 same-length-2 : tie.Need-same-length-2 Inv-loop μ-loop
-same-length-2 c = after-add-four′ c .add-four .kept .1 .1 .1 .0 ∙ at-loop (else1 (after-add-four′ c)) .loop .inv .2
+same-length-2 c = same-size (chunk′ c)
 
 returns-2 : tie.Need-returns-2 Inv-loop μ-loop
 returns-2 c =
-    let a = after-add-four′ c in
-    let t = at-loop (else1 a) in
+    let k = chunk′ c in
+    let s = sized k in
+    let t = turn (left s) in
     let e = entry t in
-    let read : ℕ = t .loop .read + 4 in
-    let left : ℕ = e .args .count - read in
-    let numbers : List ℕ = e .args .numbers .now in
-    let all : read + left ≡ e .args .count = omega (arith, many (a .before .before) .0) in
-    subst (λ (l : List ℕ). GatherDamageBy (test e) (wants e) (owner e) (e .args .counts .entries) l (e .args .before))
-    (part-append-parts (e .args .start) read left numbers ∙ ap (λ (n : ℕ). part (e .args .start) n numbers) all)
-    (damage-append (test e) (wants e) (owner e) (e .args .counts .entries) (part (e .args .start) read numbers) (part (e .args .start + read) left numbers) (e .args .before)
-    (four a added.Damaged (c .enum-told .given .1)))
+    damage-further (test e) (wants e) (owner e) (e .args .counts .entries) (e .args .numbers .now) (e .args .start) (e .args .before) (t .loop .read + s .smaller .result) (e .args .count)
+    (some s .1) (further k added.Damaged (c .enum-told .given .1))
 
 pub add-entries-spec : {M : Type 1} → statement M
 add-entries-spec =
@@ -210,10 +190,11 @@ add-entries-spec =
     μ-loop
     loop-holds
     add-at
-    sub-left
-    add-if1
-    add-rest-requires
-    add-four-requires
+    sub-smaller
+    add-smaller
+    sub-smaller-2
+    smaller-requires
+    add-chunk-requires
     enum-told
     enum-known-more
     add-read

@@ -107,7 +107,8 @@ loop-again c =
       omega (arith, more r),
       t .loop .inv .1,
       gather-next (test e) (λ x. true) (λ x. x) (e .args .counts .vectors) (list e) (e .args .before) (e .args .found .now) (t .loop .j) (t .loop .total) (t .loop .total + 1)
-          (r .wide .result) _ (t .loop .found) (t .loop .inv .2) (left r) (e .pre .room) (number r)
+          (r .wide .result) _ (t .loop .found) (t .loop .inv .2) (left r)
+          (omega (arith, t .loop .inv .2 .so-far .few, t .loop .inv .2 .size, e .pre .room)) (number r)
           (lt-ltb (r .wide .result) (e .args .counts .vectors) (c .before .before .if2 .left)) (sym (r .wide .ensures .0)) refl
           (omega (arith, t .loop .inv .2 .so-far .few, c .if3 .left)),
     )

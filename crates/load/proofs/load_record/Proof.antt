@@ -10,22 +10,22 @@ use Rattle.load.proofs.load_record.Tie as tie
 
 -- the function's entry, from where the record has been carried out; what the record is lent, and what it leaves
 abbrev start : tie.After-carry → tie.Start
-start c = c .before .before .before .before .before .before .before .before .before .before .before .before .before .before .before
+start c = c .before .before .before .before .before .before .before .before .before .before .before .before .before .before .before .before .before
 
 abbrev lent : tie.After-carry → LoadLists
-lent c = let a = start c .args in lists (a .floats) (a .numbers) (a .hashes) (a .work) (a .ids) (a .distances)
+lent c = let a = start c .args in lists (a .floats) (a .numbers) (a .hashes) (a .labels) (a .work) (a .ids) (a .distances)
 
 abbrev left : tie.After-carry → LoadLists
 left c =
     let x = c .carry .last .1 .1 .1 in
-    record { store = record { floats = x .0; numbers = x .1 .0; hashes = x .1 .1 .0 }; work = x .1 .1 .1 .0; ids = x .1 .1 .1 .1 .0; distances = x .1 .1 .1 .1 .1 .0 }
+    record { store = record { floats = x .0; numbers = x .1 .0; hashes = x .1 .1 .0; text = x .1 .1 .1 .0 }; work = x .1 .1 .1 .1 .0; ids = x .1 .1 .1 .1 .1 .0; distances = x .1 .1 .1 .1 .1 .1 .0 }
 
 fits : (c : tie.After-carry) → CarriedFit (c .carry .result) (left c)
 fits c = let s = start c in carries-fit (s .args .file .now) (s .args .at) (s .args .loading) (lent c) (c .carry .result) (left c) (s .pre .0) (c .carry .ensures)
 
 -- where its text is written
 abbrev carried : tie.After-write-carried-arg3 → tie.After-carry
-carried c = c .before .before .before .before .before .before .before .before .before .before .before .before .before .before .before
+carried c = c .before .before .before .before .before .before .before .before .before .before .before .before .before .before .before .before .before
 
 carry-requires : tie.Need-carry-requires
 carry-requires c κs = search needs
@@ -57,6 +57,9 @@ same-length-6 c = search needs
 same-length-7 : tie.Need-same-length-7
 same-length-7 c = search needs
 
+same-length-8 : tie.Need-same-length-8
+same-length-8 c = search needs
+
 returns : tie.Need-returns
 returns c =
     let w = c .before .before .before in
@@ -80,4 +83,5 @@ load-record-spec =
     same-length-5
     same-length-6
     same-length-7
+    same-length-8
     returns)

@@ -20,12 +20,12 @@ use Rattle.printer.proofs.print_file.Statement.{statement}
 use Rattle.printer.proofs.print_file.Tie as tie
 
 abbrev Inv-loop : tie.InvT-loop
-Inv-loop file floats₀ numbers₀ hashes₀ work₀ ids₀ distances₀ text₀ loading₀ at₀ done₀ floats numbers hashes work ids distances text loading at done =
-    let lent : LoadLists = record { store = record { floats = floats; numbers = numbers; hashes = hashes }; work = work; ids = ids; distances = distances } in
+Inv-loop file floats₀ numbers₀ hashes₀ labels₀ work₀ ids₀ distances₀ text₀ loading₀ at₀ done₀ floats numbers hashes labels work ids distances text loading at done =
+    let lent : LoadLists = record { store = record { floats = floats; numbers = numbers; hashes = hashes; text = labels }; work = work; ids = ids; distances = distances } in
     Sized lent × (5147 ≡ length text) × Narrow loading × Reached file done at loading (lent .store) × (done ≤ 5147 * at) × (at ≤ 65536)
 
 abbrev μ-loop : tie.MeasureT-loop
-μ-loop file floats₀ numbers₀ hashes₀ work₀ ids₀ distances₀ text₀ loading₀ at₀ done₀ floats numbers hashes work ids distances text loading at done =
+μ-loop file floats₀ numbers₀ hashes₀ labels₀ work₀ ids₀ distances₀ text₀ loading₀ at₀ done₀ floats numbers hashes labels work ids distances text loading at done =
     length file - at
 
 -- ---- the places: a turn begins, its record was carried out, its text was handed on
@@ -34,10 +34,10 @@ abbrev Carried : Type 0
 Carried = tie.After-load-record Inv-loop μ-loop
 
 abbrev turn : Carried → tie.At-loop Inv-loop μ-loop
-turn l = l .before .before .before .before .before .before .before .before
+turn l = l .before .before .before .before .before .before .before .before .before
 
 abbrev carried : tie.After-printed-of Inv-loop μ-loop → Carried
-carried c = c .before .before .before .before .before .before .before .before
+carried c = c .before .before .before .before .before .before .before .before .before
 
 abbrev counted : tie.After-print-next Inv-loop μ-loop → tie.After-printed-of Inv-loop μ-loop
 counted c = c .before .before
@@ -48,17 +48,17 @@ abbrev file : Carried → List ℕ
 file l = turn l .before .before .args .file .now
 
 abbrev text : Carried → List ℕ
-text l = l .load-record .last .1 .1 .1 .1 .1 .1 .1 .1 .1 .0
+text l = l .load-record .last .1 .1 .1 .1 .1 .1 .1 .1 .1 .1 .0
 
 abbrev lent : Carried → LoadLists
 lent l =
     let t = turn l .loop in
-    record { store = record { floats = t .floats; numbers = t .numbers; hashes = t .hashes }; work = t .work; ids = t .ids; distances = t .distances }
+    record { store = record { floats = t .floats; numbers = t .numbers; hashes = t .hashes; text = t .labels }; work = t .work; ids = t .ids; distances = t .distances }
 
 abbrev left : Carried → LoadLists
 left l =
     let x = l .load-record .last .1 .1 .1 in
-    record { store = record { floats = x .0; numbers = x .1 .0; hashes = x .1 .1 .0 }; work = x .1 .1 .1 .0; ids = x .1 .1 .1 .1 .0; distances = x .1 .1 .1 .1 .1 .0 }
+    record { store = record { floats = x .0; numbers = x .1 .0; hashes = x .1 .1 .0; text = x .1 .1 .1 .0 }; work = x .1 .1 .1 .1 .0; ids = x .1 .1 .1 .1 .1 .0; distances = x .1 .1 .1 .1 .1 .1 .0 }
 
 stepped : (l : Carried) → Steps (file l) (turn l .loop .at) (turn l .loop .loading) (lent l) (turn l .loop .text) (l .load-record .result) (left l) (text l)
 stepped l = l .load-record .ensures .1
@@ -71,15 +71,15 @@ sized l =
     let z = turn l .loop .inv .0 in
     let k = l .load-record .kept .1 .1 .1 in
     record {
-      store = (λ i. record { floats = k .0 i; numbers = k .1 .0 i; hashes = k .1 .1 .0 i }) ∙ z .store;
-      work = k .1 .1 .1 .0 ∙ z .work;
-      ids = k .1 .1 .1 .1 .0 ∙ z .ids;
-      distances = k .1 .1 .1 .1 .1 .0 ∙ z .distances;
+      store = (λ i. record { floats = k .0 i; numbers = k .1 .0 i; hashes = k .1 .1 .0 i; text = k .1 .1 .1 .0 i }) ∙ z .store;
+      work = k .1 .1 .1 .1 .0 ∙ z .work;
+      ids = k .1 .1 .1 .1 .1 .0 ∙ z .ids;
+      distances = k .1 .1 .1 .1 .1 .1 .0 ∙ z .distances;
     }
 
 -- the text list keeps its length, and the text stands in it
 long : (l : Carried) → 5147 ≡ length (text l)
-long l = turn l .loop .inv .1 ∙ sym (l .load-record .kept .1 .1 .1 .1 .1 .1 .1 .1 .1 .0)
+long l = turn l .loop .inv .1 ∙ sym (l .load-record .kept .1 .1 .1 .1 .1 .1 .1 .1 .1 .1 .0)
 
 within : (c : tie.After-printed-of Inv-loop μ-loop) → c .printed-of .result ≤ length (text (carried c))
 within c = subst (λ (n : ℕ). n ≤ length (text (carried c))) (sym (c .printed-of .ensures)) (steps-printed (stepped (carried c)))
@@ -117,7 +117,7 @@ slice-aggregate-load-record-3 : tie.Need-slice-aggregate-load-record-3 Inv-loop 
 slice-aggregate-load-record-3 c = search (needs, ap (λ (n : Lengths). n .hashes) (c .before .before .before .loop .inv .0 .store))
 
 slice-aggregate-load-record-4 : tie.Need-slice-aggregate-load-record-4 Inv-loop μ-loop
-slice-aggregate-load-record-4 c = search needs
+slice-aggregate-load-record-4 c = search (needs, ap (λ (n : Lengths). n .text) (c .before .before .before .before .loop .inv .0 .store))
 
 slice-aggregate-load-record-5 : tie.Need-slice-aggregate-load-record-5 Inv-loop μ-loop
 slice-aggregate-load-record-5 c = search needs
@@ -127,6 +127,9 @@ slice-aggregate-load-record-6 c = search needs
 
 slice-aggregate-load-record-7 : tie.Need-slice-aggregate-load-record-7 Inv-loop μ-loop
 slice-aggregate-load-record-7 c = search needs
+
+slice-aggregate-load-record-8 : tie.Need-slice-aggregate-load-record-8 Inv-loop μ-loop
+slice-aggregate-load-record-8 c = search needs
 
 load-record-requires : tie.Need-load-record-requires Inv-loop μ-loop
 load-record-requires c κs = search needs
@@ -199,6 +202,7 @@ print-file-spec =
     slice-aggregate-load-record-5
     slice-aggregate-load-record-6
     slice-aggregate-load-record-7
+    slice-aggregate-load-record-8
     load-record-requires
     printed-of-requires
     array-share-prefix-text

@@ -1,4 +1,4 @@
--- Everything is what `search` asks for.
+-- Everything is what `search` asks for, whatever the name is.
 use mathlib.Core.Path.{refl}
 use Rattle.curator.specs.Searches.{wantedOf}
 use Rattle.curator.specs.Arguments.{everything}
@@ -10,6 +10,15 @@ use Rattle.search.proofs.search.Tie as tie
 
 abbrev after-search-wanted : tie.After-slice-known6 → tie.After-search-wanted
 after-search-wanted c = c .before .before .before .before .before .before
+
+sub-none : tie.Need-sub-none
+sub-none c = search needs
+
+part-none-start : tie.Need-part-none-start
+part-none-start c = search needs
+
+part-none-end : tie.Need-part-none-end
+part-none-end c = search needs
 
 search-wanted-requires : tie.Need-search-wanted-requires
 search-wanted-requires c κs = search needs
@@ -29,4 +38,5 @@ returns c = after-search-wanted c .search-wanted .ensures everything refl
 
 pub search-spec : {M : Type 1} → statement M
 search-spec =
-    tie.close (tie.spec search-wanted-requires same-length same-length-2 same-length-3 returns)
+    tie.close
+    (tie.spec sub-none part-none-start part-none-end search-wanted-requires same-length same-length-2 same-length-3 returns)

@@ -1,8 +1,9 @@
--- What is wanted is the hash of the joined name.
+-- What is wanted is the hash of the joined name, and the name.
 use mathlib.Core.List.{_++_}
 use mathlib.Core.Path.{sym, ap}
 use denote.Ref.{now}
-use Rattle.walk.specs.declared.Wanted.the-variants.{Label}
+use Prim.Native.Nat.{ℕ}
+use Rattle.walk.specs.Wanted.{with-label}
 use Rattle.curator.specs.Searches.{wantedOf}
 use Rattle.curator.specs.Arguments.{labelled}
 use borrow.Author.Needs.{needs}
@@ -12,7 +13,7 @@ use Rattle.search.proofs.search_filtered.Tie as tie
 -- ---- the places that needs go back to (primed: the same place, from another one)
 
 abbrev start : tie.After-hash-name → tie.Start
-start c = c .before .before .before .before .before .before .before .before .before .before
+start c = c .before .before .before .before .before .before .before .before .before .before .before
 
 abbrev after-hash-name : tie.After-search-wanted → tie.After-hash-name
 after-hash-name c = c .before .before .before .before
@@ -43,7 +44,7 @@ returns c =
     let hashed = hash-name in
     search-wanted .search-wanted .ensures
     (labelled (now (start hash-name .args .first) ++ now (start hash-name .args .second)))
-    (ap Label (sym (hashed .hash-name .ensures)))
+    (ap (λ (hash : ℕ). with-label hash (now (start hash-name .args .first) ++ now (start hash-name .args .second))) (sym (hashed .hash-name .ensures)))
 
 pub search-filtered-spec : {M : Type 1} → statement M
 search-filtered-spec =

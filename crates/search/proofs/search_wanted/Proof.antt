@@ -18,7 +18,7 @@ use Rattle.curator.specs.OutcomeLaws.{is-search-refused}
 
 -- the function's entry, from the place where the check is known to have the sum
 abbrev entry : tie.After-known-told2 → tie.Start
-entry c = c .before .before .before .before .before .before .before .before .before .before .before
+entry c = c .before .before .before .before .before .before .before .before .before .before .before .before .before .before
 
 abbrev callOf : tie.Start → Asked → SearchCall
 callOf s asked = looking (s .args .query) (s .args .k) (s .args .ids) (s .args .distances) asked
@@ -28,7 +28,7 @@ check-of c = c .before .before .before
 
 -- no row's case holds, and what was carried is the sum of squares
 fine : (c : tie.After-known-told2) (asked : Asked)
-    → (searchCheck (entry c .args .index) (lent (entry c .args .floats) (entry c .args .numbers) (entry c .args .hashes)) (now (entry c .args .work))
+    → (searchCheck (entry c .args .index) (lent (entry c .args .floats) (entry c .args .numbers) (entry c .args .hashes) (entry c .args .text)) (now (entry c .args .work))
     (callOf (entry c) asked)
     ≡ Fine)
     × (c .before .check2 .given .0 .0 ≡ dot (now (entry c .args .query)) (now (entry c .args .query)))

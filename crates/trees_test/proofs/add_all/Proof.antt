@@ -7,11 +7,11 @@ use Rattle.trees_test.proofs.add_all.Statement.{statement}
 use Rattle.trees_test.proofs.add_all.Tie as tie
 
 abbrev Inv-loop : tie.InvT-loop
-Inv-loop s from adds floats₀ numbers₀ hashes₀ step₀ left₀ floats numbers hashes step left =
-    (length floats ≡ length floats₀) × (length numbers ≡ length numbers₀) × (length hashes ≡ length hashes₀)
+Inv-loop s from adds floats₀ numbers₀ hashes₀ text₀ step₀ left₀ floats numbers hashes text step left =
+    (length floats ≡ length floats₀) × (length numbers ≡ length numbers₀) × (length hashes ≡ length hashes₀) × (length text ≡ length text₀)
 
 abbrev μ-loop : tie.MeasureT-loop
-μ-loop s from adds floats₀ numbers₀ hashes₀ step₀ left₀ floats numbers hashes step left = left
+μ-loop s from adds floats₀ numbers₀ hashes₀ text₀ step₀ left₀ floats numbers hashes text step left = left
 
 loop-holds : tie.Need-loop-holds Inv-loop μ-loop
 loop-holds c = omega arith
@@ -37,6 +37,9 @@ same-length-2 c = omega arith
 same-length-3 : tie.Need-same-length-3 Inv-loop μ-loop
 same-length-3 c = omega arith
 
+same-length-4 : tie.Need-same-length-4 Inv-loop μ-loop
+same-length-4 c = omega arith
+
 returns : tie.Need-returns Inv-loop μ-loop
 returns c = search needs
 
@@ -54,4 +57,5 @@ add-all-spec =
     same-length
     same-length-2
     same-length-3
+    same-length-4
     returns)

@@ -9,16 +9,17 @@ use Rattle.best_first_walk.specs.MarkLaws.{works-found, found-lent, found-back}
 use Rattle.leaf_hits.specs.Contracts.{AddHits, Gathers}
 use Rattle.leaf_hits.specs.LeafLaws.{list-shown}
 use Rattle.leaf_hits.specs.declared.Added.the-variants as added
-use Rattle.walk.specs.Wanted.{EntryRead, passes, given, most}
+use Rattle.walk.specs.Wanted.{Sought, sought, EntryRead, passes, given, most}
 use Rattle.walk.specs.declared.look.Look.{Look}
 use Rattle.walk.specs.declared.look.Look.the-variants as look
 use Rattle.walk.specs.LentLaws.{works-refl}
-use Rattle.walk.specs.Contracts.{Looks}
-use Rattle.walk.specs.StoreView.{hitAt, storeView, entriesIn}
+use Rattle.walk.specs.Contracts.{LooksFor}
+use Rattle.walk.specs.StoreView.{hitAt, storeView, entriesIn, endIn}
 use Rattle.walk.specs.Walk.{View, Shown, State, damage, hits, shown, give}
 use Rattle.walk.specs.WalkLaws.{give-damage}
 use Rattle.walk.specs.KeysLaws.{keyed}
 use Rattle.store.specs.Lent.{storeOf}
+use Rattle.store.specs.Store.{Store}
 use Rattle.lists.specs.Lists.{part}
 use Rattle.lists.specs.Tests.{allPass}
 use lib.Ieee.{Float}
@@ -37,7 +38,7 @@ use Rattle.whole_walk.proofs.open_node.Tie as tie
 -- are marked
 
 abbrev entry : tie.After-look-at → tie.Start
-entry o = o .before .before .before .before .before .before
+entry o = o .before .before .before .before .before .before .before .before .before
 
 abbrev leaf-looked : tie.After-shown → tie.After-look-at
 leaf-looked l = l .before .before
@@ -53,39 +54,46 @@ inner m = m .before .before .before
 
 -- ---- what is known at each
 
+-- what the search is about
+abbrev wants : tie.Start → Sought
+wants e = sought (e .args .wanted) (e .args .first .now) (e .args .second .now)
+
 -- what the node shows
 abbrev Shows : tie.Start → Look → Type 0
-Shows e r = Looks (e .args .shape) (e .args .counts) (e .args .numbers .now) (e .args .hashes .now) (e .args .wanted) (e .args .i) r
+Shows e r = LooksFor (e .args .shape) (e .args .counts) (e .args .numbers .now) (e .args .hashes .now) (wants e) (e .args .i) r
 
 shows : (o : tie.After-look-at) (r : Look) → o .look-at .result ≡ r → Shows (entry o) r
-shows o r is = subst (Shows (entry o)) is (o .look-at .ensures)
+shows o r is = subst (Shows (entry o)) is (o .look-at .ensures (entry o .args .first .now) (entry o .args .second .now))
 
 -- a query, vectors and keys that were not lent
 abbrev hit : tie.Start → List Float → List Float → ℕ → ℕ
 hit e floats query = hitAt (e .args .shape) floats (e .args .numbers .now) query
 
+abbrev store : tie.Start → List Float → Store
+store e floats = storeOf floats (e .args .numbers .now) (e .args .hashes .now) (e .args .text .now)
+
 abbrev view : tie.Start → List Float → List Float → View
-view e floats query = storeView (e .args .shape) (e .args .counts) (storeOf floats (e .args .numbers .now) (e .args .hashes .now)) query (e .args .wanted)
+view e floats query = storeView (e .args .shape) (e .args .counts) (store e floats) query (wants e)
 
 -- a leaf's list, whether all its numbers pass, and the vectors that it gives
 abbrev list : tie.After-shown → List ℕ
 list l = part (l .shown .given .0 .0 .start) (l .shown .given .0 .0 .count) (entry (leaf-looked l) .args .numbers .now)
 
 abbrev read-entries : tie.Start → EntryRead
-read-entries e = entriesIn (e .args .shape) (e .args .numbers .now) (e .args .hashes .now)
+read-entries e = entriesIn (e .args .shape) (e .args .numbers .now) (e .args .hashes .now) (e .args .text .now)
 
 abbrev passed : tie.After-shown → Bool
-passed l = let e = entry (leaf-looked l) in allPass (passes (e .args .wanted) (e .args .counts) (read-entries e)) (list l)
+passed l = let e = entry (leaf-looked l) in allPass (passes (wants e) (e .args .counts) (read-entries e) (endIn (e .args .shape) (e .args .numbers .now))) (list l)
 
 abbrev vectors : tie.After-shown → List ℕ
-vectors l = let e = entry (leaf-looked l) in given (e .args .wanted) (read-entries e) (list l)
+vectors l = let e = entry (leaf-looked l) in given (wants e) (read-entries e) (list l)
 
 list-is : (l : tie.After-shown) (floats query : List Float) → shown (view (entry (leaf-looked l)) floats query) (entry (leaf-looked l) .args .i)
     ≡ cond (passed l) (hits (map (hit (entry (leaf-looked l)) floats query) (vectors l))) damage
 list-is l floats query =
     let e = entry (leaf-looked l) in
-    shows (leaf-looked l) (look.Leaf (l .shown .given .0 .0)) (l .shown .given .1) .1 floats query
-    ∙ list-shown (e .args .shape) (e .args .counts) floats (e .args .numbers .now) (e .args .hashes .now) query (e .args .wanted) (list l)
+    shows (leaf-looked l) (look.Leaf (l .shown .given .0 .0)) (l .shown .given .1) .1 floats query (e .args .text .now)
+    ∙ list-shown (e .args .shape) (e .args .counts) floats (e .args .numbers .now) (e .args .hashes .now) (e .args .text .now) query (wants e) (list l)
 
 -- the hits' part, as it is lent and as it came back
 abbrev foundStart : tie.After-look-at → ℕ
@@ -103,13 +111,13 @@ lent-found o =
     found-lent (e .args .shape) (e .args .work .now) (foundStart o) (foundEnd o) (e .pre .within .limits) (o .before .before .found-at .ensures) (o .before .work-size .ensures)
 
 abbrev back : tie.After-add-hits → List ℕ
-back h = h .add-hits .last .1 .1 .1 .1 .0
+back h = h .add-hits .last .1 .1 .1 .1 .1 .0
 
 back-length : (h : tie.After-add-hits) → length (back h) ≡ max (entry (leaf-looked (leaf h)) .args .shape .vectors) (entry (leaf-looked (leaf h)) .args .shape .entries) + 1
 back-length h =
     let o = leaf-looked (leaf h) in
     let e = entry o in
-    h .add-hits .kept .1 .1 .1 .1 .0 ∙ ap length (lent-found o) ∙ length-found (e .args .shape) (e .args .work .now) (e .pre .within .limits) (e .pre .work-size)
+    h .add-hits .kept .1 .1 .1 .1 .1 .0 ∙ ap length (lent-found o) ∙ length-found (e .args .shape) (e .args .work .now) (e .pre .within .limits) (e .pre .work-size)
 
 abbrev after : tie.After-add-hits → List ℕ
 after h =
@@ -129,8 +137,8 @@ gathers : (h : tie.After-add-hits) (floats query : List Float)
 gathers h floats query =
     let o = leaf-looked (leaf h) in
     let e = entry o in
-    subst (λ (n : ℕ). Gathers (passed (leaf h)) (vectors (leaf h)) n (e .args .hits) (foundPart (e .args .shape) (e .args .work .now)) (h .add-hits .result) (back h)) (sym (most-is (e .args .shape) (e .args .counts) (storeOf floats (e .args .numbers .now) (e .args .hashes .now)) query (e .args .wanted)))
-    (subst (λ (heap : List ℕ). Gathers (passed (leaf h)) (vectors (leaf h)) (most (e .args .wanted) (e .args .counts)) (e .args .hits) heap (h .add-hits .result) (back h)) (lent-found o) (h .add-hits .ensures))
+    subst (λ (n : ℕ). Gathers (passed (leaf h)) (vectors (leaf h)) n (e .args .hits) (foundPart (e .args .shape) (e .args .work .now)) (h .add-hits .result) (back h)) (sym (most-is (e .args .shape) (e .args .counts) (store e floats) query (wants e)))
+    (subst (λ (heap : List ℕ). Gathers (passed (leaf h)) (vectors (leaf h)) (most (wants e) (e .args .counts)) (e .args .hits) heap (h .add-hits .result) (back h)) (lent-found o) (h .add-hits .ensures))
 
 -- an inner node's children
 abbrev children : tie.After-shown2 → List ℕ
@@ -175,12 +183,13 @@ add-hits-requires c κs =
       within = e .pre .within;
       numbers-size = e .pre .numbers-size;
       hashes-size = e .pre .hashes-size;
+      text-size = e .pre .text-size;
       hits =
-          subst (λ (found : List ℕ). AddHits (e .args .numbers .now) found (e .args .hits) (most (e .args .wanted) (e .args .counts)) (block .start) (block .count)) (sym (lent-found o))
+          subst (λ (found : List ℕ). AddHits (e .args .numbers .now) found (e .args .hits) (most (wants e) (e .args .counts)) (block .start) (block .count)) (sym (lent-found o))
           (record {
             block = shows o (look.Leaf block) (l .shown .given .1) .0;
             few = e .pre .few;
-            room = omega (arith, few-hits (e .args .shape) (e .args .counts) (e .args .wanted) (e .pre .within .vectors) (e .pre .within .entries), length-found (e .args .shape) (e .args .work .now) (e .pre .within .limits) (e .pre .work-size));
+            room = omega (arith, few-hits (e .args .shape) (e .args .counts) (wants e) (e .pre .within .vectors) (e .pre .within .entries), length-found (e .args .shape) (e .args .work .now) (e .pre .within .limits) (e .pre .work-size));
           });
     }
 
@@ -200,7 +209,7 @@ returns c =
     record {
       gives = λ floats query key p n.
           subst (λ (st : State). NotesState (e .args .shape) (e .args .counts) (hit e floats query) st added.Damaged (e .args .work .now))
-          (sym (ap (λ (sh : Shown). give (keyed key (view e floats query)) sh p) (shows o look.Damaged (c .enum-told .given .1) floats query) ∙ give-damage (keyed key (view e floats query)) p)) tt;
+          (sym (ap (λ (sh : Shown). give (keyed key (view e floats query)) sh p) (shows o look.Damaged (c .enum-told .given .1) floats query (e .args .text .now)) ∙ give-damage (keyed key (view e floats query)) p)) tt;
       works = works-refl (e .args .shape) (e .args .work .now);
     }
 
@@ -212,13 +221,13 @@ returns-2 c =
     let h = c .before .before in
     let l = leaf h in
     let e = entry (leaf-looked l) in
-    subst (OpensNode (e .args .shape) (e .args .counts) (e .args .numbers .now) (e .args .hashes .now) (e .args .hits) (e .args .wanted) (e .args .i) (e .args .work .now) (h .add-hits .result)) (sym (after-is h))
+    subst (OpensNode (e .args .shape) (e .args .counts) (e .args .numbers .now) (e .args .hashes .now) (e .args .text .now) (e .args .hits) (wants e) (e .args .i) (e .args .work .now) (h .add-hits .result)) (sym (after-is h))
     (record {
       gives = λ floats query key p n.
           subst (λ (sh : Shown). NotesState (e .args .shape) (e .args .counts) (hit e floats query) (give (keyed key (view e floats query)) sh p) (h .add-hits .result) (sets (e .args .work .now) (foundAt (e .args .shape)) (back h)))
           (sym (list-is l floats query))
           (leaf-gives (e .args .shape) (e .args .counts) (hit e floats query) (keyed key (view e floats query)) p (e .args .work .now) (back h) (e .args .hits) (passed l) (vectors l) (h .add-hits .result)
-          (e .pre .within) (vectors-held (e .args .wanted) (e .args .counts) (read-entries e) (list l)) (back-length h) (gathers h floats query) n);
+          (e .pre .within) (vectors-held (wants e) (e .args .counts) (read-entries e) (endIn (e .args .shape) (e .args .numbers .now)) (list l)) (back-length h) (gathers h floats query) n);
       works = works-found (e .args .shape) (e .args .counts) (λ x. x) (e .args .work .now) (back h) (e .pre .within .limits) (e .pre .work-size) (back-length h);
     })
 
@@ -234,10 +243,9 @@ returns-3 c =
     let marked = m .mark-children .ensures in
     record {
       gives = λ floats query key p n.
-          let store = storeOf floats (e .args .numbers .now) (e .args .hashes .now) in
           subst (λ (sh : Shown). NotesState (e .args .shape) (e .args .counts) (hit e floats query) (give (keyed key (view e floats query)) sh p) (m .mark-children .result) (m .mark-children .last .1 .1 .1 .0))
-          (sym (shows o (look.Inner (i .shown2 .given .0 .0)) (i .shown2 .given .1) .1 floats query))
-          (marked .gives (hit e floats query) (keyed key (view e floats query)) store p n);
+          (sym (shows o (look.Inner (i .shown2 .given .0 .0)) (i .shown2 .given .1) .1 floats query (e .args .text .now)))
+          (marked .gives (hit e floats query) (keyed key (view e floats query)) (store e floats) p n);
       works = marked .works;
     }
 

@@ -10,9 +10,10 @@ use Rattle.walk.specs.LentLaws.{works-refl, works-trans}
 use Rattle.walk.specs.StoreView.{hitAt, storeView}
 use Rattle.walk.specs.StoreViewLaws.{store-children, store-children-below}
 use Rattle.walk.specs.Walk.{View}
+use Rattle.walk.specs.Wanted.{Sought, sought}
 use Rattle.walk.specs.DifferentLaws.{ChildrenBelow}
 use Rattle.store.specs.Lent.{storeOf}
-use Rattle.store.specs.Store.{marksAt, workSize}
+use Rattle.store.specs.Store.{Store, marksAt, workSize}
 use lib.Arith.{lt-of-le-ne}
 use lib.Ieee.{Float}
 use lib.ListN.{length, getD}
@@ -25,14 +26,14 @@ use Rattle.whole_walk.proofs.whole_walk.Statement.{statement}
 use Rattle.whole_walk.proofs.whole_walk.Tie as tie
 
 abbrev Inv-walk : tie.InvT-walk
-Inv-walk shape counts numbers hashes work₀ wanted nodes marks-at i₀ opened₀ hits₀ work i opened hits =
+Inv-walk shape counts numbers hashes text work₀ wanted first second nodes marks-at i₀ opened₀ hits₀ work i opened hits =
     (i ≤ nodes)
     × (opened ≤ i)
     × Works shape work₀ work
-    × ((floats query : List Float) → Passes shape counts (hitAt shape floats numbers query) (storeView shape counts (storeOf floats numbers hashes) query wanted) work i hits opened)
+    × ((floats query : List Float) → Passes shape counts (hitAt shape floats numbers query) (storeView shape counts (storeOf floats numbers hashes text) query (sought wanted first second)) work i hits opened)
 
 abbrev μ-walk : tie.MeasureT-walk
-μ-walk shape counts numbers hashes work₀ wanted nodes marks-at i₀ opened₀ hits₀ work i opened hits = nodes - i
+μ-walk shape counts numbers hashes text work₀ wanted first second nodes marks-at i₀ opened₀ hits₀ work i opened hits = nodes - i
 
 -- ---- the places, each with the way back to the one before: entry, the root is marked, a turn of the loop
 
@@ -43,7 +44,7 @@ abbrev Marked : Type 0
 Marked = tie.After-mark-root Inv-walk μ-walk
 
 abbrev entry : Marked → Entry
-entry m = m .before .before .before .before .before .before
+entry m = m .before .before .before .before .before .before .before .before .before
 
 abbrev Turn : Type 0
 Turn = tie.At-walk Inv-walk μ-walk
@@ -53,18 +54,25 @@ marked t = t .before .before .before
 
 -- ---- what is known at each
 
+-- what the search is about
+abbrev wants : Entry → Sought
+wants e = sought (e .args .wanted) (e .args .first .now) (e .args .second .now)
+
 -- a query and vectors that were not lent
 abbrev hit : Entry → List Float → List Float → ℕ → ℕ
 hit e floats query = hitAt (e .args .shape) floats (e .args .numbers .now) query
 
+abbrev store : Entry → List Float → Store
+store e floats = storeOf floats (e .args .numbers .now) (e .args .hashes .now) (e .args .text .now)
+
 abbrev view : Entry → List Float → List Float → View
-view e floats query = storeView (e .args .shape) (e .args .counts) (storeOf floats (e .args .numbers .now) (e .args .hashes .now)) query (e .args .wanted)
+view e floats query = storeView (e .args .shape) (e .args .counts) (store e floats) query (wants e)
 
 above : (e : Entry) (floats query : List Float) → ChildrenAbove (view e floats query) (e .args .counts .nodes)
-above e floats query = store-children (e .args .shape) (e .args .counts) (storeOf floats (e .args .numbers .now) (e .args .hashes .now)) query (e .args .wanted)
+above e floats query = store-children (e .args .shape) (e .args .counts) (store e floats) query (wants e)
 
 below : (e : Entry) (floats query : List Float) → ChildrenBelow (view e floats query) (e .args .counts .nodes)
-below e floats query = store-children-below (e .args .shape) (e .args .counts) (storeOf floats (e .args .numbers .now) (e .args .hashes .now)) query (e .args .wanted)
+below e floats query = store-children-below (e .args .shape) (e .args .counts) (store e floats) query (wants e)
 
 nodes-fit : (e : Entry) → e .args .counts .nodes ≤ 2 ^ 64
 nodes-fit e = omega (arith, e .pre .within .nodes, e .pre .within .limits .nodes-high)
@@ -97,7 +105,7 @@ abbrev turn : Opened → Turn
 turn h = h .before .before .before .before .before
 
 abbrev after : Opened → List ℕ
-after h = h .open-node .last .1 .1 .1 .1 .0
+after h = h .open-node .last .1 .1 .1 .1 .1 .0
 
 low : (h : Opened) → turn h .walk .i < entry (marked (turn h)) .args .counts .nodes
 low h = lt-of-le-ne (turn h .walk .inv .0) (h .before .before .before .before .if1 .left)
@@ -105,11 +113,11 @@ low h = lt-of-le-ne (turn h .walk .inv .0) (h .before .before .before .before .i
 -- what it gave
 opens : (h : Opened) (r : Added) → h .open-node .result ≡ r
     → OpensNode (entry (marked (turn h)) .args .shape) (entry (marked (turn h)) .args .counts) (entry (marked (turn h)) .args .numbers .now) (entry (marked (turn h)) .args .hashes .now)
-    (turn h .walk .hits) (entry (marked (turn h)) .args .wanted) (turn h .walk .i) (turn h .walk .work) r (after h)
+    (entry (marked (turn h)) .args .text .now) (turn h .walk .hits) (wants (entry (marked (turn h)))) (turn h .walk .i) (turn h .walk .work) r (after h)
 opens h r is =
     let t = turn h in
     let e = entry (marked t) in
-    subst (λ (r : Added). OpensNode (e .args .shape) (e .args .counts) (e .args .numbers .now) (e .args .hashes .now) (t .walk .hits) (e .args .wanted) (t .walk .i) (t .walk .work) r (after h)) is (h .open-node .ensures)
+    subst (λ (r : Added). OpensNode (e .args .shape) (e .args .counts) (e .args .numbers .now) (e .args .hashes .now) (e .args .text .now) (t .walk .hits) (wants e) (t .walk .i) (t .walk .work) r (after h)) is (h .open-node .ensures)
 
 after-works : (h : Opened) → Works (entry (marked (turn h)) .args .shape) (first (marked (turn h))) (after h)
 after-works h =
@@ -187,9 +195,10 @@ open-node-requires c κs =
       within = e .pre .within;
       numbers-size = e .pre .numbers-size;
       hashes-size = e .pre .hashes-size;
+      text-size = e .pre .text-size;
       work-size = room t;
       node = lt-of-le-ne (t .walk .inv .0) (c .before .before .before .if1 .left);
-      few = omega (arith, most-is (e .args .shape) (e .args .counts) (storeOf [] (e .args .numbers .now) (e .args .hashes .now)) [] (e .args .wanted), passes-few (e .args .shape) (e .args .counts) (hit e [] []) (view e [] []) (t .walk .work) (t .walk .i) (t .walk .hits) (t .walk .opened) (t .walk .inv .3 [] []));
+      few = omega (arith, most-is (e .args .shape) (e .args .counts) (store e []) [] (wants e), passes-few (e .args .shape) (e .args .counts) (hit e [] []) (view e [] []) (t .walk .work) (t .walk .i) (t .walk .hits) (t .walk .opened) (t .walk .inv .3 [] []));
     }
 
 enum-told : tie.Need-enum-told Inv-walk μ-walk

@@ -2,7 +2,6 @@
 use Rattle.best_first_walk.specs.Walks.{foundAt, foundPart}
 use Rattle.best_first_walk.specs.MarkLaws.{works-found, found-lent, found-back}
 use Rattle.best_first_walk.specs.GatherLaws.{most-is, vectors-held}
-use Rattle.store.specs.Lent.{storeOf}
 use Rattle.best_first_walk.specs.WalksLaws.{length-found}
 use Rattle.leaf_hits.specs.Contracts.{Gathers}
 use Rattle.walk.specs.Wanted.{EntryRead, passes, given, most}
@@ -11,7 +10,7 @@ use Rattle.leaf_hits.specs.declared.Added.{Added}
 use Rattle.walk.specs.declared.look.Look.the-variants as look
 use Rattle.walk.specs.LentLaws.{works-trans}
 use Rattle.walk.specs.Contracts.{Works}
-use Rattle.walk.specs.StoreView.{entriesIn}
+use Rattle.walk.specs.StoreView.{entriesIn, endIn}
 use Rattle.lists.specs.Tests.{allPass}
 use Rattle.walk.specs.Walk.{hits, damage, shown}
 use Rattle.store.specs.Store.{workSize}
@@ -23,26 +22,26 @@ use mathlib.Core.Bool.{Bool, true, cond}
 use mathlib.Core.List.{List, _++_, map}
 use mathlib.Core.Path.{_≡_, sym, ap, subst, _∙_}
 use Prim.Native.Nat.{ℕ, _+_, _-_, _≤_, max}
-use Rattle.best_first_walk.proofs.best_first_walk.Proof.Places.{Entry, entry, begun, Least, turn, least, Leaf, leaf-opened, Hits, from, hit, view, lends, foundStart, foundEnd, found-start, found-end, node, work, opened, opened-works, shows}
+use Rattle.best_first_walk.proofs.best_first_walk.Proof.Places.{Entry, entry, begun, Least, turn, least, Leaf, leaf-opened, Hits, from, hit, store, wants, view, lends, foundStart, foundEnd, found-start, found-end, node, work, opened, opened-works, shows}
 
 abbrev pub at-leaf : Leaf → Entry
 at-leaf l = entry (begun (turn (least (leaf-opened l))))
 
 -- whether all numbers of a list pass, and the vectors that it gives
 abbrev pub read-entries : Entry → EntryRead
-read-entries e = entriesIn (e .args .shape) (e .args .numbers .now) (e .args .hashes .now)
+read-entries e = entriesIn (e .args .shape) (e .args .numbers .now) (e .args .hashes .now) (e .args .text .now)
 
 abbrev pub passed : Entry → List ℕ → Bool
-passed e l = allPass (passes (e .args .wanted) (e .args .counts) (read-entries e)) l
+passed e l = allPass (passes (wants e) (e .args .counts) (read-entries e) (endIn (e .args .shape) (e .args .numbers .now))) l
 
 abbrev pub vectors : Entry → List ℕ → List ℕ
-vectors e l = given (e .args .wanted) (read-entries e) l
+vectors e l = given (wants e) (read-entries e) l
 
 pub held : (e : Entry) (l : List ℕ) → passed e l ≡ true → allPass (λ x. ltb x (e .args .counts .vectors)) (vectors e l) ≡ true
-held e l t = vectors-held (e .args .wanted) (e .args .counts) (read-entries e) l t
+held e l t = vectors-held (wants e) (e .args .counts) (read-entries e) (endIn (e .args .shape) (e .args .numbers .now)) l t
 
-pub few-found : (e : Entry) → view e .most ≡ most (e .args .wanted) (e .args .counts)
-few-found e = most-is (e .args .shape) (e .args .counts) (storeOf (e .args .floats .now) (e .args .numbers .now) (e .args .hashes .now)) (e .args .query .now) (e .args .wanted)
+pub few-found : (e : Entry) → view e .most ≡ most (wants e) (e .args .counts)
+few-found e = most-is (e .args .shape) (e .args .counts) (store e) (e .args .query .now) (wants e)
 
 abbrev pub list : Leaf → List ℕ
 list l = part (l .shown .given .0 .0 .start) (l .shown .given .0 .0 .count) (at-leaf l .args .numbers .now)
@@ -54,8 +53,8 @@ pub list-is : (l : Leaf) → shown (view (at-leaf l)) (node (least (leaf-opened 
     ≡ cond (passed (at-leaf l) (list l)) (hits (map (hit (at-leaf l)) (vectors (at-leaf l) (list l)))) damage
 list-is l =
     let e = at-leaf l in
-    shows (leaf-opened l) (look.Leaf (l .shown .given .0 .0)) (l .shown .given .1) .1 (e .args .floats .now) (e .args .query .now)
-    ∙ list-shown (e .args .shape) (e .args .counts) (e .args .floats .now) (e .args .numbers .now) (e .args .hashes .now) (e .args .query .now) (e .args .wanted) (list l)
+    shows (leaf-opened l) (look.Leaf (l .shown .given .0 .0)) (l .shown .given .1) .1 (e .args .floats .now) (e .args .query .now) (e .args .text .now)
+    ∙ list-shown (e .args .shape) (e .args .counts) (e .args .floats .now) (e .args .numbers .now) (e .args .hashes .now) (e .args .text .now) (e .args .query .now) (wants e) (list l)
 
 -- the hits' part, as it is lent
 abbrev pub lentFound : Least → List ℕ
@@ -71,7 +70,7 @@ work-room p = opened p .1 .holds .size
 
 -- and as it came back
 abbrev pub back : Hits → List ℕ
-back h = h .add-hits .last .1 .1 .1 .1 .0
+back h = h .add-hits .last .1 .1 .1 .1 .1 .0
 
 abbrev pub at-hits : Hits → Least
 at-hits h = least (leaf-opened (from h))
@@ -86,7 +85,7 @@ pub back-length : (h : Hits) → length (back h) ≡ max (at-leaf (from h) .args
 back-length h =
     let p = at-hits h in
     let s = at-leaf (from h) .args .shape in
-    h .add-hits .kept .1 .1 .1 .1 .0 ∙ ap length (lent-found p) ∙ length-found s (work p) (lends (at-leaf (from h)) .within .limits) (work-room p)
+    h .add-hits .kept .1 .1 .1 .1 .1 .0 ∙ ap length (lent-found p) ∙ length-found s (work p) (lends (at-leaf (from h)) .within .limits) (work-room p)
 
 pub after-is : (h : Hits) → after h ≡ sets (work (at-hits h)) (foundAt (at-leaf (from h) .args .shape)) (back h)
 after-is h =
@@ -111,4 +110,4 @@ gave h r is =
     let p = at-hits h in
     subst (λ (heap : List ℕ). Gave h (view e .most) heap r) (lent-found p)
     (subst (λ (n : ℕ). Gave h n (lentFound p) r) (sym (few-found e))
-    (subst (Gave h (most (e .args .wanted) (e .args .counts)) (lentFound p)) is (h .add-hits .ensures)))
+    (subst (Gave h (most (wants e) (e .args .counts)) (lentFound p)) is (h .add-hits .ensures)))

@@ -5,12 +5,13 @@ use Rattle.best_first_walk.specs.Walks.{foundAt}
 use Rattle.store.specs.Lent.{storeOf}
 use Rattle.walk.specs.declared.look.Look.{Look}
 use Rattle.walk.specs.LentLaws.{works-trans}
-use Rattle.walk.specs.Contracts.{StoreLent, Works, Looks}
+use Rattle.walk.specs.Contracts.{StoreLent, Works, LooksFor}
+use Rattle.walk.specs.Wanted.{Sought, sought}
 use Rattle.walk.specs.StoreView.{hitAt, storeView}
 use Rattle.walk.specs.StoreViewLaws.{store-children-below}
 use Rattle.walk.specs.Walk.{View}
 use Rattle.walk.specs.DifferentLaws.{ChildrenBelow}
-use Rattle.store.specs.Store.{marksAt, workSize}
+use Rattle.store.specs.Store.{Store, marksAt, workSize}
 use Rattle.lists.specs.Lists.{part}
 use lib.ListN.{length}
 use mathlib.Core.List.{List}
@@ -19,20 +20,20 @@ use Prim.Native.Nat.{ℕ, _+_, _-_, _≤_, _<_}
 use Rattle.best_first_walk.proofs.best_first_walk.Tie as tie
 
 abbrev pub Inv-loop : tie.InvT-loop
-Inv-loop shape counts ef-search floats numbers hashes work₀ query wanted nodes marks-at found-at found-end waiting opened found node start count j₀ work j =
+Inv-loop shape counts ef-search floats numbers hashes text work₀ query wanted first second nodes marks-at found-at found-end waiting opened found node start count j₀ work j =
     (j ≤ count)
     × (start + count ≤ length numbers)
-    × Marks shape counts (hitAt shape floats numbers query) (storeView shape counts (storeOf floats numbers hashes) query wanted) ef-search work₀ node (part start count numbers) j work waiting found opened
+    × Marks shape counts (hitAt shape floats numbers query) (storeView shape counts (storeOf floats numbers hashes text) query (sought wanted first second)) ef-search work₀ node (part start count numbers) j work waiting found opened
 
 abbrev pub μ-loop : tie.MeasureT-loop
-μ-loop shape counts ef-search floats numbers hashes work₀ query wanted nodes marks-at found-at found-end waiting opened found node start count j₀ work j = count - j
+μ-loop shape counts ef-search floats numbers hashes text work₀ query wanted first second nodes marks-at found-at found-end waiting opened found node start count j₀ work j = count - j
 
 abbrev pub Inv-walk : tie.InvT-walk
-Inv-walk shape counts ef-search floats numbers hashes work₀ query wanted nodes marks-at found-at found-end waiting₀ opened₀ found₀ work waiting opened found =
-    Waits shape counts (hitAt shape floats numbers query) (storeView shape counts (storeOf floats numbers hashes) query wanted) ef-search work₀ work waiting found opened
+Inv-walk shape counts ef-search floats numbers hashes text work₀ query wanted first second nodes marks-at found-at found-end waiting₀ opened₀ found₀ work waiting opened found =
+    Waits shape counts (hitAt shape floats numbers query) (storeView shape counts (storeOf floats numbers hashes text) query (sought wanted first second)) ef-search work₀ work waiting found opened
 
 abbrev pub μ-walk : tie.MeasureT-walk
-μ-walk shape counts ef-search floats numbers hashes work₀ query wanted nodes marks-at found-at found-end waiting₀ opened₀ found₀ work waiting opened found = ef-search - opened
+μ-walk shape counts ef-search floats numbers hashes text work₀ query wanted first second nodes marks-at found-at found-end waiting₀ opened₀ found₀ work waiting opened found = ef-search - opened
 
 -- ---- the places, each with the way back to the one before
 
@@ -51,7 +52,7 @@ abbrev pub sizes : Begun → Sizes
 sizes b = b .before .before
 
 abbrev pub entry : Begun → Entry
-entry b = sizes b .before .before .before .before .before .before .before .before
+entry b = sizes b .before .before .before .before .before .before .before .before .before .before .before
 
 -- a turn of the walk's loop
 abbrev pub Turn : Type 0
@@ -142,13 +143,20 @@ all-marked p = p .before .before
 abbrev pub hit : Entry → ℕ → ℕ
 hit e = hitAt (e .args .shape) (e .args .floats .now) (e .args .numbers .now) (e .args .query .now)
 
+-- the store, and what the search is about
+abbrev pub store : Entry → Store
+store e = storeOf (e .args .floats .now) (e .args .numbers .now) (e .args .hashes .now) (e .args .text .now)
+
+abbrev pub wants : Entry → Sought
+wants e = sought (e .args .wanted) (e .args .first .now) (e .args .second .now)
+
 abbrev pub view : Entry → View
-view e = storeView (e .args .shape) (e .args .counts) (storeOf (e .args .floats .now) (e .args .numbers .now) (e .args .hashes .now)) (e .args .query .now) (e .args .wanted)
+view e = storeView (e .args .shape) (e .args .counts) (store e) (e .args .query .now) (wants e)
 
 pub below : (e : Entry) → ChildrenBelow (view e) (e .args .counts .nodes)
-below e = store-children-below (e .args .shape) (e .args .counts) (storeOf (e .args .floats .now) (e .args .numbers .now) (e .args .hashes .now)) (e .args .query .now) (e .args .wanted)
+below e = store-children-below (e .args .shape) (e .args .counts) (store e) (e .args .query .now) (wants e)
 
-pub lends : (e : Entry) → StoreLent (e .args .shape) (e .args .counts) (storeOf (e .args .floats .now) (e .args .numbers .now) (e .args .hashes .now)) (e .args .work .now)
+pub lends : (e : Entry) → StoreLent (e .args .shape) (e .args .counts) (store e) (e .args .work .now)
 lends e = e .pre
 
 -- the work list with the root in it
@@ -156,7 +164,7 @@ abbrev pub first : Begun → List ℕ
 first b = b .begin .last .1 .1 .1 .0
 
 pub first-works : (b : Begun) → Works (entry b .args .shape) (entry b .args .work .now) (first b)
-first-works b = let e = entry b in b .begin .ensures (hit e) (e .args .numbers .now) (e .args .hashes .now) (e .args .wanted) .works
+first-works b = let e = entry b in b .begin .ensures (hit e) (e .args .numbers .now) (e .args .hashes .now) (e .args .text .now) (wants e) .works
 
 -- the parts of the work list: where the marks stand, and the hits' part
 pub marks : (b : Begun) → sizes b .before .before .marks-at .result ≡ marksAt (entry b .args .shape)
@@ -208,9 +216,9 @@ opened p =
 pub opened-works : (p : Least) → Works (entry (begun (turn p)) .args .shape) (entry (begun (turn p)) .args .work .now) (work p)
 opened-works p = let e = entry (begun (turn p)) in works-trans (e .args .shape) (e .args .work .now) (first (begun (turn p))) (work p) (first-works (begun (turn p))) (opened p .1 .works)
 
--- what the node shows
+-- what the node shows, for the label searched for
 abbrev pub Shows : Opened → Look → Type 0
-Shows o r = let e = entry (begun (turn (least o))) in Looks (e .args .shape) (e .args .counts) (e .args .numbers .now) (e .args .hashes .now) (e .args .wanted) (node (least o)) r
+Shows o r = let e = entry (begun (turn (least o))) in LooksFor (e .args .shape) (e .args .counts) (e .args .numbers .now) (e .args .hashes .now) (wants e) (node (least o)) r
 
 pub shows : (o : Opened) (r : Look) → o .look-at .result ≡ r → Shows o r
-shows o r is = subst (Shows o) is (o .look-at .ensures)
+shows o r is = let e = entry (begun (turn (least o))) in subst (Shows o) is (o .look-at .ensures (e .args .first .now) (e .args .second .now))

@@ -11,10 +11,10 @@ use Rattle.build.proofs.make.make_index.Tie as tie
 
 -- the function's entry, from the place after the shape is made
 abbrev entry : tie.After-shape-of → tie.Start
-entry c = c .before .before .before .before .before
+entry c = c .before .before .before .before .before .before
 
 abbrev storeOf : tie.Start → Store
-storeOf s = lent (s .args .floats) (s .args .numbers) (s .args .hashes)
+storeOf s = lent (s .args .floats) (s .args .numbers) (s .args .hashes) (s .args .text)
 
 -- the place after the shape is made, from the place after the tree is made
 abbrev shaped : tie.After-build-tree → tie.After-shape-of

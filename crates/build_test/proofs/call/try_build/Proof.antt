@@ -18,11 +18,16 @@ slice-aggregate-build-3 c = sym (length-take-le _ _ (omega arith))
 slice-aggregate-build-4 : tie.Need-slice-aggregate-build-4
 slice-aggregate-build-4 c = sym (length-take-le _ _ (omega arith))
 
+slice-aggregate-build-5 : tie.Need-slice-aggregate-build-5
+slice-aggregate-build-5 c = sym (length-take-le _ _ (omega arith))
+
 -- needs that arithmetic or search closes have no name
 pub try-build-spec : {M : Type 1} → statement M
 try-build-spec =
     tie.close
     (tie.spec
+    (λ c κs. search needs)
+    (λ c κs. search needs)
     (λ c κs. search needs)
     (λ c κs. search needs)
     (λ c κs. search needs)
@@ -40,6 +45,8 @@ try-build-spec =
     slice-aggregate-build-3
     (λ c. search needs)
     slice-aggregate-build-4
+    (λ c. search needs)
+    slice-aggregate-build-5
     (λ c κs. search needs)
     (λ c κs. search needs)
     (λ c κs. search needs)

@@ -12,6 +12,8 @@ use lib.Dec.{ltb}
 use lib.ListN.{length, drop}
 use Rattle.label.specs.Names.{namesOf}
 use Rattle.label.specs.NameLaws.{length-names}
+use Rattle.label.specs.Names.{bytesOfNames}
+use Rattle.label.specs.TextLaws.{length-joined-bytes}
 use Rattle.settings.specs.declared.Check.{Check}
 use Rattle.settings.specs.declared.Check.the-variants.{Fine, Refused}
 use Rattle.curator.specs.Calls.{factsOf}
@@ -49,6 +51,18 @@ else4 c = c .before .before .before .before
 abbrev told-5 : tie.Else5 → tie.After-enum-told
 told-5 c = told-4 (else4 c)
 
+abbrev else5 : tie.Else6 → tie.Else5
+else5 c = c .before .before .before
+
+abbrev else5′ : tie.Then6 → tie.Else5
+else5′ c = c .before .before .before
+
+abbrev told-6 : tie.Else6 → tie.After-enum-told
+told-6 c = told-5 (else5 c)
+
+abbrev fitted : tie.Else5 → tie.Else3
+fitted c = else4 c .before .before
+
 abbrev start : tie.After-unbuilt-check → tie.Start
 start c = c .before .before .before .before
 
@@ -73,8 +87,8 @@ counted c = c .before .before .before
 abbrev counted′ : tie.Then5 → tie.After-label-count
 counted′ c = c .before .before .before
 
-abbrev scanned : tie.Else5 → tie.After-scan
-scanned c = c .before .before .before .before .before .before .before .before .before .before
+abbrev scanned : tie.Else6 → tie.After-scan
+scanned c = c .before .before .before .before .before .before .before .before .before .before .before .before .before
 
 abbrev rows : tie.Start → List Row
 rows s =
@@ -125,6 +139,20 @@ after-8 : (c : tie.Else5) → firstOf (rows (entry (told-5 c))) ≡ firstOf (dro
 unfolding addRows
 after-8 c = after-7 (else4 c) ∙ row-passes _ _ (sym (room (counted c)) ∙ le-ltb _ _ (c .if5 .left))
 
+-- the label bytes are those of the names
+filled : (c : tie.Else5) → let args = entry (told-5 c) .args in
+    ltb (args .index .capacities .text) (args .index .counts .bytes + length (now (args .bytes)))
+    ≡ ltb (args .index .capacities .text) (args .index .counts .bytes + length (bytesOfNames (namesOf (now (args .lengths)) (now (args .bytes)))))
+filled c =
+    let args = entry (told-5 c) .args in
+    ap (λ (bytes : ℕ). ltb (args .index .capacities .text) (args .index .counts .bytes + bytes))
+    (length-joined-bytes (now (args .lengths)) (now (args .bytes))
+    (sym (fitted c .before .lengths-fit .ensures) ∙ not-false _ (fitted c .if3 .left)))
+
+after-9 : (c : tie.Else6) → firstOf (rows (entry (told-6 c))) ≡ firstOf (drop 9 (rows (entry (told-6 c))))
+unfolding addRows
+after-9 c = after-8 (else5 c) ∙ row-passes _ _ (sym (filled (else5 c)) ∙ le-ltb _ _ (c .if6 .left))
+
 unbuilt-check-requires : tie.Need-unbuilt-check-requires
 unbuilt-check-requires c κs = search needs
 
@@ -174,9 +202,19 @@ returns-6 : tie.Need-returns-6
 unfolding addRows
 returns-6 c = squares-by _ _ (after-7 (else4′ c) ∙ row-stops _ _ (sym (room (counted′ c)) ∙ lt-ltb _ _ (c .if5 .taken)))
 
+add-if6 : tie.Need-add-if6
+add-if6 c =
+    let told = told-5 (c .before) in
+    let s = sound told in
+    omega (arith, entry told .good)
+
 returns-7 : tie.Need-returns-7
 unfolding addRows
-returns-7 c = ap Squares (scanned c .scan .ensures .1) ∙ squares-by _ _ (after-8 c ∙ no-rows)
+returns-7 c = squares-by _ _ (after-8 (else5′ c) ∙ row-stops _ _ (sym (filled (else5′ c)) ∙ lt-ltb _ _ (c .if6 .taken)))
+
+returns-8 : tie.Need-returns-8
+unfolding addRows
+returns-8 c = ap Squares (scanned c .scan .ensures .1) ∙ squares-by _ _ (after-9 c ∙ no-rows)
 
 pub add-check-spec : {M : Type 1} → statement M
 add-check-spec =
@@ -195,4 +233,6 @@ add-check-spec =
     label-count-requires
     add-if5
     returns-6
-    returns-7)
+    add-if6
+    returns-7
+    returns-8)

@@ -1,15 +1,20 @@
--- Each list is written by one call; the facts of `AddRoom` say that it fits. The owners stand after the document ids.
+-- Each list is written by one call, the numbers by two; the facts of `AddRoom` say that it fits. The owners stand after the document ids.
 use Prim.Native.Nat.{ℕ, _+_}
 use mathlib.Core.Path.{_≡_, sym, ap, ap₂, _∙_, subst}
+use mathlib.Core.Bool.{true}
 use mathlib.Core.List.{List}
 use native.Mathlib.Omega.{arith}
 use borrow.Author.Needs.{needs}
 use lib.ListN.{length, set, replicate}
 use lib.Seq.{sets}
-use Rattle.label.specs.Names.{namesOf}
+use Rattle.label.specs.Names.{namesOf, lengthsFit, startsFrom, lengthsOfNames, summedPairs, startsByLengths}
+use Rattle.label.specs.TextLaws.{bytes-joined, length-joined-bytes, lengths-of-names, starts-of-names}
 use Rattle.label.specs.NameLaws.{length-names, fit-total}
 use Rattle.store.specs.declared.Shape.{Shape}
-use Rattle.store.specs.Store.{Limits}
+use Rattle.store.specs.declared.Counts.{Counts}
+use Rattle.store.specs.Store.{Limits, startsAt, lengthsAt}
+use Rattle.curator.specs.Changes.{withLabels}
+use Rattle.curator.specs.Lent.{LabelsRoom}
 use Rattle.curator.proofs.Steps.{place-fits, place-room}
 use Rattle.curator.proofs.add.write_add.Statement.{statement}
 use Rattle.curator.proofs.add.write_add.Tie as tie
@@ -18,10 +23,13 @@ use Rattle.curator.proofs.add.write_add.Tie as tie
 
 -- the function's entry, from the place where the owners' start is known
 abbrev entry : tie.After-owners-at → tie.Start
-entry c = c .before .before .before .before .before .before .before .before .before
+entry c = c .before .before .before .before .before .before .before .before .before .before .before
+
+abbrev shape-known : tie.After-owners-at → tie.After-shape-of
+shape-known c = c .before .before
 
 owners : (c : tie.After-owners-at) → c .owners-at .result ≡ entry c .args .index .capacities .vectors
-owners c = c .owners-at .ensures ∙ ap (λ (s : Shape). s .vectors) (c .before .shape-of .ensures)
+owners c = c .owners-at .ensures ∙ ap (λ (s : Shape). s .vectors) (shape-known c .shape-of .ensures)
 
 -- what `write_numbers` left, by an equal start of the owners and an equal number of them
 started : {after : List ℕ} (numbers : List ℕ) (vector document held : ℕ) {a b m n : ℕ}
@@ -30,28 +38,50 @@ started : {after : List ℕ} (numbers : List ℕ) (vector document held : ℕ) {
 started numbers vector document held h e f = h ∙ ap₂ (λ (o count : ℕ). sets (set numbers vector document) (o + held) (replicate count vector)) e f
 
 abbrev at-start : tie.After-shape-of → tie.Start
-at-start c = c .before .before .before .before .before .before .before .before
+at-start c = c .before .before .before .before .before .before .before .before .before
 
 abbrev after-owners-at : tie.After-label-count → tie.After-owners-at
-after-owners-at c = c .before .before .before
+after-owners-at c = c .before .before
 
 abbrev counted : tie.After-write-numbers → tie.After-label-count
 counted c = c .before
 
-abbrev after-write-numbers : tie.After-write-hashes-arg → tie.After-write-numbers
+abbrev after-write-numbers : tie.After-write-labels-arg → tie.After-write-numbers
 after-write-numbers c = c .before .before .before
 
-abbrev after-write-numbers′ : tie.After-write-hashes → tie.After-write-numbers
+abbrev after-write-numbers′ : tie.After-write-labels → tie.After-write-numbers
 after-write-numbers′ c = c .before .before .before .before
 
-abbrev after-write-hashes : tie.After-struct-known3 → tie.After-write-hashes
-after-write-hashes c = c .before .before .before .before .before
+abbrev after-write-labels : tie.After-write-hashes-arg → tie.After-write-labels
+after-write-labels c = c .before .before .before
 
-abbrev after-write-hashes′ : tie.After-write-vector → tie.After-write-hashes
-after-write-hashes′ c = c .before .before .before .before .before .before
+abbrev after-write-labels′ : tie.After-write-hashes → tie.After-write-labels
+after-write-labels′ c = c .before .before .before .before
 
-abbrev after-write-vector : tie.After-slice-known6 → tie.After-write-vector
+abbrev after-write-hashes : tie.After-write-text-arg → tie.After-write-hashes
+after-write-hashes c = c .before .before .before
+
+abbrev after-write-hashes′ : tie.After-write-text → tie.After-write-hashes
+after-write-hashes′ c = c .before .before .before .before
+
+abbrev after-write-text : tie.After-struct-known3 → tie.After-write-text
+after-write-text c = c .before .before .before .before .before
+
+abbrev after-write-text′ : tie.After-write-vector → tie.After-write-text
+after-write-text′ c = c .before .before .before .before .before .before
+
+abbrev after-write-vector : tie.After-slice-known9 → tie.After-write-vector
 after-write-vector c = c .before .before
+
+-- the entry, from the places after the lists were written
+abbrev from-numbers : tie.After-write-numbers → tie.Start
+from-numbers c = entry (after-owners-at (counted c))
+
+abbrev from-hashes : tie.After-write-hashes → tie.Start
+from-hashes c = from-numbers (after-write-numbers′ (after-write-labels′ c))
+
+abbrev from-text : tie.After-write-text → tie.Start
+from-text c = from-hashes (after-write-hashes′ c)
 
 -- the labels counted are the names
 labels : (c : tie.After-label-count)
@@ -65,11 +95,11 @@ shape-of-requires c κs = search needs
 
 owners-at-requires : tie.Need-owners-at-requires
 owners-at-requires c κs =
-    let start = at-start c in
-    subst (λ (s : Shape). Limits s) (sym (c .shape-of .ensures)) (start .pre .0 .limits)
+    let start = at-start (c .before) in
+    subst (λ (s : Shape). Limits s) (sym (c .before .shape-of .ensures)) (start .pre .0 .limits)
 
-add-owners : tie.Need-add-owners
-add-owners c = let start = owners (c .before) in omega arith
+add-write-numbers : tie.Need-add-write-numbers
+add-write-numbers c = let start = owners (c .before) in omega arith
 
 label-count-requires : tie.Need-label-count-requires
 label-count-requires c κs = search needs
@@ -81,21 +111,49 @@ write-numbers-requires c κs =
     let many = labels c in
     (omega (arith, entry known .pre .0), omega (arith, entry known .pre .0), omega (arith, entry known .pre .0, many))
 
+-- the lengths fit the bytes
+fits : (s : tie.Start) → let args = s .args in lengthsFit (args .lengths .now) (length (args .bytes .now)) ≡ true
+fits s = s .pre .0 .labels
+
+write-labels-requires : tie.Need-write-labels-requires
+write-labels-requires c κs =
+    let numbered = after-write-numbers c in
+    let s = from-numbers numbered in
+    let args = s .args in
+    let shaped = shape-known (after-owners-at (counted numbered)) .shape-of .ensures in
+    let room = s .pre .0 in
+    let many = length-names (args .lengths .now) (args .bytes .now) in
+    let sum = fit-total (args .lengths .now) (length (args .bytes .now)) (fits s) in
+    let long = length-joined-bytes (args .lengths .now) (args .bytes .now) (fits s) in
+    subst (λ (shape : Shape). LabelsRoom shape (args .index .counts) (numbered .write-numbers .last .0) (args .lengths .now)) (sym shaped)
+    (record {
+      limits = room .limits;
+      long = omega (arith, numbered .write-numbers .kept .0, room .long .numbers);
+      entries = omega (arith, many, room .entries);
+      text = omega (arith, sum, long, room .text);
+    })
+
 write-hashes-requires : tie.Need-write-hashes-requires
 write-hashes-requires c κs =
-    let known = after-owners-at (counted (after-write-numbers c)) in
-    let args = entry known .args in
+    let s = from-numbers (after-write-numbers′ (after-write-labels c)) in
+    let args = s .args in
     let many = length-names (args .lengths .now) (args .bytes .now) in
-    (omega (arith, entry known .pre .0, many), fit-total (args .lengths .now) (length (args .bytes .now)) (entry known .pre .0 .labels))
+    (omega (arith, s .pre .0, many), fit-total (args .lengths .now) (length (args .bytes .now)) (fits s))
+
+write-text-requires : tie.Need-write-text-requires
+write-text-requires c κs =
+    let s = from-hashes (after-write-hashes c) in
+    let args = s .args in
+    omega (arith, length-joined-bytes (args .lengths .now) (args .bytes .now) (fits s), s .pre .0 .text, s .pre .0 .long .text)
 
 mul-write-vector : tie.Need-mul-write-vector
 mul-write-vector c =
-    let start = entry (after-owners-at (counted (after-write-numbers′ (after-write-hashes c)))) in
+    let start = from-text (after-write-text c) in
     place-fits _ _ (omega (arith, start .pre .0)) (omega (arith, start .pre .0))
 
 write-vector-requires : tie.Need-write-vector-requires
 write-vector-requires c κs =
-    let start = entry (after-owners-at (counted (after-write-numbers′ (after-write-hashes c)))) in
+    let start = from-text (after-write-text c) in
     let index = start .args .index in
     let fits =
     place-room (index .counts .vectors) (index .dimension) (index .capacities .vectors) (index .capacities .nodes)
@@ -112,11 +170,32 @@ same-length-2 c = search needs
 same-length-3 : tie.Need-same-length-3
 same-length-3 c = search needs
 
+same-length-4 : tie.Need-same-length-4
+same-length-4 c = search needs
+
+-- what `write_labels` left, by the shape, the lengths and starts of the names, and what it was lent
+labelled : {after : List ℕ} (between numbers : List ℕ) {shape shape′ : Shape} (held : Counts) (lengths bytes : List ℕ)
+    → after ≡ sets (sets between (startsAt shape + held .entries) (startsByLengths (held .bytes) (summedPairs lengths))) (lengthsAt shape + held .entries) (summedPairs lengths)
+    → between ≡ numbers → shape ≡ shape′ → lengthsFit lengths (length bytes) ≡ true → after ≡ withLabels shape′ held (namesOf lengths bytes) numbers
+unfolding withLabels
+labelled between numbers {shape = shape} held lengths bytes is before same fit =
+    is
+    ∙ ap₂ (λ (starts sums : List ℕ). sets (sets between (startsAt shape + held .entries) starts) (lengthsAt shape + held .entries) sums)
+    (starts-of-names (held .bytes) lengths bytes fit)
+    (lengths-of-names lengths bytes fit)
+    ∙ ap₂
+    (λ (l : List ℕ) (s : Shape).
+    sets (sets l (startsAt s + held .entries) (startsFrom (held .bytes) (namesOf lengths bytes))) (lengthsAt s + held .entries) (lengthsOfNames (namesOf lengths bytes)))
+    before
+    same
+
 returns : tie.Need-returns
 returns c =
     let stored = after-write-vector c in
-    let hashed = after-write-hashes′ stored in
-    let numbered = after-write-numbers′ hashed in
+    let texted = after-write-text′ stored in
+    let hashed = after-write-hashes′ texted in
+    let labels-written = after-write-labels′ hashed in
+    let numbered = after-write-numbers′ labels-written in
     let known = after-owners-at (counted numbered) in
     let args = entry known .args in
     record {
@@ -124,11 +203,17 @@ returns c =
       normalized = stored .write-vector .ensures .normalized;
       floats = stored .write-vector .ensures .floats;
       numbers =
-          started (args .numbers .now) (args .index .counts .vectors) (args .doc-id) (args .index .counts .entries)
+          labelled (numbered .write-numbers .last .0) _ (args .index .counts) (args .lengths .now) (args .bytes .now) (labels-written .write-labels .ensures)
+          (started (args .numbers .now) (args .index .counts .vectors) (args .doc-id) (args .index .counts .entries)
           (numbered .write-numbers .ensures)
           (owners known)
-          (labels (counted numbered));
+          (labels (counted numbered)))
+          (shape-known known .shape-of .ensures)
+          (fits (entry known));
       hashes = hashed .write-hashes .ensures;
+      text =
+          texted .write-text .ensures
+          ∙ ap (sets (args .text .now) (args .index .counts .bytes)) (sym (bytes-joined (args .lengths .now) (args .bytes .now) (fits (entry known))));
     }
 
 pub write-add-spec : {M : Type 1} → statement M
@@ -137,13 +222,16 @@ write-add-spec =
     (tie.spec
     shape-of-requires
     owners-at-requires
-    add-owners
+    add-write-numbers
     label-count-requires
     write-numbers-requires
+    write-labels-requires
     write-hashes-requires
+    write-text-requires
     mul-write-vector
     write-vector-requires
     same-length
     same-length-2
     same-length-3
+    same-length-4
     returns)

@@ -1,7 +1,7 @@
 -- Each place is below the length, which the stores before it keep; the stores one after the other are `sets`.
 use Prim.Native.Nat.{ℕ, _<_}
 use mathlib.Core.List.{List}
-use mathlib.Core.Path.{ap}
+use mathlib.Core.Path.{_≡_, sym, ap, subst}
 use native.Mathlib.Omega.{arith}
 use lib.ListN.{length, take, set}
 use lib.Seq.{sets, lt-length-sets}
@@ -14,7 +14,7 @@ use Rattle.curator_c.proofs.state.write_state.Tie as tie
 abbrev written : tie.Start → ℕ → List ℕ
 written s k = sets (s .args .state .now) 0 (take k (stateList (s .args .index)))
 
-within : (s : tie.Start) (k : ℕ) → k < 12 → k < length (written s k)
+within : (s : tie.Start) (k : ℕ) → k < 14 → k < length (written s k)
 within s k h = lt-length-sets (s .args .state .now) 0 (take k (stateList (s .args .index))) (omega (arith, h, s .pre))
 
 slice-write-state : tie.Need-slice-write-state
@@ -56,11 +56,27 @@ flag-requires c κs = search needs
 slice-write-state-12 : tie.Need-slice-write-state-12
 slice-write-state-12 c = within (c .before .before) 11 (omega arith)
 
+-- the places from the flag on
+flagged : (c : tie.After-flag) → set (written (c .before .before) 11) 11 (c .flag .result) ≡ written (c .before .before) 12
+flagged c = ap (λ (x : ℕ). set (written (c .before .before) 11) 11 x) (c .flag .ensures)
+
+slice-write-state-13 : tie.Need-slice-write-state-13
+slice-write-state-13 c =
+    let s = c .before .before in
+    subst (λ (l : List ℕ). 12 < length l) (sym (flagged c)) (within s 12 (omega arith))
+
+slice-write-state-14 : tie.Need-slice-write-state-14
+slice-write-state-14 c =
+    let s = c .before .before in
+    subst (λ (l : List ℕ). 13 < length (set l 12 (s .args .index .capacities .text))) (sym (flagged c)) (within s 13 (omega arith))
+
 same-length : tie.Need-same-length
 same-length c = search needs
 
 returns : tie.Need-returns
-returns c = ap (λ (x : ℕ). set (written (c .before .before) 11) 11 x) (c .flag .ensures)
+returns c =
+    let index = c .before .before .args .index in
+    ap (λ (l : List ℕ). set (set l 12 (index .capacities .text)) 13 (index .counts .bytes)) (flagged c)
 
 pub write-state-spec : {M : Type 1} → statement M
 write-state-spec =
@@ -79,5 +95,7 @@ write-state-spec =
     slice-write-state-11
     flag-requires
     slice-write-state-12
+    slice-write-state-13
+    slice-write-state-14
     same-length
     returns)

@@ -19,21 +19,21 @@ use Rattle.load.proofs.carry.add_vector.Tie as tie
 
 -- the function's entry, from where the floats have been read
 abbrev start : tie.After-floats-at → tie.Start
-start c = c .before .before .before .before .before
+start c = c .before .before .before .before .before .before
 
 -- where the lengths have been made
 abbrev parted : tie.After-components → tie.After-name-lengths
-parted c = c .before .before .before .before .before
+parted c = c .before .before .before .before .before .before
 
 -- the floats are read before
 abbrev read : tie.After-name-lengths → tie.After-floats-at
 read c = c .before
 
 abbrev after-add : tie.After-added → tie.After-add
-after-add c = c .before .before .before .before .before .before .before
+after-add c = c .before .before .before .before .before .before .before .before .before
 
 abbrev parted′ : tie.After-add → tie.After-name-lengths
-parted′ c = c .before .before .before .before .before .before .before
+parted′ c = c .before .before .before .before .before .before .before .before
 
 -- an add, by an equal vector and equal lengths
 adds-as : (index : CuratorIndex) (store : Store) (document : ℕ) (bytes : List ℕ) (answer : Changed) (left : Store) {v w : List Float} {l m : List ℕ} → v ≡ w → l ≡ m
@@ -53,14 +53,14 @@ sub-lengths-count c = search needs
 mul-lengths-count : tie.Need-mul-lengths-count
 mul-lengths-count c = search needs
 
-sub-labels : tie.Need-sub-labels
-sub-labels c = search needs
+sub-bytes : tie.Need-sub-bytes
+sub-bytes c = search needs
 
-part-labels-start : tie.Need-part-labels-start
-part-labels-start c = search needs
+part-bytes-start : tie.Need-part-bytes-start
+part-bytes-start c = search needs
 
-part-labels-end : tie.Need-part-labels-end
-part-labels-end c = search needs
+part-bytes-end : tie.Need-part-bytes-end
+part-bytes-end c = search needs
 
 array-share-prefix-components : tie.Need-array-share-prefix-components
 array-share-prefix-components c = search needs
@@ -94,6 +94,9 @@ same-length-2 c = search needs
 same-length-3 : tie.Need-same-length-3
 same-length-3 c = search needs
 
+same-length-4 : tie.Need-same-length-4
+same-length-4 c = search needs
+
 returns : tie.Need-returns
 returns c =
     let a = after-add c in
@@ -103,9 +106,9 @@ returns c =
     let v = s .args .vector in
     let file = s .args .file .now in
     let x = a .add .last .1 in
-    let left : Store = record { floats = x .0; numbers = x .1 .0; hashes = x .1 .1 .0 } in (
+    let left : Store = record { floats = x .0; numbers = x .1 .0; hashes = x .1 .1 .0; text = x .1 .1 .1 .0 } in (
       a .add .result,
-      adds-as (s .args .index) (lent (s .args .floats) (s .args .numbers) (s .args .hashes)) (v .«doc_id») (bytesBetween (v .«labels_at») (v .«floats_at») file)
+      adds-as (s .args .index) (lent (s .args .floats) (s .args .numbers) (s .args .hashes) (s .args .labels)) (v .«doc_id») (bytesBetween (v .«labels_at») (v .«floats_at») file)
           (a .add .result)
           left
           (r .floats-at .ensures .1)
@@ -122,9 +125,9 @@ add-vector-spec =
     name-lengths-requires
     sub-lengths-count
     mul-lengths-count
-    sub-labels
-    part-labels-start
-    part-labels-end
+    sub-bytes
+    part-bytes-start
+    part-bytes-end
     array-share-prefix-components
     slice-aggregate-add
     array-share-prefix-lengths
@@ -134,4 +137,5 @@ add-vector-spec =
     same-length
     same-length-2
     same-length-3
+    same-length-4
     returns)

@@ -21,7 +21,7 @@ use Rattle.load.proofs.carry.find.Tie as tie
 
 -- the function's entry, from where the floats have been read
 abbrev start : tie.After-floats-at → tie.Start
-start c = c .before .before .before .before .before .before .before .before
+start c = c .before .before .before .before .before .before .before .before .before
 
 -- they are read before either search
 abbrev filtered : tie.After-components → tie.Then1
@@ -34,8 +34,8 @@ unfiltered c = c .before .before
 abbrev Finds : tie.Start → SearchEnd → List Float → Asked → Type 0
 Finds s end query asked =
     let a = s .args in
-    Searches (a .index) (lent (a .floats) (a .numbers) (a .hashes)) (a .work .now)
-    (searchWith query (a .query .k) asked (lists (a .floats) (a .numbers) (a .hashes) (a .work) (a .ids) (a .distances)))
+    Searches (a .index) (lent (a .floats) (a .numbers) (a .hashes) (a .labels)) (a .work .now)
+    (searchWith query (a .query .k) asked (lists (a .floats) (a .numbers) (a .hashes) (a .labels) (a .work) (a .ids) (a .distances)))
     end
 
 finds-as : (s : tie.Start) (end : SearchEnd) {q query : List Float} {a asked : Asked} → q ≡ query → a ≡ asked → Finds s end q a → Finds s end query asked
@@ -113,7 +113,7 @@ returns c =
     let f = after-search-filtered c in
     let t = filtered (after-components f) in
     let s = start (t .before) in
-    let x = f .search-filtered .last .1 .1 .1 .1 in
+    let x = f .search-filtered .last .1 .1 .1 .1 .1 in
     let end : SearchEnd = record { answer = f .search-filtered .result; work = x .0; ids = x .1 .1 .1 .1 .1 .0; distances = x .1 .1 .1 .1 .1 .1 .0 } in
     finds-as s end (t .before .floats-at .ensures .1) (whole s ∙ ap (label s) (sym (t .if1 .taken))) (f .search-filtered .ensures)
 
@@ -141,7 +141,7 @@ returns-2 c =
     let f = after-search c in
     let t = unfiltered (after-components2 f) in
     let s = start (t .before) in
-    let x = f .search .last .1 .1 .1 .1 in
+    let x = f .search .last .1 .1 .1 .1 .1 in
     let end : SearchEnd = record { answer = f .search .result; work = x .0; ids = x .1 .1 .1 .0; distances = x .1 .1 .1 .1 .0 } in
     finds-as s end (t .before .floats-at .ensures .1) (ap (label s) (sym (t .if1 .left))) (f .search .ensures)
 

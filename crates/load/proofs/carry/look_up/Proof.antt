@@ -12,10 +12,10 @@ use Rattle.load.proofs.carry.look_up.Tie as tie
 
 -- the function's entry, what it is lent and asked for
 abbrev start : tie.After-build → tie.Start
-start c = c .before .before .before .before .before .before .before .before .before .before .before .before
+start c = c .before .before .before .before .before .before .before .before .before .before .before .before .before
 
 abbrev lent : tie.Start → LoadLists
-lent s = lists (s .args .floats) (s .args .numbers) (s .args .hashes) (s .args .work) (s .args .ids) (s .args .distances)
+lent s = lists (s .args .floats) (s .args .numbers) (s .args .hashes) (s .args .labels) (s .args .work) (s .args .ids) (s .args .distances)
 
 abbrev asked : tie.Start → LoadLists → SearchCall
 asked s = searchAt (s .args .index .dimension) (s .args .file .now) (s .args .query)

@@ -1,7 +1,7 @@
--- The three tests of the definition, over the sizes that the methods give.
+-- The four tests of the definition, over the sizes that the methods give.
 use Prim.Native.Nat.{ℕ}
 use mathlib.Core.Bool.{not, _&&_}
-use mathlib.Core.Path.{ap, ap₂}
+use mathlib.Core.Path.{refl, ap, ap₂}
 use lib.Dec.{leb}
 use Rattle.store.specs.Lent.{storeShort}
 use borrow.Author.Needs.{needs}
@@ -20,12 +20,12 @@ hashes-size-requires c κs = search needs
 returns : tie.Need-returns
 unfolding storeShort
 returns c =
-    let sizes = c .before .before .before in
+    let sizes = c .before .before .before .before .before in
     let start = sizes .before .before .before in
     ap not
     (ap₂ _&&_ (ap (λ (n : ℕ). leb n (start .args .lent .floats)) (sizes .before .before .floats-size .ensures))
     (ap₂ _&&_ (ap (λ (n : ℕ). leb n (start .args .lent .numbers)) (sizes .before .numbers-size .ensures))
-    (ap (λ (n : ℕ). leb n (start .args .lent .hashes)) (sizes .hashes-size .ensures))))
+    (ap₂ _&&_ (ap (λ (n : ℕ). leb n (start .args .lent .hashes)) (sizes .hashes-size .ensures)) refl)))
 
 pub store-short-spec : {M : Type 1} → statement M
 store-short-spec =

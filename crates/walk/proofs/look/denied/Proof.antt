@@ -6,7 +6,7 @@ use Prim.Native.Nat.{_+_, _*_}
 use mathlib.Core.Path.{_≡_, sym, ap, _∙_}
 use Rattle.lists.specs.Lists.{part}
 use Rattle.store.specs.Store.{filtersAt}
-use Rattle.walk.specs.Wanted.{denies}
+use Rattle.walk.specs.Wanted.{sought, denies}
 use borrow.Author.Needs.{needs}
 use Rattle.walk.proofs.look.denied.Statement.{statement}
 use Rattle.walk.proofs.look.denied.Tie as tie
@@ -58,7 +58,7 @@ may-contain-requires c κs = search needs
 returns : tie.Need-returns
 unfolding denies
 returns c =
-    sym (ap (λ w. denies w (part (filtersAt (entry c .args .shape) + entry c .args .i * 4) 4 (entry c .args .hashes .now))) (c .enum-told .given .1))
+    λ first second. sym (ap (λ w. denies (sought w first second) (part (filtersAt (entry c .args .shape) + entry c .args .i * 4) 4 (entry c .args .hashes .now))) (c .enum-told .given .1))
 
 returns-2 : tie.Need-returns-2
 unfolding denies
@@ -66,8 +66,8 @@ returns-2 c =
     let start = entry′ (after-wanted c) in
     let from = filtersAt (start .args .shape) + start .args .i * 4 in
     let begins : c .before .before .filters-at .result + start .args .i * 4 ≡ from = ap (λ n. n + start .args .i * 4) (c .before .before .filters-at .ensures) in
-    ap not (c .may-contain .ensures ∙ ap (λ f. mayContain f (after-wanted c .wanted .given .0 .0)) (lent-is (start .args .hashes .now) _ _ from 4 begins (ap (λ n. n + 4) begins)))
-    ∙ sym (ap (λ w. denies w (part from 4 (start .args .hashes .now))) (after-wanted c .wanted .given .1))
+    λ first second. ap not (c .may-contain .ensures ∙ ap (λ f. mayContain f (after-wanted c .wanted .given .0 .0)) (lent-is (start .args .hashes .now) _ _ from 4 begins (ap (λ n. n + 4) begins)))
+    ∙ sym (ap (λ w. denies (sought w first second) (part from 4 (start .args .hashes .now))) (after-wanted c .wanted .given .1))
 
 pub denied-spec : {M : Type 1} → statement M
 denied-spec =

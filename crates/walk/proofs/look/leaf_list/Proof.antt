@@ -1,4 +1,5 @@
 -- `look::leaf_list` meets its contract. Assumes nothing.
+use Rattle.walk.specs.Wanted.{sought}
 use Rattle.walk.specs.Contracts.{Placing, LeafPlacing}
 use Prim.Native.Nat.{_+_}
 use mathlib.Core.Path.{sym, subst}
@@ -41,13 +42,13 @@ block-at-requires-2 c κs = search needs
 returns : tie.Need-returns
 returns c =
     let a = start c .args in
-    subst (λ w. LeafPlacing (a .shape) (a .counts) (a .numbers .now) w (a .at) (c .block-at .result)) (sym (c .before .before .enum-told .given .1))
+    λ first second. subst (λ w. LeafPlacing (a .shape) (a .counts) (a .numbers .now) (sought w first second) (a .at) (c .block-at .result)) (sym (c .before .before .enum-told .given .1))
     (subst (λ base. Placing (a .numbers .now) (a .at + 2) base (a .counts .vectors) (c .block-at .result)) (c .before .order-at .ensures) (c .block-at .ensures))
 
 returns-2 : tie.Need-returns-2
 returns-2 c =
     let a = start′ c .args in
-    subst (λ w. LeafPlacing (a .shape) (a .counts) (a .numbers .now) w (a .at) (c .block-at2 .result)) (sym (c .before .before .enum-told2 .given .1))
+    λ first second. subst (λ w. LeafPlacing (a .shape) (a .counts) (a .numbers .now) (sought w first second) (a .at) (c .block-at2 .result)) (sym (c .before .before .enum-told2 .given .1))
     (subst (λ base. Placing (a .numbers .now) (a .at + 4) base (a .counts .entries) (c .block-at2 .result)) (c .before .entry-order-at .ensures) (c .block-at2 .ensures))
 
 pub leaf-list-spec : {M : Type 1} → statement M

@@ -1,6 +1,6 @@
 -- `look::look_at` meets its contract: what was read of the node decides what it shows. Assumes nothing.
 use Rattle.walk.proofs.Looks.{looks-denied, looks-leaf, looks-inner, leafLook, innerLook}
-use Rattle.walk.specs.Wanted.{denies}
+use Rattle.walk.specs.Wanted.{sought, denies}
 use Rattle.walk.specs.Contracts.{Placing, LeafPlacing, Looks}
 use Rattle.walk.specs.declared.look.Look.{Look}
 use Rattle.walk.specs.declared.look.Placed.{Placed}
@@ -9,6 +9,7 @@ use Rattle.store.specs.Store.{nodesAt, linksAt, filtersAt}
 use Rattle.lists.specs.Lists.{part}
 use lib.ListN.{getD}
 use mathlib.Core.Bool.{false}
+use mathlib.Core.List.{List}
 use mathlib.Core.Path.{_≡_, sym, subst, subst₂, _∙_}
 use Prim.Native.Nat.{ℕ, _+_, _*_}
 use borrow.Author.Needs.{needs}
@@ -25,25 +26,25 @@ leaf l = l .before .before .before
 abbrev inner : tie.After-block-at → tie.After-nodes-at
 inner b = b .before .before .before .before
 
-passed : (n : tie.After-nodes-at) → denies (entry n .args .wanted) (part (filtersAt (entry n .args .shape) + entry n .args .i * 4) 4 (entry n .args .hashes .now)) ≡ false
-passed n = sym (n .before .before .denied .ensures) ∙ n .before .if1 .left
+passed : (n : tie.After-nodes-at) (first second : List ℕ) → denies (sought (entry n .args .wanted) first second) (part (filtersAt (entry n .args .shape) + entry n .args .i * 4) 4 (entry n .args .hashes .now)) ≡ false
+passed n first second = sym (n .before .before .denied .ensures first second) ∙ n .before .if1 .left
 
 abbrev Shows : tie.Start → Look → Type 0
 Shows e r = Looks (e .args .shape) (e .args .counts) (e .args .numbers .now) (e .args .hashes .now) (e .args .wanted) (e .args .i) r
 
 leaf-shows : (l : tie.After-leaf-list) (r : Placed) → l .leaf-list .result ≡ r → Shows (entry (leaf l)) (leafLook r)
-leaf-shows l r is =
+leaf-shows l r is first second =
     let n = leaf l in
     let a = entry n .args in
-    looks-leaf (a .shape) (a .counts) (a .numbers .now) (a .hashes .now) (a .wanted) (a .i) (passed n)
+    looks-leaf (a .shape) (a .counts) (a .numbers .now) (a .hashes .now) (sought (a .wanted) first second) (a .i) (passed n first second)
     (subst (λ (at : ℕ). getD (a .numbers .now) (at + a .i * 6 + 1) 0 ≡ 0) (n .nodes-at .ensures) (l .before .if2 .taken)) r
-    (subst₂ (λ (at : ℕ) (r : Placed). LeafPlacing (a .shape) (a .counts) (a .numbers .now) (a .wanted) (at + a .i * 6) r) (n .nodes-at .ensures) is (l .leaf-list .ensures))
+    (subst₂ (λ (at : ℕ) (r : Placed). LeafPlacing (a .shape) (a .counts) (a .numbers .now) (sought (a .wanted) first second) (at + a .i * 6) r) (n .nodes-at .ensures) is (l .leaf-list .ensures first second))
 
 inner-shows : (b : tie.After-block-at) (r : Placed) → b .block-at .result ≡ r → Shows (entry (inner b)) (innerLook r)
-inner-shows b r is =
+inner-shows b r is first second =
     let n = inner b in
     let a = entry n .args in
-    looks-inner (a .shape) (a .counts) (a .numbers .now) (a .hashes .now) (a .wanted) (a .i) (passed n)
+    looks-inner (a .shape) (a .counts) (a .numbers .now) (a .hashes .now) (sought (a .wanted) first second) (a .i) (passed n first second)
     (subst (λ (at : ℕ). getD (a .numbers .now) (at + a .i * 6 + 1) 0 ≡ 0 → ⊥) (n .nodes-at .ensures) (b .before .before .if2 .left)) r
     (subst (λ (r : Placed). Placing (a .numbers .now) (nodesAt (a .shape) + a .i * 6) (linksAt (a .shape)) (a .counts .nodes) r) is
     (subst₂ (λ (at base : ℕ). Placing (a .numbers .now) (at + a .i * 6) base (a .counts .nodes) (b .block-at .result)) (n .nodes-at .ensures) (b .before .links-at .ensures) (b .block-at .ensures)))
@@ -55,7 +56,8 @@ returns : tie.Need-returns
 returns c =
     let d = c .before in
     let a = d .before .before .before .args in
-    looks-denied (a .shape) (a .counts) (a .numbers .now) (a .hashes .now) (a .wanted) (a .i) (sym (d .denied .ensures) ∙ c .if1 .taken)
+    λ first second. looks-denied (a .shape) (a .counts) (a .numbers .now) (a .hashes .now) (sought (a .wanted) first second) (a .i)
+    (sym (d .denied .ensures first second) ∙ c .if1 .taken)
 
 nodes-at-requires : tie.Need-nodes-at-requires
 nodes-at-requires c κs = search needs
