@@ -1,20 +1,16 @@
 -- 02, K4: a build leaves start, length and bytes of each label as they were, whatever it answers. Why: what it writes of the numbers ends before the starts,
 -- and the label text is lent to be read.
-use Prim.Native.Nat.{ℕ, _+_, _≤_}
+use Prim.Native.Nat.{ℕ, _+_}
 use mathlib.Core.Bool.{Bool, true, false}
-use mathlib.Core.List.{List, [], _∷_}
+use mathlib.Core.List.{List}
 use mathlib.Core.Path.{_≡_, refl, sym, ap, _∙_}
 use native.Mathlib.Omega.{arith}
 use lib.ListN.{length, take, drop}
-use lib.Seq.{sets, drop-drop}
-use Rattle.lists.specs.Lists.{joined}
-use Rattle.lists.specs.Parts.{drop-sets}
-use Rattle.lists.specs.Frame.{Part, Freed}
+use lib.Seq.{drop-drop}
+use Rattle.lists.specs.Frame.{Before, freed-drop}
 use Rattle.store.specs.declared.Shape.{Shape}
-use Rattle.store.specs.Store.{Store, orderAt, nodesAt, linksAt, entryOrderAt, startsAt, lengthsAt}
-use Rattle.tree.specs.Nodes.{Node}
-use Rattle.tree.specs.Layout.{sixFrom, numbersOf}
-use Rattle.tree.specs.LayoutLaws.{NodesFit, length-sixFrom}
+use Rattle.store.specs.Store.{Store, startsAt, lengthsAt}
+use Rattle.tree.specs.LayoutLaws.{NodesFit, numbers-behind}
 use Rattle.settings.specs.declared.Check.{Check}
 use Rattle.settings.specs.declared.Check.the-variants.{Fine, Refused}
 use Rattle.settings.specs.declared.refusal.Refusal.{Refusal}
@@ -33,44 +29,11 @@ pub record LabelsKept (s : Shape) (before after : Store) : Type 0 where
   pub numbers : drop (startsAt s) (after .numbers) ≡ drop (startsAt s) (before .numbers)
   pub text : after .text ≡ before .text
 
--- ---- lists
-
--- every part ends at or before a place
-abbrev pub UpTo : ℕ → List Part → Type 0
-UpTo n [] = Unit {0}
-UpTo n (p ∷ parts) = (p .start + p .count ≤ n) × UpTo n parts
-
--- freed parts leave what stands behind them
-pub freed-drop : {A : Type 0} (n : ℕ) (parts : List Part) (before after : List A) → UpTo n parts → Freed parts before after → drop n after ≡ drop n before
-unfolding Freed
-freed-drop n [] before after h f = ap (drop n) f
-freed-drop n (p ∷ parts) before after h f =
-    let size = f .1 in
-    let ends = h .0 in
-    freed-drop n parts (sets before (p .start) (f .0)) after (h .1) (f .2) ∙ drop-sets n before (p .start) (f .0) (omega arith)
-
--- nodes that are laid out end before the starts
-pub numbers-behind : (s : Shape) (nodes : List Node) (numbers : List ℕ) → NodesFit s nodes
-    → drop (startsAt s) (numbersOf s nodes numbers) ≡ drop (startsAt s) numbers
-unfolding numbersOf
-numbers-behind s nodes numbers fit =
-    let ids = joined (λ node. node .ids) nodes in
-    let six = sixFrom 0 0 0 nodes in
-    let links = joined (λ node. node .children) nodes in
-    let entries = joined (λ node. node .entries) nodes in
-    let one = sets numbers (orderAt s) ids in
-    let two = sets one (nodesAt s) six in
-    let three = sets two (linksAt s) links in
-    drop-sets (startsAt s) three (entryOrderAt s) entries (omega (arith, fit .entries-fit))
-    ∙ drop-sets (startsAt s) two (linksAt s) links (omega (arith, fit .links-fit))
-    ∙ drop-sets (startsAt s) one (nodesAt s) six (omega (arith, fit .nodes-fit, length-sixFrom 0 0 0 nodes))
-    ∙ drop-sets (startsAt s) numbers (orderAt s) ids (omega (arith, fit .ids-fit))
-
 -- ---- a refused build
 
 module _ (s : Shape) (store : Store) (work : List ℕ) (store′ : Store) (work′ : List ℕ) where
-  left-by : (r : Refusal) → UpTo (startsAt s) (freeOf s r .numbers) → Left s r store work store′ work′ → LabelsKept s store store′
-  left-by r h l = record { numbers = freed-drop (startsAt s) (freeOf s r .numbers) (store .numbers) (store′ .numbers) h (l .numbers); text = l .text }
+  left-by : (r : Refusal) → Before (startsAt s) (freeOf s r .numbers) → Left s r store work store′ work′ → LabelsKept s store store′
+  left-by r h l = record { numbers = sym (freed-drop (startsAt s) (freeOf s r .numbers) (store .numbers) (store′ .numbers) h (l .numbers)); text = l .text }
 
   left-store : (r : StoreRefusal) → Left s (Refusal′.Store r) store work store′ work′ → LabelsKept s store store′
   unfolding freeOf freeStore
@@ -95,7 +58,7 @@ pub laid-labels : (index : CuratorIndex) (store : Store) (work : List ℕ) (stor
 laid-labels index store work store′ work′ fit l =
     record {
       numbers =
-          ap (drop (startsAt (indexShape index))) (l .numbers) ∙ numbers-behind (indexShape index) (heldNodes index store) (store .numbers) fit;
+          ap (drop (startsAt (indexShape index))) (l .numbers) ∙ numbers-behind (indexShape index) (heldNodes index store) (store .numbers) fit (startsAt (indexShape index)) (omega arith);
       text = l .text;
     }
 

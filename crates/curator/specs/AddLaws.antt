@@ -4,7 +4,6 @@ use mathlib.Core.Bool.{true, false}
 use mathlib.Core.Path.{_≡_, refl, sym, _∙_, subst}
 use native.Mathlib.Omega.{arith}
 use borrow.Author.Tests.{not-false, ltb-false, eqb-true, eqb-false}
-use lib.ListN.{length}
 use Rattle.vector.specs.Vector.{allFinite}
 use Rattle.store.specs.Store.{Store}
 use Rattle.store.specs.LentLaws.{store-long}

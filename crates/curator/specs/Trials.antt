@@ -7,7 +7,7 @@ use lib.Ieee.{binary32, ofBits, toBits}
 use lib.Dec.{eqb}
 use lib.ListN.{replicate}
 use lib.Seq.{sets}
-use Rattle.label.specs.Names.{namesOf, lengthsFit, Name, partLengths, partBytes}
+use Rattle.label.specs.Names.{namesOf, lengthsFit, partLengths, partBytes}
 use Rattle.vector.specs.Vector.{zero32}
 use Rattle.vector.specs.Normalized.{normalized, normalized-is}
 use Rattle.store.specs.Store.{Store}

@@ -95,13 +95,13 @@ fn write_labels(numbers: &mut [u32], shape: Shape, held: Counts, lengths: &[u8])
     ensures { λ _. ⌜ now (numbers .exit) ≡ sets (sets (now (numbers .entry)) (startsAt shape + held .entries) (startsByLengths (held .bytes) (summedPairs (now (lengths .entry)))))
         (lengthsAt shape + held .entries) (summedPairs (now (lengths .entry))) ⌝ }
 {
-    label::names::write_starts(
+    label::names::write_places(
         numbers,
         shape.starts_at() + held.entries,
+        shape.lengths_at() + held.entries,
         held.bytes,
         lengths,
     );
-    label::names::write_lengths(numbers, shape.lengths_at() + held.entries, lengths);
 }
 
 // Writes what an accepted add writes, after what is held; `squares` is the sum of the vector's squares. The vector comes last: nothing else waits for the
@@ -134,8 +134,7 @@ pub fn write_add(
         label::names::label_count(lengths),
     );
     write_labels(numbers, shape, held, lengths);
-    label::names::write_hashes(hashes, held.entries, lengths, bytes);
-    label::names::write_text(text, held.bytes, bytes);
+    label::names::write_hashes(hashes, held.entries, text, held.bytes, lengths, bytes);
     write_vector(floats, held.vectors * index.dimension, vector, squares);
 }
 

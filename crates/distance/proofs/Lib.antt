@@ -1,2 +1,3 @@
 -- Lemmas of the proofs in `distance`.
 pub mod Steps
+pub mod Fours

@@ -1,4 +1,4 @@
-// The distance of two vectors, and of one from four, by IEEE 754's binary32: each operation rounded once.
+// The distance of two vectors, and of one from four or eight, by IEEE 754's binary32: each operation rounded once.
 use float_bits::canonical;
 use vector::dot;
 ghost use mathlib.Core.Path.{_≡_};
@@ -35,6 +35,12 @@ pub struct Four {
     pub b: f32,
     pub c: f32,
     pub d: f32,
+}
+
+// One value for each of eight vectors.
+pub struct Eight {
+    pub front: Four,
+    pub back: Four,
 }
 
 // Each of four sums with the product of component i added.
@@ -107,6 +113,80 @@ fn dot_four(q: &[f32], a: &[f32], b: &[f32], c: &[f32], d: &[f32]) -> Four
     rest_four(sums, q, a, b, c, d, i)
 }
 
+// The same for eight vectors: the sums of the front four and of the back four are two chains of additions.
+fn dot_eight(
+    q: &[f32],
+    a: &[f32],
+    b: &[f32],
+    c: &[f32],
+    d: &[f32],
+    e: &[f32],
+    f: &[f32],
+    g: &[f32],
+    h: &[f32],
+) -> Eight
+    requires { ⌜ length (now a) ≡ length (now q) ⌝ }
+    requires { ⌜ length (now b) ≡ length (now q) ⌝ }
+    requires { ⌜ length (now c) ≡ length (now q) ⌝ }
+    requires { ⌜ length (now d) ≡ length (now q) ⌝ }
+    requires { ⌜ length (now e) ≡ length (now q) ⌝ }
+    requires { ⌜ length (now f) ≡ length (now q) ⌝ }
+    requires { ⌜ length (now g) ≡ length (now q) ⌝ }
+    requires { ⌜ length (now h) ≡ length (now q) ⌝ }
+    ensures { λ r. ⌜ r .front .a ≡ dot (now (q .entry)) (now (a .entry)) ⌝ }
+    ensures { λ r. ⌜ r .front .b ≡ dot (now (q .entry)) (now (b .entry)) ⌝ }
+    ensures { λ r. ⌜ r .front .c ≡ dot (now (q .entry)) (now (c .entry)) ⌝ }
+    ensures { λ r. ⌜ r .front .d ≡ dot (now (q .entry)) (now (d .entry)) ⌝ }
+    ensures { λ r. ⌜ r .back .a ≡ dot (now (q .entry)) (now (e .entry)) ⌝ }
+    ensures { λ r. ⌜ r .back .b ≡ dot (now (q .entry)) (now (f .entry)) ⌝ }
+    ensures { λ r. ⌜ r .back .c ≡ dot (now (q .entry)) (now (g .entry)) ⌝ }
+    ensures { λ r. ⌜ r .back .d ≡ dot (now (q .entry)) (now (h .entry)) ⌝ }
+{
+    let mut front = Four {
+        a: 0.0,
+        b: 0.0,
+        c: 0.0,
+        d: 0.0,
+    };
+    let mut back = Four {
+        a: 0.0,
+        b: 0.0,
+        c: 0.0,
+        d: 0.0,
+    };
+    let mut i = 0;
+    while 4 <= q.len() - i {
+        front = step_four(front, q, a, b, c, d, i);
+        front = step_four(front, q, a, b, c, d, i + 1);
+        front = step_four(front, q, a, b, c, d, i + 2);
+        front = step_four(front, q, a, b, c, d, i + 3);
+        back = step_four(back, q, e, f, g, h, i);
+        back = step_four(back, q, e, f, g, h, i + 1);
+        back = step_four(back, q, e, f, g, h, i + 2);
+        back = step_four(back, q, e, f, g, h, i + 3);
+        i += 4;
+    }
+    Eight {
+        front: rest_four(front, q, a, b, c, d, i),
+        back: rest_four(back, q, e, f, g, h, i),
+    }
+}
+
+// 1.0 minus each of four sums.
+fn from_ones(sums: Four) -> Four
+    ensures { λ r. ⌜ r .a ≡ sub binary32 one32 (sums .a) ⌝ }
+    ensures { λ r. ⌜ r .b ≡ sub binary32 one32 (sums .b) ⌝ }
+    ensures { λ r. ⌜ r .c ≡ sub binary32 one32 (sums .c) ⌝ }
+    ensures { λ r. ⌜ r .d ≡ sub binary32 one32 (sums .d) ⌝ }
+{
+    Four {
+        a: from_one(sums.a),
+        b: from_one(sums.b),
+        c: from_one(sums.c),
+        d: from_one(sums.d),
+    }
+}
+
 // Whether four lengths are n.
 fn all_equal(n: usize, a: usize, b: usize, c: usize, d: usize) -> bool
     ensures { λ r. ⌜ r ≡ eqb n a && (eqb n b && (eqb n c && eqb n d)) ⌝ }
@@ -123,18 +203,48 @@ pub fn cosine_distance_four(q: &[f32], a: &[f32], b: &[f32], c: &[f32], d: &[f32
     ensures { λ r. ⌜ r .d ≡ distance (now (q .entry)) (now (d .entry)) ⌝ }
 {
     if all_equal(q.len(), a.len(), b.len(), c.len(), d.len()) {
-        let sums = dot_four(q, a, b, c, d);
-        return Four {
-            a: from_one(sums.a),
-            b: from_one(sums.b),
-            c: from_one(sums.c),
-            d: from_one(sums.d),
-        };
+        return from_ones(dot_four(q, a, b, c, d));
     }
     Four {
         a: cosine_distance_normalized(q, a),
         b: cosine_distance_normalized(q, b),
         c: cosine_distance_normalized(q, c),
         d: cosine_distance_normalized(q, d),
+    }
+}
+
+// The distances of q from eight vectors, each as `cosine_distance_normalized` gives it.
+pub fn cosine_distance_eight(
+    q: &[f32],
+    a: &[f32],
+    b: &[f32],
+    c: &[f32],
+    d: &[f32],
+    e: &[f32],
+    f: &[f32],
+    g: &[f32],
+    h: &[f32],
+) -> Eight
+    ensures { λ r. ⌜ r .front .a ≡ distance (now (q .entry)) (now (a .entry)) ⌝ }
+    ensures { λ r. ⌜ r .front .b ≡ distance (now (q .entry)) (now (b .entry)) ⌝ }
+    ensures { λ r. ⌜ r .front .c ≡ distance (now (q .entry)) (now (c .entry)) ⌝ }
+    ensures { λ r. ⌜ r .front .d ≡ distance (now (q .entry)) (now (d .entry)) ⌝ }
+    ensures { λ r. ⌜ r .back .a ≡ distance (now (q .entry)) (now (e .entry)) ⌝ }
+    ensures { λ r. ⌜ r .back .b ≡ distance (now (q .entry)) (now (f .entry)) ⌝ }
+    ensures { λ r. ⌜ r .back .c ≡ distance (now (q .entry)) (now (g .entry)) ⌝ }
+    ensures { λ r. ⌜ r .back .d ≡ distance (now (q .entry)) (now (h .entry)) ⌝ }
+{
+    let front_equal = all_equal(q.len(), a.len(), b.len(), c.len(), d.len());
+    let back_equal = all_equal(q.len(), e.len(), f.len(), g.len(), h.len());
+    if front_equal & back_equal {
+        let sums = dot_eight(q, a, b, c, d, e, f, g, h);
+        return Eight {
+            front: from_ones(sums.front),
+            back: from_ones(sums.back),
+        };
+    }
+    Eight {
+        front: cosine_distance_four(q, a, b, c, d),
+        back: cosine_distance_four(q, e, f, g, h),
     }
 }

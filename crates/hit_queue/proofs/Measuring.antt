@@ -22,8 +22,10 @@ use Rattle.distance.specs.Distance.{distance}
 use Rattle.store.specs.declared.Counts.{Counts}
 use Rattle.lists.specs.Tests.{and-left, and-right, allPass-Memᴰ}
 use Rattle.walk.specs.Answer.{hitOf}
-use Rattle.hit_queue.specs.Contracts.{within, Measured, Measure, NumberAt}
+use Rattle.hit_queue.specs.Contracts.{within, Measured, Measure, NumberAt, Listed}
 use Rattle.walk.specs.StoreView.{hitAt}
+use Rattle.walk.specs.Contracts.{VectorsLent}
+use Rattle.walk.specs.LentLaws.{vector-within}
 use Rattle.hit_queue.specs.QueueLaws.{key-is}
 
 -- ---- hits are added
@@ -125,6 +127,19 @@ number-at c heap before at count w i p h e = record {
       (subst (λ (x : ℕ). List·Memᴰ x (part at count heap)) (getD-part at count heap i 0 h ∙ ap (λ (n : ℕ). getD heap n 0) (sym e))
       (getD-Memᴰ (part at count heap) i 0 (subst (λ (n : ℕ). i < n) (sym (length-part at count heap (w .inside))) h))));
 }
+
+-- a vector held is within the floats, and has a document id
+abbrev pub Held : Shape → List Float → List ℕ → ℕ → Type 0
+Held s floats numbers v = (v * s .dimension + s .dimension ≤ length floats) × Listed numbers v
+
+pub vector-held : (s : Shape) (c : Counts) (floats : List Float) (numbers : List ℕ) → VectorsLent s c floats numbers → (v : ℕ) → v < c .vectors → Held s floats numbers v
+vector-held s c floats numbers lent v low = (
+  vector-within s floats v (c .vectors) (lent .within .limits) (lent .floats-size) low (omega (arith, lent .within .vectors)),
+  record {
+    inside = omega (arith, low, lent .within .vectors, lent .numbers-size);
+    small = omega (arith, low, lent .within .vectors, lent .within .limits .vectors-high);
+  },
+)
 
 -- ---- numbers and their hits
 

@@ -82,6 +82,17 @@ pub record FourHeld (s : Shape) (counts : Counts) (floats : List Float) (numbers
   pub third : NumberAt counts list c
   pub fourth : NumberAt counts list d
 
+-- and `eight_hits` one at each of eight places from one on
+pub record EightHeld (s : Shape) (counts : Counts) (floats : List Float) (numbers list : List ℕ) (at : ℕ) : Type 0 where
+  pub lent : VectorsLent s counts floats numbers
+  pub inside : at + 8 ≤ length list
+  pub held : (place : ℕ) → at ≤ place → place < at + 8 → getD list place 0 < counts .vectors
+
+-- `hits_of` wants vectors that have a document id, and numbers below the highest count of vectors
+pub record Listed (numbers : List ℕ) (vector : ℕ) : Type 0 where
+  pub inside : vector < length numbers
+  pub small : vector < 4096
+
 -- ---- hits that were popped stay behind what is left
 
 -- the hits at `count` places from a place on

@@ -1,5 +1,7 @@
 // The hits of the vectors found are measured and put into a queue.
+use distance::Four;
 use distance::places::distances_at;
+use distance::places::eight_distances_at;
 use record_queue::Record;
 use record_queue::push;
 use store::Counts;
@@ -15,7 +17,7 @@ ghost use Rattle.distance.specs.Distance.{distance};
 ghost use Rattle.walk.specs.Answer.{hitOf};
 ghost use Rattle.walk.specs.StoreView.{hitAt};
 ghost use Rattle.lists.specs.Lists.{part};
-ghost use Rattle.hit_queue.specs.Contracts.{hitsOf, PushWithin, PushFew, FourHeld, MeasureFew, MeasureLent, Measured};
+ghost use Rattle.hit_queue.specs.Contracts.{hitsOf, PushWithin, PushFew, FourHeld, EightHeld, Listed, MeasureFew, MeasureLent, Measured};
 
 // The hits of four vectors.
 struct FourHits {
@@ -23,6 +25,12 @@ struct FourHits {
     b: Record,
     c: Record,
     d: Record,
+}
+
+// The hits of eight vectors.
+struct EightHits {
+    front: FourHits,
+    back: FourHits,
 }
 
 // The hit of a vector at a distance: the distance's key, document id and number.
@@ -35,6 +43,36 @@ fn hit(numbers: &[u32], vector: usize, distance: f32) -> Record
     Record {
         key: key(distance),
         rest: document * 0x1_0000_0000 + vector as u64,
+    }
+}
+
+// The hits of four vectors at their distances.
+fn hits_of(
+    numbers: &[u32],
+    first: usize,
+    second: usize,
+    third: usize,
+    fourth: usize,
+    distances: Four,
+) -> FourHits
+    requires { ⌜ Listed (now numbers) first ⌝ }
+    requires { ⌜ Listed (now numbers) second ⌝ }
+    requires { ⌜ Listed (now numbers) third ⌝ }
+    requires { ⌜ Listed (now numbers) fourth ⌝ }
+    ensures { λ r. ⌜ value (r .a) ≡ hitOf (distances .a) (getD (now (numbers .entry)) first 0) first ⌝ }
+    ensures { λ r. ⌜ value (r .b) ≡ hitOf (distances .b) (getD (now (numbers .entry)) second 0) second ⌝ }
+    ensures { λ r. ⌜ value (r .c) ≡ hitOf (distances .c) (getD (now (numbers .entry)) third 0) third ⌝ }
+    ensures { λ r. ⌜ value (r .d) ≡ hitOf (distances .d) (getD (now (numbers .entry)) fourth 0) fourth ⌝ }
+{
+    let a_hit = hit(numbers, first, distances.a);
+    let b_hit = hit(numbers, second, distances.b);
+    let c_hit = hit(numbers, third, distances.c);
+    let d_hit = hit(numbers, fourth, distances.d);
+    FourHits {
+        a: a_hit,
+        b: b_hit,
+        c: c_hit,
+        d: d_hit,
     }
 }
 
@@ -136,15 +174,48 @@ fn four_hits(
         third * size,
         fourth * size,
     );
-    let a_hit = hit(numbers, first, four.a);
-    let b_hit = hit(numbers, second, four.b);
-    let c_hit = hit(numbers, third, four.c);
-    let d_hit = hit(numbers, fourth, four.d);
-    FourHits {
-        a: a_hit,
-        b: b_hit,
-        c: c_hit,
-        d: d_hit,
+    hits_of(numbers, first, second, third, fourth, four)
+}
+
+// The hits of the eight vectors whose numbers stand from a place on of a list; they are measured at once.
+fn eight_hits(
+    shape: Shape,
+    counts: Counts,
+    floats: &[f32],
+    numbers: &[u32],
+    list: &[u32],
+    query: &[f32],
+    at: usize,
+) -> EightHits
+    requires { ⌜ EightHeld shape counts (now floats) (now numbers) (now list) at ⌝ }
+    ensures { λ r. ⌜ value (r .front .a) ∷ value (r .front .b) ∷ value (r .front .c) ∷ value (r .front .d) ∷ [] ≡ hitsOf shape (now (floats .entry)) (now (numbers .entry)) (now (query .entry)) (part at 4 (now (list .entry))) ⌝ }
+    ensures { λ r. ⌜ value (r .back .a) ∷ value (r .back .b) ∷ value (r .back .c) ∷ value (r .back .d) ∷ [] ≡ hitsOf shape (now (floats .entry)) (now (numbers .entry)) (now (query .entry)) (part (at + 4) 4 (now (list .entry))) ⌝ }
+{
+    let a = wide(list[at]);
+    let b = wide(list[at + 1]);
+    let c = wide(list[at + 2]);
+    let d = wide(list[at + 3]);
+    let e = wide(list[at + 4]);
+    let f = wide(list[at + 5]);
+    let g = wide(list[at + 6]);
+    let h = wide(list[at + 7]);
+    let size = shape.dimension;
+    let eight = eight_distances_at(
+        floats,
+        query,
+        size,
+        a * size,
+        b * size,
+        c * size,
+        d * size,
+        e * size,
+        f * size,
+        g * size,
+        h * size,
+    );
+    EightHits {
+        front: hits_of(numbers, a, b, c, d, eight.front),
+        back: hits_of(numbers, e, f, g, h, eight.back),
     }
 }
 
@@ -176,6 +247,28 @@ fn measure_four(
         at + 3,
     );
     push_four(heap, count, bound, four.a, four.b, four.c, four.d)
+}
+
+// The same for eight vectors: all numbers are read before the queue grows.
+fn measure_eight(
+    shape: Shape,
+    counts: Counts,
+    floats: &[f32],
+    numbers: &[u32],
+    heap: &mut [u32],
+    count: usize,
+    query: &[f32],
+    bound: u32,
+    at: usize,
+) -> usize
+    requires { ⌜ MeasureLent shape counts (now floats) (now numbers) (now heap) count at 8 ⌝ }
+    ensures { λ r. ⌜ Measured bound (hitsOf shape (now (floats .entry)) (now (numbers .entry)) (now (query .entry)) (part at 8 (now (heap .entry)))) count (now (heap .entry)) r (now (heap .exit)) ⌝ }
+{
+    let eight = eight_hits(shape, counts, floats, numbers, heap, query, at);
+    let front = eight.front;
+    let back = eight.back;
+    let queued = push_four(heap, count, bound, front.a, front.b, front.c, front.d);
+    push_four(heap, queued, bound, back.a, back.b, back.c, back.d)
 }
 
 // The same for one to three vectors: four are measured, the last of them repeated, and the repeats are not added.
@@ -211,8 +304,8 @@ fn measure_few(
     push_few(heap, count, bound, few, four.a, four.b, four.c)
 }
 
-// Adds those hits to a queue whose key is at most the bound, of the vectors whose numbers stand from a place on; four vectors are measured at a
-// time. The queue grows behind the numbers that are still to be read.
+// Adds those hits to a queue whose key is at most the bound, of the vectors whose numbers stand from a place on; eight vectors are measured
+// at a time, four where fewer are left. The queue grows behind the numbers that are still to be read.
 pub fn measure(
     shape: Shape,
     counts: Counts,
@@ -233,7 +326,20 @@ pub fn measure(
     while j < found {
         let at = from + j;
         let left = found - j;
-        if 4 <= left {
+        if 8 <= left {
+            queued = measure_eight(
+                shape,
+                counts,
+                floats,
+                numbers,
+                heap,
+                queued,
+                query,
+                bound,
+                at,
+            );
+            j += 8;
+        } else if 4 <= left {
             queued = measure_four(
                 shape,
                 counts,

@@ -11,7 +11,7 @@ use lib.ListN.{length, getD, take, drop, length-map, length-append}
 use lib.Seq.{drop-cons, drop-drop, take-append-seam, drop-append-seam}
 use Rattle.label.specs.Fnv.{fnv}
 use Rattle.lists.specs.Lists.{part, total, pieces}
-use Rattle.lists.specs.Tests.{and-right}
+use Rattle.lists.specs.Tests.{and-left, and-right}
 use Rattle.label.specs.Names.{joinedPairs, namesOf, lengthsFit, wholeLengths, hashesOfLabels, Name, joinedName, partLengths, partBytes}
 
 -- ---- sums
@@ -62,7 +62,11 @@ names-drop lengths bytes i start first second h e g =
     ∙ ap (λ (rest : List ℕ). (part start first bytes ++ take second rest) ∷ joinedPairs (pieces (drop (suc (suc i)) lengths) (drop second rest))) (drop-drop first start bytes)
     ∙ ap (λ (rest : List ℕ). (part start first bytes ++ part (start + first) second bytes) ∷ joinedPairs (pieces (drop (suc (suc i)) lengths) rest)) (drop-drop second (start + first) bytes)
 
--- lengths that fit sum to the bytes
+-- lengths that fit are two a name, and sum to the bytes
+pub fit-even : (lengths : List ℕ) (bytes : ℕ) → lengthsFit lengths bytes ≡ true → length lengths % 2 ≡ 0
+unfolding lengthsFit
+fit-even lengths bytes e = eqb-true _ _ (and-left (eqb (length lengths % 2) 0) (eqb (total lengths) bytes) e)
+
 pub fit-total : (lengths : List ℕ) (bytes : ℕ) → lengthsFit lengths bytes ≡ true → total lengths ≡ bytes
 unfolding lengthsFit
 fit-total lengths bytes e = eqb-true _ _ (and-right (eqb (length lengths % 2) 0) (eqb (total lengths) bytes) e)

@@ -2,19 +2,16 @@
 use Prim.Native.Nat.{ℕ, zero, suc, _+_, _-_, _%_, _≤_, _<_}
 use native.Mathlib.Nat.{add-zero, zero-add, le-of-suc-le-suc}
 use native.Mathlib.Omega.{arith}
-use borrow.Author.Tests.{eqb-true}
 use mathlib.Core.Bool.{true}
 use mathlib.Core.Path.{_≡_, refl, sym, ap, ap₂, _∙_}
 use mathlib.Core.List.{List, [], _∷_, _++_, map-append, append-assoc}
-use lib.Dec.{eqb}
 use lib.ListN.{length, getD, take, drop, length-map, length-append, length-drop, take-append-drop}
 use lib.Seq.{length-take-le, getD-at}
 use Rattle.lists.specs.Lists.{part, total, pieces}
 use Rattle.lists.specs.Counting.{joined-append}
 use Rattle.lists.specs.Parts.{part-middle}
-use Rattle.lists.specs.Tests.{and-left}
 use Rattle.label.specs.Names.{joinedPairs, namesOf, lengthsFit, startsFrom, lengthsOfNames, bytesOfNames, summedPairs, startsByLengths}
-use Rattle.label.specs.NameLaws.{fit-total}
+use Rattle.label.specs.NameLaws.{fit-even, fit-total}
 
 -- ---- as many as names
 
@@ -59,11 +56,11 @@ summed-pairs (first ∷ second ∷ lengths) bytes e =
     ap₂ (λ (n : ℕ) (l : List ℕ). n ∷ l) (sym (two-long first second bytes (omega arith)))
     (summed-pairs lengths (drop second (drop first bytes)) (omega arith))
 
--- what `write_lengths` writes
+-- the lengths that `write_places` writes
 pub lengths-of-names : (lengths bytes : List ℕ) → lengthsFit lengths (length bytes) ≡ true → summedPairs lengths ≡ lengthsOfNames (namesOf lengths bytes)
 lengths-of-names lengths bytes f = summed-pairs lengths bytes (fit-total lengths (length bytes) f)
 
--- what `write_starts` writes
+-- the starts that it writes
 pub starts-of-names : (held : ℕ) (lengths bytes : List ℕ) → lengthsFit lengths (length bytes) ≡ true
     → startsByLengths held (summedPairs lengths) ≡ startsFrom held (namesOf lengths bytes)
 starts-of-names held lengths bytes f =
@@ -88,10 +85,7 @@ pairs-joined (first ∷ second ∷ lengths) bytes even e =
     ∙ take-append-drop first bytes
 
 pub bytes-joined : (lengths bytes : List ℕ) → lengthsFit lengths (length bytes) ≡ true → bytesOfNames (namesOf lengths bytes) ≡ bytes
-unfolding lengthsFit
-bytes-joined lengths bytes f =
-    pairs-joined lengths bytes (eqb-true _ _ (and-left (eqb (length lengths % 2) 0) (eqb (total lengths) (length bytes)) f))
-    (fit-total lengths (length bytes) f)
+bytes-joined lengths bytes f = pairs-joined lengths bytes (fit-even lengths (length bytes) f) (fit-total lengths (length bytes) f)
 
 pub length-joined-bytes : (lengths bytes : List ℕ) → lengthsFit lengths (length bytes) ≡ true → length bytes ≡ length (bytesOfNames (namesOf lengths bytes))
 length-joined-bytes lengths bytes f = ap length (sym (bytes-joined lengths bytes f))

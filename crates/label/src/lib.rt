@@ -2,7 +2,7 @@
 ghost use mathlib.Core.List.{_++_};
 ghost use mathlib.Core.Path.{_≡_};
 ghost use Prim.Native.Nat.{_*_, _%_, _^_};
-ghost use Rattle.label.specs.Fnv.{prime, fnvFrom, fnv};
+ghost use Rattle.label.specs.Fnv.{prime, fnvStep, fnvFrom, fnv};
 
 pub mod names;
 
@@ -29,6 +29,13 @@ fn wide(byte: u8) -> u64
     byte as u64
 }
 
+// The hash with one byte more: exclusive-or first, then the product.
+fn hash_byte(hash: u64, byte: u8) -> u64
+    ensures { λ r. ⌜ r ≡ fnvStep hash byte ⌝ }
+{
+    times_prime(hash ^ wide(byte))
+}
+
 // The label hash from `start` on: the value after the last byte.
 pub fn hash_label(start: u64, bytes: &[u8]) -> u64
     ensures { λ r. ⌜ r ≡ fnvFrom start (now (bytes .entry)) ⌝ }
@@ -36,7 +43,7 @@ pub fn hash_label(start: u64, bytes: &[u8]) -> u64
     let mut hash = start;
     let mut i = 0;
     while i < bytes.len() {
-        hash = times_prime(hash ^ wide(bytes[i]));
+        hash = hash_byte(hash, bytes[i]);
         i += 1;
     }
     hash

@@ -1,6 +1,6 @@
 // The names of an add, each in two parts: two lengths a name cut them from the label bytes. Their hashes, and their text with its starts and lengths.
 ghost use mathlib.Core.Path.{_≡_};
-ghost use Prim.Native.Nat.{_+_, _-_, _*_, _/_, _≤_};
+ghost use Prim.Native.Nat.{_+_, _-_, _*_, _/_, _%_, _≤_};
 ghost use lib.Dec.{eqb};
 ghost use lib.ListN.{length};
 ghost use lib.Seq.{sets};
@@ -8,7 +8,7 @@ ghost use Rattle.lists.specs.Lists.{part, total};
 ghost use Rattle.label.specs.Fnv.{fnv};
 ghost use Rattle.label.specs.Names.{namesOf, lengthsFit, hashesOfLabels, wholeLengths, summedPairs, startsByLengths};
 use crate::OFFSET_BASIS;
-use crate::hash_label;
+use crate::hash_byte;
 
 // A byte as a size.
 fn wide(byte: u8) -> usize
@@ -48,18 +48,38 @@ pub fn label_count(lengths: &[u8]) -> usize
     lengths.len() / 2
 }
 
-// The hash of the name that goes from a start to an end: its second part stands right behind its first.
-fn name_hash(bytes: &[u8], start: usize, end: usize) -> u64
-    requires { ⌜ (start ≤ end) × (end ≤ length (now bytes)) ⌝ }
-    ensures { λ r. ⌜ r ≡ fnv (part start (end - start) (now (bytes .entry))) ⌝ }
+// Copies the name that goes from a start to an end into the text, each byte `place` places on, and answers its hash: the name's second part stands right
+// behind its first.
+fn copy_and_hash(text: &mut [u8], place: usize, bytes: &[u8], start: usize, end: usize) -> u64
+    requires { ⌜ (start ≤ end) × (end ≤ length (now bytes)) × (place + end ≤ length (now text)) ⌝ }
+    ensures { λ r. ⌜ (r ≡ fnv (part start (end - start) (now (bytes .entry))))
+        × (now (text .exit) ≡ sets (now (text .entry)) (place + start) (part start (end - start) (now (bytes .entry)))) ⌝ }
 {
-    hash_label(OFFSET_BASIS, &bytes[start..end])
+    let mut hash = OFFSET_BASIS;
+    let mut i = start;
+    while i < end {
+        let byte = bytes[i];
+        text[place + i] = byte;
+        hash = hash_byte(hash, byte);
+        i += 1;
+    }
+    hash
 }
 
-// Writes each name's hash. A part starts where the one before it ended.
-pub fn write_hashes(hashes: &mut [u64], place: usize, lengths: &[u8], bytes: &[u8])
-    requires { ⌜ (place + length (now lengths) / 2 ≤ length (now hashes)) × (total (now lengths) ≡ length (now bytes)) ⌝ }
-    ensures { λ _. ⌜ now (hashes .exit) ≡ sets (now (hashes .entry)) place (hashesOfLabels (namesOf (now (lengths .entry)) (now (bytes .entry)))) ⌝ }
+// Writes each name's hash, and the bytes of the names after the `held` bytes of the text: they stand one behind the other as they came. A part starts where
+// the one before it ended.
+pub fn write_hashes(
+    hashes: &mut [u64],
+    place: usize,
+    text: &mut [u8],
+    held: usize,
+    lengths: &[u8],
+    bytes: &[u8],
+)
+    requires { ⌜ (place + length (now lengths) / 2 ≤ length (now hashes)) × (held + length (now bytes) ≤ length (now text)) ⌝ }
+    requires { ⌜ (length (now lengths) % 2 ≡ 0) × (total (now lengths) ≡ length (now bytes)) ⌝ }
+    ensures { λ _. ⌜ (now (hashes .exit) ≡ sets (now (hashes .entry)) place (hashesOfLabels (namesOf (now (lengths .entry)) (now (bytes .entry)))))
+        × (now (text .exit) ≡ sets (now (text .entry)) held (now (bytes .entry))) ⌝ }
 {
     let labels = label_count(lengths);
     let mut start = 0;
@@ -67,7 +87,7 @@ pub fn write_hashes(hashes: &mut [u64], place: usize, lengths: &[u8], bytes: &[u
     while i < labels {
         let middle = start + wide(lengths[2 * i]);
         let end = middle + wide(lengths[2 * i + 1]);
-        hashes[place + i] = name_hash(bytes, start, end);
+        hashes[place + i] = copy_and_hash(text, held, bytes, start, end);
         start = end;
         i += 1;
     }
@@ -80,43 +100,21 @@ fn name_length(first: u8, second: u8) -> u32
     first as u32 + second as u32
 }
 
-// Writes where each name's text starts, `held` bytes standing before the first. A name starts where the one before it ended. Label text has at most
-// 4,177,920 bytes (02, K4), so a start fits 32 bits.
-pub fn write_starts(numbers: &mut [u32], place: usize, held: usize, lengths: &[u8])
-    requires { ⌜ (place + length (now lengths) / 2 ≤ length (now numbers)) × (held + total (now lengths) ≤ 4177920) ⌝ }
-    ensures { λ _. ⌜ now (numbers .exit) ≡ sets (now (numbers .entry)) place (startsByLengths held (summedPairs (now (lengths .entry)))) ⌝ }
+// Writes where each name's text stands: its start from place `starts` on, its length from place `sizes` on, `held` bytes standing before the first. A name
+// starts where the one before it ended. Label text has at most 4,177,920 bytes (02, K4), so a start fits 32 bits.
+pub fn write_places(numbers: &mut [u32], starts: usize, sizes: usize, held: usize, lengths: &[u8])
+    requires { ⌜ (starts + length (now lengths) / 2 ≤ sizes) × (sizes + length (now lengths) / 2 ≤ length (now numbers)) × (held + total (now lengths) ≤ 4177920) ⌝ }
+    ensures { λ _. ⌜ now (numbers .exit) ≡ sets (sets (now (numbers .entry)) starts (startsByLengths held (summedPairs (now (lengths .entry)))))
+        sizes (summedPairs (now (lengths .entry))) ⌝ }
 {
     let labels = label_count(lengths);
     let mut start = held;
     let mut i = 0;
     while i < labels {
-        numbers[place + i] = start as u32;
-        start += name_length(lengths[2 * i], lengths[2 * i + 1]) as usize;
-        i += 1;
-    }
-}
-
-// Writes each name's length.
-pub fn write_lengths(numbers: &mut [u32], place: usize, lengths: &[u8])
-    requires { ⌜ place + length (now lengths) / 2 ≤ length (now numbers) ⌝ }
-    ensures { λ _. ⌜ now (numbers .exit) ≡ sets (now (numbers .entry)) place (summedPairs (now (lengths .entry))) ⌝ }
-{
-    let labels = label_count(lengths);
-    let mut i = 0;
-    while i < labels {
-        numbers[place + i] = name_length(lengths[2 * i], lengths[2 * i + 1]);
-        i += 1;
-    }
-}
-
-// Writes the bytes of the names, which stand one behind the other as they came.
-pub fn write_text(text: &mut [u8], place: usize, bytes: &[u8])
-    requires { ⌜ place + length (now bytes) ≤ length (now text) ⌝ }
-    ensures { λ _. ⌜ now (text .exit) ≡ sets (now (text .entry)) place (now (bytes .entry)) ⌝ }
-{
-    let mut i = 0;
-    while i < bytes.len() {
-        text[place + i] = bytes[i];
+        let size = name_length(lengths[2 * i], lengths[2 * i + 1]);
+        numbers[starts + i] = start as u32;
+        numbers[sizes + i] = size;
+        start += size as usize;
         i += 1;
     }
 }

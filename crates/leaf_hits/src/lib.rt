@@ -5,8 +5,8 @@ use store::wide;
 use walk::Wanted;
 use walk::look::Block;
 ghost use mathlib.Core.Path.{_≡_};
-ghost use Prim.Native.Nat.{_+_, _^_, _<_, _≤_, min};
-ghost use lib.ListN.{length, getD, set};
+ghost use Prim.Native.Nat.{_+_, _-_, _^_, _<_, _≤_, min};
+ghost use lib.ListN.{length, getD, set, drop};
 ghost use Rattle.lists.specs.Lists.{part, sameList};
 ghost use lib.Dec.{eqb, ltb};
 ghost use mathlib.Core.Bool.{_&&_, cond};
@@ -219,12 +219,24 @@ fn gather_entries(
     end
 }
 
-// Whether the bytes from a place on are those of a name.
-fn same_bytes(text: &[u8], start: usize, name: &[u8]) -> bool
-    requires { ⌜ start + length (now name) ≤ length (now text) ⌝ }
-    ensures { λ r. ⌜ r ≡ sameList (part start (length (now (name .entry))) (now (text .entry))) (now (name .entry)) ⌝ }
+// Whether four bytes of the text are four of a name.
+fn same_four(text: &[u8], at: usize, name: &[u8], j: usize) -> bool
+    requires { ⌜ at + 4 ≤ length (now text) ⌝ }
+    requires { ⌜ j + 4 ≤ length (now name) ⌝ }
+    ensures { λ r. ⌜ r ≡ sameList (part at 4 (now (text .entry))) (part j 4 (now (name .entry))) ⌝ }
 {
-    let mut j = 0;
+    (text[at] == name[j])
+        & ((text[at + 1] == name[j + 1])
+            & ((text[at + 2] == name[j + 2]) & (text[at + 3] == name[j + 3])))
+}
+
+// Whether the bytes of a name from one of them on are those of the text, where the name is to start at a place; one at a time.
+fn same_rest(text: &[u8], start: usize, name: &[u8], from: usize) -> bool
+    requires { ⌜ start + length (now name) ≤ length (now text) ⌝ }
+    requires { ⌜ from ≤ length (now name) ⌝ }
+    ensures { λ r. ⌜ r ≡ sameList (part (start + from) (length (now (name .entry)) - from) (now (text .entry))) (drop from (now (name .entry))) ⌝ }
+{
+    let mut j = from;
     let end: bool;
     loop {
         if j == name.len() {
@@ -238,6 +250,27 @@ fn same_bytes(text: &[u8], start: usize, name: &[u8]) -> bool
         j += 1;
     }
     end
+}
+
+// Whether the bytes from a place on are those of a name, four at a time.
+fn same_bytes(text: &[u8], start: usize, name: &[u8]) -> bool
+    requires { ⌜ start + length (now name) ≤ length (now text) ⌝ }
+    ensures { λ r. ⌜ r ≡ sameList (part start (length (now (name .entry))) (now (text .entry))) (now (name .entry)) ⌝ }
+{
+    let mut j = 0;
+    let equal: bool;
+    loop {
+        if name.len() - j < 4 {
+            equal = same_rest(text, start, name, j);
+            break;
+        }
+        if !same_four(text, start + j, name, j) {
+            equal = false;
+            break;
+        }
+        j += 4;
+    }
+    equal
 }
 
 // 1 if the bytes of a part of the text are a name, which is given in two parts, otherwise 0.

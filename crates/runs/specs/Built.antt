@@ -9,7 +9,7 @@ use lib.Ieee.{Float, nan}
 use lib.ListN.{length, getD, take, replicate, length-replicate}
 use lib.Seq.{sets}
 use Rattle.lists.specs.Lists.{part, joined}
-use Rattle.lists.specs.Parts.{part-sets-same, part-sets-after, take-sets}
+use Rattle.lists.specs.Parts.{part-sets-same, take-sets}
 use Rattle.lists.specs.Frame.{Freed, From, Before, freed-length, freed-take, freed-drop, freed}
 use Rattle.store.specs.declared.Shape.{Shape}
 use Rattle.store.specs.Store.{Store, centroidsAt, centresAt, orderAt, nodesAt, linksAt, entryOrderAt, startsAt, lengthsAt, filtersAt, floatsSize, numbersSize, hashesSize, workPart}
@@ -19,7 +19,7 @@ use Rattle.tree.specs.Nodes.{Node, Entries, nodesOf}
 use Rattle.tree.specs.Layout.{sixFrom, floatsOf, numbersOf, hashesOf}
 use Rattle.tree.specs.NodeLaws.{length-nodesOf}
 use Rattle.tree.specs.NumberedNodes.{nodesOf-four, nodesOf-wide}
-use Rattle.tree.specs.LayoutLaws.{NodesFit, nodesOf-fit, length-blocks, length-sixFrom, numbers-order, numbers-six, numbers-links, numbers-entries, floats-centroids, length-floatsOf, length-numbersOf, length-hashesOf}
+use Rattle.tree.specs.LayoutLaws.{NodesFit, nodesOf-fit, length-blocks, length-sixFrom, numbers-order, numbers-six, numbers-links, numbers-entries, numbers-behind, floats-centroids, length-floatsOf, length-numbersOf, length-hashesOf}
 use Rattle.curator.specs.declared.CuratorIndex.{CuratorIndex}
 use Rattle.settings.specs.declared.refusal.Refusal.{Refusal}
 use Rattle.settings.specs.declared.refusal.Refusal.the-variants as Refusal′
@@ -151,19 +151,8 @@ module _ (s : Setting) (m : Model) (store store′ : Store) (work work′ : List
 
   -- what stands behind the node parts of the numbers stays
   built-behind : (at count : ℕ) → startsAt (settingShape s) ≤ at → part at count (store .numbers) ≡ part at count (store′ .numbers)
-  unfolding numbersOf
   built-behind at count h =
-      let N = modelNodes s m in
-      let sh = settingShape s in
-      let fit = facts .fit in
-      let one = sets (store .numbers) (orderAt sh) (joined (λ node. node .ids) N) in
-      let two = sets one (nodesAt sh) (sixFrom 0 0 0 N) in
-      let three = sets two (linksAt sh) (joined (λ node. node .children) N) in
-      sym (ap (part at count) numbers-are
-      ∙ part-sets-after at count three (entryOrderAt sh) (joined (λ node. node .entries) N) (omega (arith, h, fit .entries-fit))
-      ∙ part-sets-after at count two (linksAt sh) (joined (λ node. node .children) N) (omega (arith, h, fit .links-fit))
-      ∙ part-sets-after at count one (nodesAt sh) (sixFrom 0 0 0 N) (omega (arith, h, fit .nodes-fit, length-sixFrom 0 0 0 N))
-      ∙ part-sets-after at count (store .numbers) (orderAt sh) (joined (λ node. node .ids) N) (omega (arith, h, fit .ids-fit)))
+      sym (ap (part at count) numbers-are ∙ ap (take count) (numbers-behind (settingShape s) (modelNodes s m) (store .numbers) (facts .fit) at h))
 
   -- the rows' parts stand before the node parts, and behind them
   built-fronts : Agree (rowsEnd s) store store′

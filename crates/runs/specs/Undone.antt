@@ -37,7 +37,7 @@ use Rattle.runs.specs.Reached.{run-allowed, reached, step-keeps, end-num
 pub record Undone (s : Setting) (fronts : Lengths) (end : Ended) (index : CuratorIndex) (store store′ : Store) (index″ : CuratorIndex) (store″ : Store) : Type 0 where
   -- the taking back is accepted where it is lent what add is, and refused with 3 where it is not
   pub number : endNumber end ≡ cond (storeShort (settingShape s) fronts) 3 0
-  -- accepted, 'counts and the vectors, ids, owners and hashes held are those before that add'
+  -- accepted, 'counts and the vectors, ids, owners and hashes held are those before that add', and with K4 starts, lengths and text
   pub state : endNumber end ≡ 0 → index″ ≡ index
   pub held : endNumber end ≡ 0 → SameOfIndex index store″ store
   -- 'and places past the counts keep their numbers': no list is written

@@ -9,8 +9,8 @@ use mathlib.Core.Bool.{Bool, true, false, cond, _&&_, _||_, false≢true}
 use mathlib.Core.Logic.{_⊎_, inl, inr}
 use mathlib.Core.List.{List, [], _∷_, _++_, map, map-map, map-append, List·Memᴰ, List·Memᴰ·head, List·Memᴰ·tail}
 use mathlib.Core.Path.{_≡_, refl, sym, ap, ap₂, _∙_}
-use borrow.Author.Tests.{eqb-true, eqb-false, eq-eqb, ne-eqb, lt-ltb, not-true}
-use lib.Dec.{ltb, eqb}
+use borrow.Author.Tests.{eq-eqb, lt-ltb, not-true}
+use lib.Dec.{eqb}
 use lib.ListN.{length, getD, replicate, length-map}
 use Rattle.lists.specs.Lists.{joined, keep, countFrom, sameList}
 use Rattle.lists.specs.Same.{same-equal, equal-same, differ-same}

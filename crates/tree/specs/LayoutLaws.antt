@@ -5,13 +5,13 @@ use mathlib.Core.List.{List, [], _∷_, _++_, List·Memᴰ, List·Memᴰ·head, 
 use native.Mathlib.Nat.{zero-add, add-zero, add-assoc, zero-mul, suc-mul, mul-comm, mul-add, add-mul, mul-le-mul-right, not-suc-le-zero, le-of-suc-le-suc}
 use native.Mathlib.Omega.{arith}
 use lib.Ieee.{Float}
-use lib.ListN.{length, getD, take, length-append}
+use lib.ListN.{length, getD, take, drop, length-append}
 use lib.Seq.{sets, length-sets, take-append-seam}
 use Rattle.lists.specs.Lists.{part, joined}
 use Rattle.lists.specs.Counting.{sumOf, getD-Memᴰ}
-use Rattle.lists.specs.Parts.{getD-part, part-part, part-append-right, part-sets-same, part-sets-before}
+use Rattle.lists.specs.Parts.{drop-sets, getD-part, part-part, part-append-right, part-sets-same, part-sets-before}
 use Rattle.store.specs.declared.Shape.{Shape}
-use Rattle.store.specs.Store.{vectorAt, centroidsAt, centresAt, floatsSize, orderAt, nodesAt, linksAt, entryOrderAt, numbersSize, filtersAt, hashesSize, nodeField, childLinks, nodeFilter}
+use Rattle.store.specs.Store.{vectorAt, centroidsAt, centresAt, floatsSize, orderAt, nodesAt, linksAt, entryOrderAt, startsAt, numbersSize, filtersAt, hashesSize, nodeField, childLinks, nodeFilter}
 use Rattle.tree.specs.Tree.{Splitting, treeOf, size}
 use Rattle.tree.specs.Nodes.{Entries, Node, nodesOf}
 use Rattle.tree.specs.Layout.{startOf, sixFrom, numbersOf, hashesOf, floatsOf}
@@ -186,6 +186,22 @@ length-numbersOf s nodes numbers =
 module _ (s : Shape) (nodes : List Node) (numbers : List ℕ) (fit : NodesFit s nodes) where
   six-fit : length (sixFrom 0 0 0 nodes) ≤ 6 * s .nodes
   six-fit = let e = length-sixFrom 0 0 0 nodes in let h = fit .nodes-fit in omega arith
+
+  -- what stands behind the entry numbers stays
+  pub numbers-behind : (at : ℕ) → startsAt s ≤ at → drop at (numbersOf s nodes numbers) ≡ drop at numbers
+  unfolding numbersOf
+  numbers-behind at h =
+      let ids = joined (λ node. node .ids) nodes in
+      let six = sixFrom 0 0 0 nodes in
+      let links = joined (λ node. node .children) nodes in
+      let entries = joined (λ node. node .entries) nodes in
+      let one = sets numbers (orderAt s) ids in
+      let two = sets one (nodesAt s) six in
+      let three = sets two (linksAt s) links in
+      drop-sets at three (entryOrderAt s) entries (omega (arith, h, fit .entries-fit))
+      ∙ drop-sets at two (linksAt s) links (omega (arith, h, fit .links-fit))
+      ∙ drop-sets at one (nodesAt s) six (omega (arith, h, fit .nodes-fit, length-sixFrom 0 0 0 nodes))
+      ∙ drop-sets at numbers (orderAt s) ids (omega (arith, h, fit .ids-fit))
 
 module _ (s : Shape) (nodes : List Node) (numbers : List ℕ) (fit : NodesFit s nodes) (long : numbersSize s ≤ length numbers) where
   -- the parts that are written

@@ -90,7 +90,7 @@ given-held (with-label hash name) c read end l t v m =
 
 -- ---- two ways to read the entries
 
--- where one way to read an entry finds its bytes
+-- one way to read entries, and where it has their bytes end
 pub record Reading : Type 0 where
   pub entries : EntryRead
   pub end : ℕ → ℕ

@@ -4,11 +4,8 @@ use bloom::may_contain;
 use store::Counts;
 use store::Shape;
 use store::wide;
-ghost use mathlib.Core.Path.{_≡_};
-ghost use Prim.Native.Nat.{_+_, _*_, _^_, _<_, _≤_};
-ghost use lib.ListN.{length};
+ghost use Prim.Native.Nat.{_+_, _*_, _<_};
 ghost use Rattle.lists.specs.Lists.{part};
-ghost use Rattle.store.specs.Store.{filtersAt};
 ghost use Rattle.walk.specs.Contracts.{FilterLent, LeafLent, NodeLent, BlockAsked, Denies, Placing, LeafPlaced, Looks};
 
 // A list's places in the numbers.

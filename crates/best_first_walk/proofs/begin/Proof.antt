@@ -8,9 +8,9 @@ use Rattle.walk.specs.StoreView.{storeView}
 use Rattle.store.specs.Store.{marksAt}
 use Rattle.record_queue.specs.RecordsLaws.{heap-none}
 use lib.Seq.{sets, length-sets}
-use lib.ListN.{length, take, drop, set, replicate, length-set}
-use mathlib.Core.List.{List, [], _∷_, _++_}
-use mathlib.Core.Path.{_≡_, refl, sym, ap, subst₂, _∙_}
+use lib.ListN.{length, replicate, length-set}
+use mathlib.Core.List.{List, [], _∷_}
+use mathlib.Core.Path.{_≡_, sym, ap, subst₂, _∙_}
 use native.Mathlib.Omega.{arith}
 use native.Mathlib.Nat.{add-zero}
 use Prim.Native.Nat.{ℕ, _+_, _-_, _*_, _^_}

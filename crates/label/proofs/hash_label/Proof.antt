@@ -2,13 +2,12 @@
 -- Assumes nothing.
 use mathlib.Core.List.{List}
 use mathlib.Core.Path.{_≡_, refl, sym, ap, _∙_}
-use Prim.Native.Nat.{ℕ, _+_, _-_, _*_, _%_, _^_, _≤_, _<_}
+use Prim.Native.Nat.{ℕ, _+_, _-_, _≤_, _<_}
 use native.Mathlib.Numerals.{add-one}
 use native.Mathlib.Omega.{arith}
-use lib.Bits.{bitXor}
 use lib.ListN.{length, getD, drop, drop-of-length-le}
 use lib.Seq.{drop-cons}
-use Rattle.label.specs.Fnv.{fnvFrom, fnvStep, prime}
+use Rattle.label.specs.Fnv.{fnvFrom, fnvStep}
 use Rattle.label.proofs.hash_label.Statement.{statement}
 use Rattle.label.proofs.hash_label.Tie as tie
 
@@ -33,20 +32,17 @@ finish bytes hash i h = rw drop-of-length-le
 abbrev entry : tie.At-loop Inv-loop μ-loop → tie.Start Inv-loop μ-loop
 entry c = c .before .before
 
-abbrev at-loop : tie.After-times-prime Inv-loop μ-loop → tie.At-loop Inv-loop μ-loop
-at-loop c = c .before .before .before .before
+abbrev at-loop : tie.After-hash-byte Inv-loop μ-loop → tie.At-loop Inv-loop μ-loop
+at-loop c = c .before .before .before
 
 loop-holds : tie.Need-loop-holds Inv-loop μ-loop
 loop-holds c = (omega arith, refl)
 
-shared-slice-read-wide : tie.Need-shared-slice-read-wide Inv-loop μ-loop
-shared-slice-read-wide c = omega arith
+shared-slice-read-hash-byte : tie.Need-shared-slice-read-hash-byte Inv-loop μ-loop
+shared-slice-read-hash-byte c = omega arith
 
-wide-requires : tie.Need-wide-requires Inv-loop μ-loop
-wide-requires c κs = tt
-
-times-prime-requires : tie.Need-times-prime-requires Inv-loop μ-loop
-times-prime-requires c κs = tt
+hash-byte-requires : tie.Need-hash-byte-requires Inv-loop μ-loop
+hash-byte-requires c κs = tt
 
 add-i : tie.Need-add-i Inv-loop μ-loop
 add-i c = omega arith
@@ -55,14 +51,12 @@ loop-less : tie.Need-loop-less Inv-loop μ-loop
 loop-less c = omega arith
 
 loop-again : tie.Need-loop-again Inv-loop μ-loop
-unfolding fnvStep
 loop-again c =
     let bytes = entry (at-loop c) .args .bytes .now in
     let hash = at-loop c .loop .hash in
-    let i = at-loop c .loop .i in
-    let stepped : c .times-prime .result ≡ fnvStep hash (getD bytes i 0) = c .times-prime .ensures ∙ ap (λ (b : ℕ). bitXor hash b * prime % 2 ^ 64) (c .before .wide .ensures) in (
+    let i = at-loop c .loop .i in (
       omega arith,
-      ap (λ (h : ℕ). fnvFrom h (drop (i + 1) bytes)) stepped ∙ advance bytes hash i (omega arith)
+      ap (λ (h : ℕ). fnvFrom h (drop (i + 1) bytes)) (c .hash-byte .ensures) ∙ advance bytes hash i (omega arith)
           ∙ at-loop c .loop .inv .1,
     )
 
@@ -78,9 +72,8 @@ hash-label-spec =
     Inv-loop
     μ-loop
     loop-holds
-    shared-slice-read-wide
-    wide-requires
-    times-prime-requires
+    shared-slice-read-hash-byte
+    hash-byte-requires
     add-i
     loop-less
     loop-again

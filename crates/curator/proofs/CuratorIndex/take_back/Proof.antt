@@ -8,7 +8,7 @@ use borrow.Author.Needs.{needs}
 use denote.Ref.{now}
 use Rattle.lists.specs.Lists.{part}
 use Rattle.store.specs.declared.Shape.{Shape}
-use Rattle.store.specs.Store.{Store, Limits, ownersAt, startsAt, entryStart}
+use Rattle.store.specs.Store.{Store, Limits, ownersAt, startsAt}
 use Rattle.store.specs.Lent.{lengthsOf, lent}
 use Rattle.settings.specs.declared.Check.the-variants.{Fine}
 use Rattle.curator.specs.declared.CuratorIndex.{CuratorIndex}

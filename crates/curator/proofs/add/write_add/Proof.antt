@@ -1,4 +1,5 @@
--- Each list is written by one call, the numbers by two; the facts of `AddRoom` say that it fits. The owners stand after the document ids.
+-- Each list is written by one call, hashes and text by the same, the numbers by two; the facts of `AddRoom` say that it fits. The owners stand after the
+-- document ids.
 use Prim.Native.Nat.{ℕ, _+_}
 use mathlib.Core.Path.{_≡_, sym, ap, ap₂, _∙_, subst}
 use mathlib.Core.Bool.{true}
@@ -7,9 +8,9 @@ use native.Mathlib.Omega.{arith}
 use borrow.Author.Needs.{needs}
 use lib.ListN.{length, set, replicate}
 use lib.Seq.{sets}
-use Rattle.label.specs.Names.{namesOf, lengthsFit, startsFrom, lengthsOfNames, summedPairs, startsByLengths}
+use Rattle.label.specs.Names.{namesOf, lengthsFit, startsFrom, lengthsOfNames, bytesOfNames, summedPairs, startsByLengths}
 use Rattle.label.specs.TextLaws.{bytes-joined, length-joined-bytes, lengths-of-names, starts-of-names}
-use Rattle.label.specs.NameLaws.{length-names, fit-total}
+use Rattle.label.specs.NameLaws.{length-names, fit-even, fit-total}
 use Rattle.store.specs.declared.Shape.{Shape}
 use Rattle.store.specs.declared.Counts.{Counts}
 use Rattle.store.specs.Store.{Limits, startsAt, lengthsAt}
@@ -52,23 +53,17 @@ after-write-numbers c = c .before .before .before
 abbrev after-write-numbers′ : tie.After-write-labels → tie.After-write-numbers
 after-write-numbers′ c = c .before .before .before .before
 
-abbrev after-write-labels : tie.After-write-hashes-arg → tie.After-write-labels
-after-write-labels c = c .before .before .before
+abbrev after-write-labels : tie.After-write-hashes-arg2 → tie.After-write-labels
+after-write-labels c = c .before .before .before .before
 
 abbrev after-write-labels′ : tie.After-write-hashes → tie.After-write-labels
-after-write-labels′ c = c .before .before .before .before
+after-write-labels′ c = c .before .before .before .before .before
 
-abbrev after-write-hashes : tie.After-write-text-arg → tie.After-write-hashes
-after-write-hashes c = c .before .before .before
+abbrev after-write-hashes : tie.After-struct-known3 → tie.After-write-hashes
+after-write-hashes c = c .before .before .before .before .before .before .before
 
-abbrev after-write-hashes′ : tie.After-write-text → tie.After-write-hashes
-after-write-hashes′ c = c .before .before .before .before
-
-abbrev after-write-text : tie.After-struct-known3 → tie.After-write-text
-after-write-text c = c .before .before .before .before .before
-
-abbrev after-write-text′ : tie.After-write-vector → tie.After-write-text
-after-write-text′ c = c .before .before .before .before .before .before
+abbrev after-write-hashes′ : tie.After-write-vector → tie.After-write-hashes
+after-write-hashes′ c = c .before .before .before .before .before .before .before .before
 
 abbrev after-write-vector : tie.After-slice-known9 → tie.After-write-vector
 after-write-vector c = c .before .before
@@ -79,9 +74,6 @@ from-numbers c = entry (after-owners-at (counted c))
 
 abbrev from-hashes : tie.After-write-hashes → tie.Start
 from-hashes c = from-numbers (after-write-numbers′ (after-write-labels′ c))
-
-abbrev from-text : tie.After-write-text → tie.Start
-from-text c = from-hashes (after-write-hashes′ c)
 
 -- the labels counted are the names
 labels : (c : tie.After-label-count)
@@ -136,24 +128,22 @@ write-labels-requires c κs =
 write-hashes-requires : tie.Need-write-hashes-requires
 write-hashes-requires c κs =
     let s = from-numbers (after-write-numbers′ (after-write-labels c)) in
-    let args = s .args in
-    let many = length-names (args .lengths .now) (args .bytes .now) in
-    (omega (arith, s .pre .0, many), fit-total (args .lengths .now) (length (args .bytes .now)) (fits s))
-
-write-text-requires : tie.Need-write-text-requires
-write-text-requires c κs =
-    let s = from-hashes (after-write-hashes c) in
-    let args = s .args in
-    omega (arith, length-joined-bytes (args .lengths .now) (args .bytes .now) (fits s), s .pre .0 .text, s .pre .0 .long .text)
+    let lengths = s .args .lengths .now in
+    let bytes = s .args .bytes .now in
+    let many = length-names lengths bytes in
+    let long = length-joined-bytes lengths bytes (fits s) in (
+      (omega (arith, s .pre .0, many), omega (arith, long, s .pre .0 .text, s .pre .0 .long .text)),
+      (fit-even lengths (length bytes) (fits s), fit-total lengths (length bytes) (fits s)),
+    )
 
 mul-write-vector : tie.Need-mul-write-vector
 mul-write-vector c =
-    let start = from-text (after-write-text c) in
+    let start = from-hashes (after-write-hashes c) in
     place-fits _ _ (omega (arith, start .pre .0)) (omega (arith, start .pre .0))
 
 write-vector-requires : tie.Need-write-vector-requires
 write-vector-requires c κs =
-    let start = from-text (after-write-text c) in
+    let start = from-hashes (after-write-hashes c) in
     let index = start .args .index in
     let fits =
     place-room (index .counts .vectors) (index .dimension) (index .capacities .vectors) (index .capacities .nodes)
@@ -189,11 +179,15 @@ labelled between numbers {shape = shape} held lengths bytes is before same fit =
     before
     same
 
+-- what `write_hashes` left of the text, by the names: their bytes are those that came
+texted : {after : List ℕ} (text : List ℕ) (held : ℕ) (lengths bytes : List ℕ) → after ≡ sets text held bytes → lengthsFit lengths (length bytes) ≡ true
+    → after ≡ sets text held (bytesOfNames (namesOf lengths bytes))
+texted text held lengths bytes is fit = is ∙ ap (λ (l : List ℕ). sets text held l) (sym (bytes-joined lengths bytes fit))
+
 returns : tie.Need-returns
 returns c =
     let stored = after-write-vector c in
-    let texted = after-write-text′ stored in
-    let hashed = after-write-hashes′ texted in
+    let hashed = after-write-hashes′ stored in
     let labels-written = after-write-labels′ hashed in
     let numbered = after-write-numbers′ labels-written in
     let known = after-owners-at (counted numbered) in
@@ -210,10 +204,10 @@ returns c =
           (labels (counted numbered)))
           (shape-known known .shape-of .ensures)
           (fits (entry known));
-      hashes = hashed .write-hashes .ensures;
+      hashes = hashed .write-hashes .ensures .0;
       text =
-          texted .write-text .ensures
-          ∙ ap (sets (args .text .now) (args .index .counts .bytes)) (sym (bytes-joined (args .lengths .now) (args .bytes .now) (fits (entry known))));
+          texted (args .text .now) (args .index .counts .bytes) (args .lengths .now) (args .bytes .now) (hashed .write-hashes .ensures .1)
+          (fits (entry known));
     }
 
 pub write-add-spec : {M : Type 1} → statement M
@@ -227,7 +221,6 @@ write-add-spec =
     write-numbers-requires
     write-labels-requires
     write-hashes-requires
-    write-text-requires
     mul-write-vector
     write-vector-requires
     same-length

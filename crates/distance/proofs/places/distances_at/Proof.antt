@@ -1,12 +1,10 @@
 -- `places::distances_at` meets its contract: each vector is the part of the floats that is lent. Assumes nothing.
-use Rattle.lists.specs.Parts.{lent-run}
-use Rattle.distance.specs.Distance.{distance}
-use mathlib.Core.Path.{ap, _∙_}
+use Rattle.distance.proofs.Fours.{lent-four}
 use borrow.Author.Needs.{needs}
 use Rattle.distance.proofs.places.distances_at.Statement.{statement}
 use Rattle.distance.proofs.places.distances_at.Tie as tie
 
--- ---- the places that needs go back to (primed: the same place, from another one)
+-- ---- the places that needs go back to
 
 abbrev start : tie.After-cosine-distance-four → tie.Start
 start c = c .before .before .before .before .before .before .before
@@ -77,16 +75,7 @@ cosine-distance-four-requires c κs = search needs
 returns : tie.Need-returns
 returns c =
     let p = start c .args in
-    let far = distance (p .query .now) in
-    let l = p .floats .now in
-    let n = p .dimension in
-    let e = c .cosine-distance-four .ensures in (
-      e .0 ∙ ap far (lent-run (p .a) n l),
-      (
-        e .1 .0 ∙ ap far (lent-run (p .b) n l),
-        (e .1 .1 .0 ∙ ap far (lent-run (p .c) n l), e .1 .1 .1 ∙ ap far (lent-run (p .d) n l)),
-      ),
-    )
+    lent-four (p .query .now) (p .floats .now) (p .dimension) (p .a) (p .b) (p .c) (p .d) (c .cosine-distance-four .result) (c .cosine-distance-four .ensures)
 
 pub distances-at-spec : {M : Type 1} → statement M
 distances-at-spec =

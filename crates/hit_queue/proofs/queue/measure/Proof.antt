@@ -1,4 +1,4 @@
--- `measure` meets its contract: the loop keeps the hits of the first j numbers, four more a turn, or the last one to three. The measure is the numbers left. Assumes nothing.
+-- `measure` meets its contract: the loop keeps the hits of the first j numbers, eight or four more a turn, or the last one to three. The measure is the numbers left. Assumes nothing.
 use Rattle.hit_queue.proofs.Measuring.{measured-none, measured-next}
 use Rattle.hit_queue.specs.QueueLaws.{measure-front, measure-rest}
 use Rattle.hit_queue.specs.Contracts.{hitsOf, Measure, Measured}
@@ -68,14 +68,20 @@ at-loop c = c .before
 abbrev in-loop : tie.Then1 Inv-loop μ-loop → tie.In-loop Inv-loop μ-loop
 in-loop c = c .before
 
-abbrev in-loop′ : tie.After-slice-known3 Inv-loop μ-loop → tie.In-loop Inv-loop μ-loop
-in-loop′ c = c .before .before .before .before .before
+abbrev in-loop′ : tie.Then2 Inv-loop μ-loop → tie.In-loop Inv-loop μ-loop
+in-loop′ c = c .before .before
 
-abbrev in-loop″ : tie.Else1 Inv-loop μ-loop → tie.In-loop Inv-loop μ-loop
-in-loop″ c = c .before
+abbrev in-loop″ : tie.Else2 Inv-loop μ-loop → tie.In-loop Inv-loop μ-loop
+in-loop″ c = c .before .before
 
 abbrev then1 : tie.After-slice-known2 Inv-loop μ-loop → tie.Then1 Inv-loop μ-loop
 then1 c = c .before .before .before .before
+
+abbrev then2 : tie.After-slice-known3 Inv-loop μ-loop → tie.Then2 Inv-loop μ-loop
+then2 c = c .before .before .before .before
+
+abbrev else2 : tie.After-slice-known4 Inv-loop μ-loop → tie.Else2 Inv-loop μ-loop
+else2 c = c .before .before .before .before
 
 loop-holds : tie.Need-loop-holds Inv-loop μ-loop
 loop-holds c =
@@ -94,10 +100,10 @@ add-at c =
 sub-left : tie.Need-sub-left Inv-loop μ-loop
 sub-left c = search needs
 
-measure-four-requires : tie.Need-measure-four-requires Inv-loop μ-loop
-measure-four-requires c κs =
+measure-eight-requires : tie.Need-measure-eight-requires Inv-loop μ-loop
+measure-eight-requires c κs =
     let t = at-loop (in-loop (c .before)) in
-    record { lent = entry t .pre .lent; measure = next t 4 (omega (arith, c .before .if1 .taken)) }
+    record { lent = entry t .pre .lent; measure = next t 8 (omega (arith, c .before .if1 .taken)) }
 
 add-j : tie.Need-add-j Inv-loop μ-loop
 add-j c = search needs
@@ -108,20 +114,15 @@ loop-less c = search needs
 loop-again : tie.Need-loop-again Inv-loop μ-loop
 loop-again c =
     let taken = then1 c in
-    let at-loop₀ = at-loop (in-loop taken) in
-    let four = c .before .before .measure-four in
-    let more : at-loop₀ .loop .j + 4 ≤ entry (at-loop₀) .args .found = omega (arith, taken .if1 .taken) in
-    (more, grown (at-loop₀) 4 (four .result) _ more (four .ensures))
+    let t = at-loop (in-loop taken) in
+    let eight = c .before .before .measure-eight in
+    let more : t .loop .j + 8 ≤ entry t .args .found = omega (arith, taken .if1 .taken) in
+    (more, grown t 8 (eight .result) _ more (eight .ensures))
 
-measure-few-requires : tie.Need-measure-few-requires Inv-loop μ-loop
-measure-few-requires c κs =
-    let i = in-loop″ (c .before) in
-    let t = at-loop i in
-    record {
-      some = omega (arith, i .loop-test .taken);
-      most = omega (arith, c .before .if1 .left);
-      vectors = record { lent = entry t .pre .lent; measure = next t (entry t .args .found - t .loop .j) (omega (arith, t .loop .inv .0)) };
-    }
+measure-four-requires : tie.Need-measure-four-requires Inv-loop μ-loop
+measure-four-requires c κs =
+    let t = at-loop (in-loop′ (c .before)) in
+    record { lent = entry t .pre .lent; measure = next t 4 (omega (arith, c .before .if2 .taken)) }
 
 add-j-2 : tie.Need-add-j-2 Inv-loop μ-loop
 add-j-2 c = search needs
@@ -131,7 +132,31 @@ loop-less-2 c = search needs
 
 loop-again-2 : tie.Need-loop-again-2 Inv-loop μ-loop
 loop-again-2 c =
-    let t = at-loop (in-loop′ c) in
+    let taken = then2 c in
+    let t = at-loop (in-loop′ taken) in
+    let four = c .before .before .measure-four in
+    let more : t .loop .j + 4 ≤ entry t .args .found = omega (arith, taken .if2 .taken) in
+    (more, grown t 4 (four .result) _ more (four .ensures))
+
+measure-few-requires : tie.Need-measure-few-requires Inv-loop μ-loop
+measure-few-requires c κs =
+    let i = in-loop″ (c .before) in
+    let t = at-loop i in
+    record {
+      some = omega (arith, i .loop-test .taken);
+      most = omega (arith, c .before .if2 .left);
+      vectors = record { lent = entry t .pre .lent; measure = next t (entry t .args .found - t .loop .j) (omega (arith, t .loop .inv .0)) };
+    }
+
+add-j-3 : tie.Need-add-j-3 Inv-loop μ-loop
+add-j-3 c = search needs
+
+loop-less-3 : tie.Need-loop-less-3 Inv-loop μ-loop
+loop-less-3 c = search needs
+
+loop-again-3 : tie.Need-loop-again-3 Inv-loop μ-loop
+loop-again-3 c =
+    let t = at-loop (in-loop″ (else2 c)) in
     let few = c .before .before .measure-few in
     let more : t .loop .j + (entry t .args .found - t .loop .j) ≤ entry t .args .found = omega (arith, t .loop .inv .0) in
     (more, grown t (entry t .args .found - t .loop .j) (few .result) _ more (few .ensures))
@@ -156,13 +181,17 @@ measure-spec =
     loop-holds
     add-at
     sub-left
-    measure-four-requires
+    measure-eight-requires
     add-j
     loop-less
     loop-again
-    measure-few-requires
+    measure-four-requires
     add-j-2
     loop-less-2
     loop-again-2
+    measure-few-requires
+    add-j-3
+    loop-less-3
+    loop-again-3
     same-length
     returns)

@@ -1,24 +1,24 @@
--- Invariant: the starts that are still to be written from here make the list that is due, and the names left end where all of them do.
+-- Invariant: the starts and lengths that are still to be written from here make the list that is due, and the names left end where all of them do. The
+-- starts end before the lengths begin, so that neither store meets what the other has to write.
 use Prim.Native.Nat.{_+_, _-_, _*_, _/_, _<_, _≤_}
 use mathlib.Core.Path.{_≡_, refl, sym, _∙_}
 use native.Mathlib.Omega.{arith}
 use lib.ListN.{length, getD, drop, length-set}
-use lib.Seq.{sets}
-use Rattle.label.specs.Names.{summedPairs, startsByLengths}
+use Rattle.label.specs.Names.{summedPairs}
 use Rattle.lists.specs.Lists.{total}
 use Rattle.label.specs.NameLaws.{total-drop-two}
-use Rattle.label.proofs.Steps.{start-step, start-end}
+use Rattle.label.proofs.Steps.{placed, place-step, place-end}
 use borrow.Author.Needs.{needs}
-use Rattle.label.proofs.names.write_starts.Statement.{statement}
-use Rattle.label.proofs.names.write_starts.Tie as tie
+use Rattle.label.proofs.names.write_places.Statement.{statement}
+use Rattle.label.proofs.names.write_places.Tie as tie
 
 abbrev Inv-loop : tie.InvT-loop
-Inv-loop numbers₀ place held lengths labels start₀ i₀ numbers start i =
+Inv-loop numbers₀ starts sizes held lengths labels start₀ i₀ numbers start i =
     (labels ≡ length lengths / 2) × (i ≤ labels) × (length numbers ≡ length numbers₀) × (start + total (drop (2 * i) lengths) ≡ held + total lengths)
-    × (sets numbers (place + i) (startsByLengths start (summedPairs (drop (2 * i) lengths))) ≡ sets numbers₀ place (startsByLengths held (summedPairs lengths)))
+    × (placed numbers (starts + i) (sizes + i) start (summedPairs (drop (2 * i) lengths)) ≡ placed numbers₀ starts sizes held (summedPairs lengths))
 
 abbrev μ-loop : tie.MeasureT-loop
-μ-loop numbers₀ place held lengths labels start₀ i₀ numbers start i = labels - i
+μ-loop numbers₀ starts sizes held lengths labels start₀ i₀ numbers start i = labels - i
 
 -- ---- the places that needs go back to
 
@@ -45,20 +45,9 @@ label-count-requires c κs = search needs
 loop-holds : tie.Need-loop-holds Inv-loop μ-loop
 loop-holds c =
     let args = c .before .before .before .args in
-    let e : args .place + 0 ≡ args .place = omega arith in
-    (c .label-count .ensures, omega arith, refl, omega arith, rw e)
-
-cast-numbers : tie.Need-cast-numbers Inv-loop μ-loop
-cast-numbers c = omega arith
-
-add-numbers : tie.Need-add-numbers Inv-loop μ-loop
-add-numbers c = omega arith
-
-mul-numbers : tie.Need-mul-numbers Inv-loop μ-loop
-mul-numbers c = search needs
-
-slice-write-numbers : tie.Need-slice-write-numbers Inv-loop μ-loop
-slice-write-numbers c = omega arith
+    let at-start : args .starts + 0 ≡ args .starts = omega arith in
+    let at-size : args .sizes + 0 ≡ args .sizes = omega arith in
+    (c .label-count .ensures, omega arith, refl, omega arith, rw (at-start, at-size))
 
 mul-name-length : tie.Need-mul-name-length Inv-loop μ-loop
 mul-name-length c = omega arith
@@ -77,6 +66,31 @@ shared-slice-read-name-length-2 c = omega arith
 
 name-length-requires : tie.Need-name-length-requires Inv-loop μ-loop
 name-length-requires c κs = search needs
+
+cast-numbers : tie.Need-cast-numbers Inv-loop μ-loop
+cast-numbers c = omega arith
+
+add-numbers : tie.Need-add-numbers Inv-loop μ-loop
+add-numbers c = omega arith
+
+mul-numbers : tie.Need-mul-numbers Inv-loop μ-loop
+mul-numbers c = search needs
+
+slice-write-numbers : tie.Need-slice-write-numbers Inv-loop μ-loop
+slice-write-numbers c = omega arith
+
+add-numbers-2 : tie.Need-add-numbers-2 Inv-loop μ-loop
+add-numbers-2 c = omega arith
+
+mul-numbers-2 : tie.Need-mul-numbers-2 Inv-loop μ-loop
+mul-numbers-2 c = search needs
+
+slice-write-numbers-2 : tie.Need-slice-write-numbers-2 Inv-loop μ-loop
+slice-write-numbers-2 c =
+    let turn = in-loop c in
+    let state = turn .before .loop in
+    let wide = length-set (state .numbers) (entry turn .args .starts + state .i) (state .start) in
+    omega arith
 
 cast-start : tie.Need-cast-start Inv-loop μ-loop
 cast-start c = let left = names-left (in-loop c) in omega arith
@@ -99,7 +113,7 @@ loop-again c =
       omega arith,
       simp length-set (state .inv .2),
       omega arith,
-      sym (start-step _ _ _ _ _ _ (below turn) (c .name-length .ensures)) ∙ state .inv .4,
+      sym (place-step _ _ _ _ _ _ _ (below turn) (entry turn .pre .0) (c .name-length .ensures)) ∙ state .inv .4,
     )
 
 same-length : tie.Need-same-length Inv-loop μ-loop
@@ -109,26 +123,29 @@ returns : tie.Need-returns Inv-loop μ-loop
 returns c =
     let state = c .before .loop in
     let past : length (c .before .before .before .before .before .args .lengths .now) / 2 ≤ state .i = omega (arith, c .loop-test .left, state .inv .0) in
-    sym (start-end _ _ _ _ _ past) ∙ state .inv .4
+    sym (place-end _ _ _ _ _ _ past) ∙ state .inv .4
 
-pub write-starts-spec : {M : Type 1} → statement M
-write-starts-spec =
+pub write-places-spec : {M : Type 1} → statement M
+write-places-spec =
     tie.close
     (tie.spec
     Inv-loop
     μ-loop
     label-count-requires
     loop-holds
-    cast-numbers
-    add-numbers
-    mul-numbers
-    slice-write-numbers
     mul-name-length
     shared-slice-read-name-length
     mul-name-length-2
     add-name-length
     shared-slice-read-name-length-2
     name-length-requires
+    cast-numbers
+    add-numbers
+    mul-numbers
+    slice-write-numbers
+    add-numbers-2
+    mul-numbers-2
+    slice-write-numbers-2
     cast-start
     add-start
     add-i
