@@ -1,6 +1,6 @@
 #!/usr/bin/env python3
-"""Writes the expected output of the program index_test to standard output: a model of `new`, `add` and `take_back`
-written from document 01's table and 'The store' and from K3, K4 and K7 of document 02, put to the calls that the program makes.
+"""Writes the expected output of the program index_test to standard output: a model of `new`, `add`, `take_back` and `withdraw`
+written from document 01's table and 'The store' and from K3, K4, K7 and K10 of document 02, put to the calls that the program makes.
 
     python3 tools/index_test.py | diff - crates/index_test/stdout
 """
@@ -9,10 +9,12 @@ import struct
 
 USUAL = (16, 128, 256, 4)
 MARK = 9
-# how many bytes of text the states of adds and takings back have room for, and where the starts and lengths of their labels stand in the numbers
+# how many bytes of text the states of adds, takings back and withdrawals have room for, and where the starts and lengths of their labels and the live
+# marks of their vectors stand in the numbers
 TEXT = 4
 STARTS = 2 * 2 + 2 * 2 + 7 * 1
 LENGTHS = STARTS + 2
+LIVE = LENGTHS + 2
 
 
 def f32(x):
@@ -55,13 +57,18 @@ def allowed(dimension, params, capacities):
     return 0 if fine and 1 <= vectors <= 4096 and entries <= 16384 and 1 <= nodes <= 65537 and text <= 4177920 else 2
 
 
-def early_rows(state, sizes):
-    """The rows 4, 3, 5 of add and take back. The state is D 2, B 1, V 2, E 2, M 1 and four bytes of text, with these counts."""
+def lent_rows(state, sizes):
+    """The rows 4 and 3. The state is D 2, B 1, V 2, E 2, M 1 and four bytes of text, with these counts."""
     vectors, entries, nodes, held, built = state
     over = vectors > 2 or entries > 2 or nodes > 1 or held > TEXT
     unsound = over or (built and (vectors == 0 or nodes == 0)) or (not built and nodes != 0)
-    needed = (2 * (2 + 1 + 1), 2 * 2 + 4 * 2 + 7 * 1, 2 + 4 * 1, TEXT)
-    return [(4, unsound), (3, any(size < need for size, need in zip(sizes, needed))), (5, built)]
+    needed = (2 * (2 + 1 + 1), 3 * 2 + 4 * 2 + 7 * 1, 2 + 4 * 1, TEXT)
+    return [(4, unsound), (3, any(size < need for size, need in zip(sizes, needed)))]
+
+
+def early_rows(state, sizes):
+    """The rows 4, 3, 5 of add and take back."""
+    return lent_rows(state, sizes) + [(5, state[-1])]
 
 
 def first(rows):
@@ -86,8 +93,20 @@ def print_new(dimension, params=USUAL, capacities=(1, 0, 1, 0)):
     print(f"{number} " if number else "0 0 0 0 ")
 
 
+def marked():
+    """The four lists before a call."""
+    return [f32(MARK)] * 10, [MARK] * 23, [MARK] * 8, [MARK] * 6
+
+
+def print_lists(floats, numbers, hashes, text):
+    print("".join(bits(x) + " " for x in floats))
+    print("".join(f"{n} " for n in numbers))
+    print("".join("%016x " % h for h in hashes))
+    print("".join(f"{byte} " for byte in text))
+
+
 def print_add(state, sizes, vector, lengths=b"", label_bytes=b""):
-    floats, numbers, hashes, text = [f32(MARK)] * 10, [MARK] * 21, [MARK] * 8, [MARK] * 6
+    floats, numbers, hashes, text = marked()
     number = refusal(state, sizes, vector, lengths, label_bytes)
     if number:
         print(f"{number} ")
@@ -96,6 +115,7 @@ def print_add(state, sizes, vector, lengths=b"", label_bytes=b""):
         print(f"0 {vectors + 1} {entries + len(lengths) // 2} {held + len(label_bytes)} ")
         floats[2 * vectors : 2 * vectors + 2] = normalized(vector)
         numbers[vectors] = 77
+        numbers[LIVE + vectors] = 1
         start = 0
         for place, (first, second) in enumerate(zip(lengths[::2], lengths[1::2])):
             numbers[2 + entries + place] = vectors
@@ -104,10 +124,7 @@ def print_add(state, sizes, vector, lengths=b"", label_bytes=b""):
             numbers[LENGTHS + entries + place] = first + second
             start += first + second
         text[held : held + len(label_bytes)] = label_bytes
-    print("".join(bits(x) + " " for x in floats))
-    print("".join(f"{n} " for n in numbers))
-    print("".join("%016x " % h for h in hashes))
-    print("".join(f"{byte} " for byte in text))
+    print_lists(floats, numbers, hashes, text)
 
 
 def print_take_back(state, sizes, owners, starts=(1, 3)):
@@ -121,6 +138,19 @@ def print_take_back(state, sizes, owners, starts=(1, 3)):
     print(f"{number} " if number else f"0 {vectors - 1} {entries} {held} ")
 
 
+def print_withdraw(state, sizes, ids, marks):
+    """Withdraw's rows in their order: 4, 3, 24. 'Withdrawing a document id .. writes 0 on every vector with that id, also after build'."""
+    vectors, entries, nodes, held, built = state
+    floats, numbers, hashes, text = marked()
+    numbers[:2], numbers[LIVE : LIVE + 2] = ids, marks
+    of_77 = [vector for vector in range(min(vectors, 2)) if ids[vector] == 77]
+    number = first(lent_rows(state, sizes) + [(24, not of_77)])
+    print(f"{number} " if number else f"0 {vectors} {entries} {held} ")
+    for vector in [] if number else of_77:
+        numbers[LIVE + vector] = 0
+    print_lists(floats, numbers, hashes, text)
+
+
 def main():
     for dimension in (0, 1, 128, 129):
         print_new(dimension)
@@ -132,16 +162,16 @@ def main():
         print_new(2, USUAL, capacities)
     print_new(0, (0, 128, 256, 4), (0, 0, 0, 4177921))
 
-    vector, full, fresh = [3.0, 4.0], (10, 21, 8, 6), (0, 0, 0, 0, False)
-    sizes, built = (8, 19, 6, 4), (1, 0, 1, 0, True)
+    vector, full, fresh = [3.0, 4.0], (10, 23, 8, 6), (0, 0, 0, 0, False)
+    sizes, built = (8, 21, 6, 4), (1, 0, 1, 0, True)
     for state in [(3, 0, 0, 0, False), (0, 3, 0, 0, False), (1, 0, 2, 0, True), (0, 0, 1, 0, True), (1, 0, 0, 0, True), (1, 0, 1, 0, False),
                   (0, 0, 0, 5, False)]:
         print_add(state, full, vector)
     print_add((3, 0, 0, 0, False), (0, 0, 0, 0), vector)
-    for lent in [(7, 19, 6, 4), (8, 18, 6, 4), (8, 19, 5, 4), (8, 19, 6, 3), sizes]:
+    for lent in [(7, 21, 6, 4), (8, 20, 6, 4), (8, 21, 5, 4), (8, 21, 6, 3), sizes]:
         print_add(fresh, lent, vector)
-    print_add(built, (8, 19, 5, 4), vector)
-    print_add(built, (8, 19, 6, 3), vector)
+    print_add(built, (8, 21, 5, 4), vector)
+    print_add(built, (8, 21, 6, 3), vector)
     print_add(built, sizes, [3.0])
     least, greatest, infinity, nan = f32(-1.4e-45), f32(3.4028235e38), math.inf, math.nan
     for given in [[3.0], [nan, nan, nan], [greatest, 0.0], [f32(1e30), f32(-1e30)], [0.0, least], [infinity, 0.0], [0.0, -infinity]]:
@@ -163,8 +193,8 @@ def main():
                                         ((1, 2, 0, 4, False), b"\1\0", b"a")]:
         print_add(state, full, vector, lengths, label_bytes)
 
-    for state, lent in [((3, 0, 0, 0, False), (0, 0, 0, 0)), ((0, 0, 1, 0, False), full), ((0, 0, 0, 5, False), full), (built, (7, 19, 6, 4)),
-                        ((1, 0, 0, 0, False), (8, 18, 6, 4)), (fresh, (8, 19, 5, 4)), (fresh, (8, 19, 6, 3)), (built, sizes), (fresh, sizes),
+    for state, lent in [((3, 0, 0, 0, False), (0, 0, 0, 0)), ((0, 0, 1, 0, False), full), ((0, 0, 0, 5, False), full), (built, (7, 21, 6, 4)),
+                        ((1, 0, 0, 0, False), (8, 20, 6, 4)), (fresh, (8, 21, 5, 4)), (fresh, (8, 21, 6, 3)), (built, sizes), (fresh, sizes),
                         ((0, 2, 0, 0, False), sizes)]:
         print_take_back(state, lent, (0, 0))
     for vectors, entries, owners in [(1, 0, (0, 0)), (1, 2, (0, 0)), (2, 0, (1, 1)), (2, 1, (1, 1)), (2, 2, (1, 1)), (2, 2, (0, 1)), (2, 2, (1, 0)),
@@ -173,6 +203,19 @@ def main():
     # the start of the first entry that goes, against the bytes held
     for held, owners, starts in [(4, (0, 1), (0, 5)), (4, (0, 1), (0, 4)), (4, (0, 1), (9, 0)), (4, (1, 1), (2, 0)), (4, (1, 1), (2**32 - 1, 0)), (0, (0, 1), (0, 3))]:
         print_take_back((2, 2, 0, held, False), sizes, owners, starts)
+
+    two, tree = (2, 0, 0, 0, False), (2, 0, 1, 0, True)
+    # 4 and 3 before 24, whether a vector has the id or not
+    for state, lent, ids in [((3, 0, 0, 0, False), (0, 0, 0, 0), (77, 77)), ((3, 0, 0, 0, False), full, (76, 78)), ((0, 0, 1, 0, False), full, (77, 77)),
+                             ((2, 0, 0, 0, True), full, (77, 77)), ((2, 0, 0, 5, False), full, (77, 77)), (two, (7, 21, 6, 4), (77, 77)),
+                             (tree, (8, 20, 6, 4), (77, 77)), (two, (8, 21, 5, 4), (76, 78)), (fresh, (8, 21, 6, 3), (76, 78)), (fresh, sizes, (77, 77)),
+                             (two, sizes, (76, 78)), (tree, full, (76, 78)), ((1, 0, 0, 0, False), full, (76, 77))]:
+        print_withdraw(state, lent, ids, (1, 1))
+    # one vector or both, held or not, with marks of any number
+    for state, lent, ids, marks in [(two, sizes, (77, 77), (1, 1)), (tree, sizes, (77, 77), (1, 1)), ((2, 2, 0, 4, False), full, (77, 78), (1, 1)),
+                                    (tree, full, (76, 77), (1, 1)), ((1, 0, 0, 0, False), full, (77, 77), (1, 1)), (two, full, (77, 77), (2, 2**32 - 1)),
+                                    (two, full, (77, 77), (0, 1)), (tree, full, (77, 76), (0, 0)), (two, full, (65613, 77), (3, 3))]:
+        print_withdraw(state, lent, ids, marks)
 
 
 main()

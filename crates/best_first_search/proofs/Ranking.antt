@@ -6,28 +6,33 @@ use mathlib.Core.Path.{_≡_, refl, sym, ap, ap₂, _∙_, subst}
 use mathlib.Core.Logic.{_⊎_, inl, inr}
 use mathlib.Core.Bool.{Bool, true, false, not, false≢true}
 use mathlib.Core.List.{List, [], _∷_, _++_, map, map-append, append-assoc, append-nil, List·Memᴰ, List·Memᴰ·head, List·Memᴰ·not-nil, List·Memᴰ·cases-cons, List·Memᴰ·append-cases}
+use lib.Dec.{ltb}
 use lib.Ieee.{Float}
 use lib.ListN.{length, take, drop, length-append, length-map}
 use lib.Seq.{sets}
-use borrow.Author.Tests.{leb-false}
+use borrow.Author.Tests.{leb-false, ltb-true}
 use Rattle.lists.specs.Lists.{part, keep}
 use Rattle.lists.specs.Parts.{length-part, part-append-parts, drop-more}
 use Rattle.lists.specs.Counting.{Memᴰ-keep}
-use Rattle.lists.specs.Tests.{which}
+use Rattle.lists.specs.Tests.{which, allPass-Memᴰ}
 use Rattle.record_queue.specs.declared.Record.{Record}
 use Rattle.record_queue.specs.Sorted.{sort, insert, Sorted}
 use Rattle.record_queue.specs.SortedLaws.{sort-nil, sort-cons, sort-snoc, sort-sorted, sort-of-sorted, sort-append-comm, sort-append-cong}
 use Rattle.record_queue.specs.Records.{value, records, Heap}
 use Rattle.record_queue.specs.RecordsLaws.{records-zero}
+use Rattle.store.specs.declared.Shape.{Shape}
 use Rattle.store.specs.declared.Counts.{Counts}
-use Rattle.walk.specs.Answer.{documentOf, distanceOf, dropAfter, dropRepeats}
+use Rattle.store.specs.Store.{liveMarks}
+use Rattle.walk.specs.StoreView.{hitAt}
+use Rattle.walk.specs.Answer.{documentOf, vectorOf, distanceOf, isLive, dropAfter, dropRepeats, listed}
 use Rattle.walk.specs.AnswerLaws.{drop-nil, drop-same, drop-other}
 use Rattle.hit_queue.specs.declared.answer.Taken.{Taken}
-use Rattle.hit_queue.specs.Contracts.{within, hitsFrom, Measure, Measured, PoppedBehind, QueuedAgain, Takes}
+use Rattle.hit_queue.specs.Contracts.{hitsOf, within, hitsFrom, Measure, MeasureLent, Measured, PoppedBehind, QueuedAgain, rankedQueue, Takes}
 use Rattle.hit_queue.specs.QueueLaws.{repeats-after, document-popped, key-is, rest-same, measure-rest, numbers-same, measure-fewer}
 use Rattle.best_first_search.specs.declared.rank.Kept.{Kept}
-use Rattle.best_first_search.specs.Ranks.{firstHits, Enough, Front, PopsDocuments, KeepsFirst, Ranked, Firsts}
+use Rattle.best_first_search.specs.Ranks.{firstDocuments, Enough, Front, PopsDocuments, KeepsFirst, Ranked, withdrawn, Firsts}
 use Rattle.best_first_search.proofs.Runs.{lastOf, after-append, without, sorted-before, sorted-front, sort-split}
+use Rattle.best_first_search.proofs.Struck.{passes-first, listed-is, listed-few, hit-vector, struck-are}
 
 -- ---- hits are popped until there are k documents
 
@@ -231,7 +236,7 @@ pub record Ranking (c : Counts) (h : ℕ → ℕ) (k found : ℕ) (hits heap₀ 
   pub few : left ≤ found
   pub some : min found 1 ≤ chunk
   pub measure : Measure c heap queued at left
-  pub first : take k (dropRepeats (sort (records 3 queued heap ++ map h (part at left heap)))) ≡ firstHits k hits
+  pub first : take k (dropRepeats (sort (records 3 queued heap ++ map h (part at left heap)))) ≡ firstDocuments k hits
   pub enough : (bound ≡ 2 ^ 32 - 1) ⊎ Enough k bound (sort (records 3 queued heap))
   pub size : length heap ≡ length heap₀
 
@@ -242,7 +247,7 @@ module _ (c : Counts) (h : ℕ → ℕ) (k found : ℕ) where
     few = omega arith;
     some = some;
     measure = w;
-    first = ap (λ (l : List ℕ). firstHits k (l ++ map h (part from found heap))) (records-zero 3 heap);
+    first = ap (λ (l : List ℕ). firstDocuments k (l ++ map h (part from found heap))) (records-zero 3 heap);
     enough = inl refl;
     size = refl;
   }
@@ -259,7 +264,7 @@ module _ (c : Counts) (h : ℕ → ℕ) (k found : ℕ) where
     next-measure : Measure c heap₁ total (at + n) (left - n)
     next-measure = measure-rest c bound queued total at left n heap heap₁ (map h (part at n heap)) (s .measure) long le m
 
-    measured-first : take k (dropRepeats (sort (records 3 total heap₁ ++ map h (part (at + n) (left - n) heap₁)))) ≡ firstHits k hits
+    measured-first : take k (dropRepeats (sort (records 3 total heap₁ ++ map h (part (at + n) (left - n) heap₁)))) ≡ firstDocuments k hits
     measured-first =
         next-first k bound (records 3 queued heap) (map h (part at n heap)) later (records 3 total heap₁) (m .sorted) (m .all) (s .enough)
         ∙ ap (λ (l : List ℕ). take k (dropRepeats (sort (records 3 queued heap ++ l)))) parts ∙ s .first
@@ -306,11 +311,40 @@ module _ (c : Counts) (h : ℕ → ℕ) (k found : ℕ) where
           ∙ measured-first;
     }
 
--- and the first k were taken
-pub firsts : (hits heap heap′ ids ids′ : List ℕ) (distances distances′ : List Float) (k total : ℕ) (t : Taken) → Ranked hits k total heap
-    → Takes heap total k ids distances t heap′ ids′ distances′ → Firsts hits k ids distances (t .hits) ids′ distances′
-firsts hits heap heap′ ids ids′ distances distances′ k total t r q = record {
-  count-is = q .count-is ∙ ap length (r .first);
-  ids-are = q .ids-are ∙ ap (λ (l : List ℕ). sets ids 0 (map documentOf l)) (r .first);
-  distances-are = q .distances-are ∙ ap (λ (l : List ℕ). sets distances 0 (map distanceOf l)) (r .first);
-}
+-- ---- the first k that pass a test were taken
+
+-- Where one document more was asked for than k for each hit that fails, they are the first k of all that pass
+pub firsts : (test : ℕ → Bool) (hits heap heap′ ids ids′ : List ℕ) (distances distances′ : List Float) (k documents total : ℕ) (t : Taken)
+    → k + length (keep (λ x. not (test x)) hits) ≤ documents → Ranked hits documents total heap → Takes test heap total k ids distances t heap′ ids′ distances′
+    → Firsts test hits k ids distances (t .hits) ids′ distances′
+firsts test hits heap heap′ ids ids′ distances distances′ k documents total t asked r q =
+    let same : take k (keep test (rankedQueue total heap)) ≡ take k (listed test hits) =
+    passes-first test k documents (rankedQueue total heap) (dropRepeats (sort hits)) (r .first) (omega (arith, asked, listed-few (λ x. not (test x)) hits))
+    ∙ ap (take k) (sym (listed-is test hits)) in
+    record {
+      count-is = q .count-is ∙ ap length same;
+      ids-are = q .ids-are ∙ ap (λ (l : List ℕ). sets ids 0 (map documentOf l)) same;
+      distances-are = q .distances-are ∙ ap (λ (l : List ℕ). sets distances 0 (map distanceOf l)) same;
+    }
+
+-- and the hits that fail are those of withdrawn vectors
+module _ (s : Shape) (c : Counts) (floats : List Float) (numbers : List ℕ) (query : List Float) (from found : ℕ) (list : List ℕ) (w : MeasureLent s c floats numbers list 0 from found) where
+  vectors-are : (x : ℕ) → List·Memᴰ x (part from found list) → vectorOf (hitAt s floats numbers query x) ≡ x
+  vectors-are x m =
+      hit-vector s floats numbers query x
+      (omega (
+        arith,
+        ltb-true x (c .vectors) (allPass-Memᴰ (λ y. ltb y (c .vectors)) (part from found list) (w .measure .held) x m),
+        w .lent .within .vectors,
+        w .lent .within .limits .vectors-high,
+      ))
+
+  pub firsts-live : (marks heap heap′ ids ids′ : List ℕ) (distances distances′ : List Float) (k documents total : ℕ) (t : Taken) → marks ≡ liveMarks s (c .vectors) numbers
+      → k + length (keep (withdrawn marks) (part from found list)) ≤ documents → Ranked (hitsOf s floats numbers query (part from found list)) documents total heap
+      → Takes (isLive marks) heap total k ids distances t heap′ ids′ distances′
+      → Firsts (isLive (liveMarks s (c .vectors) numbers)) (hitsOf s floats numbers query (part from found list)) k ids distances (t .hits) ids′ distances′
+  firsts-live marks heap heap′ ids ids′ distances distances′ k documents total t is asked r q =
+      let hits : List ℕ = hitsOf s floats numbers query (part from found list) in
+      subst (λ (m : List ℕ). Firsts (isLive m) hits k ids distances (t .hits) ids′ distances′) is
+      (firsts (isLive marks) hits heap heap′ ids ids′ distances distances′ k documents total t
+      (omega (arith, asked, struck-are marks (part from found list) (hitAt s floats numbers query) vectors-are)) r q)

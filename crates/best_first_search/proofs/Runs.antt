@@ -13,9 +13,8 @@ use borrow.Author.Tests.{le-leb, lt-leb, leb-true}
 use Rattle.lists.specs.Lists.{keep}
 use Rattle.lists.specs.Counting.{keep-nil, keep-pass, keep-fail, keep-append, keep-all, keep-none, Memᴰ-keep}
 use Rattle.lists.specs.Tests.{which, either}
-use Rattle.lists.specs.Partition.{perm-keep}
 use Rattle.record_queue.specs.Sorted.{sort, insert, inserts, Least, Sorted}
-use Rattle.record_queue.specs.SortedLaws.{le-or-lt, insert-le, insert-gt, insert-least, inserts-nil, inserts-cons, inserts-insert, sort-cons, sort-append, sort-append-comm, sort-perm, perm-sort, sort-of-sorted, sort-sorted, least-mem}
+use Rattle.record_queue.specs.SortedLaws.{le-or-lt, insert-le, insert-gt, insert-least, inserts-nil, inserts-cons, inserts-insert, sort-cons, sort-append, sort-append-comm, sort-keep, sort-sorted, least-mem}
 use Rattle.record_queue.specs.RecordsLaws.{same-or-not}
 use Rattle.walk.specs.Answer.{documentOf, dropAfter, dropRepeats}
 use Rattle.walk.specs.AnswerLaws.{drop-nil, drop-same, drop-other}
@@ -94,25 +93,6 @@ runs-more xs ys =
 
 sort-middle : (xs : List ℕ) (y : ℕ) (ys : List ℕ) → sort (xs ++ (y ∷ ys)) ≡ insert y (sort (xs ++ ys))
 sort-middle xs y ys = sort-append xs (y ∷ ys) ∙ ap (inserts xs) (sort-cons y ys) ∙ inserts-insert xs y (sort ys) ∙ ap (insert y) (sym (sort-append xs ys))
-
-least-keep : (p : ℕ → Bool) (x : ℕ) (l : List ℕ) → Least x l → Least x (keep p l)
-least-keep p x [] h = subst (Least x) (sym (keep-nil p)) tt
-least-keep p x (y ∷ ys) h = go (which (p y)) (least-keep p x ys (h .1))
-  where
-    go : (p y ≡ true) ⊎ (p y ≡ false) → Least x (keep p ys) → Least x (keep p (y ∷ ys))
-    go (inl t) rest = subst (Least x) (sym (keep-pass p y ys t)) (h .0, rest)
-    go (inr f) rest = subst (Least x) (sym (keep-fail p y ys f)) rest
-
-sorted-keep : (p : ℕ → Bool) (l : List ℕ) → Sorted l → Sorted (keep p l)
-sorted-keep p [] h = subst Sorted (sym (keep-nil p)) tt
-sorted-keep p (x ∷ xs) h = go (which (p x)) (sorted-keep p xs (h .1))
-  where
-    go : (p x ≡ true) ⊎ (p x ≡ false) → Sorted (keep p xs) → Sorted (keep p (x ∷ xs))
-    go (inl t) rest = subst Sorted (sym (keep-pass p x xs t)) (least-keep p x xs (h .0), rest)
-    go (inr f) rest = subst Sorted (sym (keep-fail p x xs f)) rest
-
-pub sort-keep : (p : ℕ → Bool) (l : List ℕ) → sort (keep p l) ≡ keep p (sort l)
-sort-keep p l = perm-sort (perm-keep p (sort-perm l)) ∙ sort-of-sorted (keep p (sort l)) (sorted-keep p (sort l) (sort-sorted l))
 
 -- ---- hits up to one of them are the front of the sorted hits
 

@@ -8,7 +8,7 @@ use lib.Dec.{ltb}
 use lib.Ieee.{Float}
 use lib.ListN.{length, take, drop, length-map}
 use lib.Seq.{sets, take-take}
-use Rattle.lists.specs.Lists.{part}
+use Rattle.lists.specs.Lists.{part, keep}
 use Rattle.lists.specs.Parts.{length-part, part-part}
 use Rattle.record_queue.specs.RecordsLaws.{heap-none}
 use Rattle.store.specs.declared.Shape.{Shape}
@@ -16,7 +16,7 @@ use Rattle.store.specs.Store.{Limits, hitsAt, workSize}
 use Rattle.store.specs.declared.Counts.{Counts}
 use Rattle.walk.specs.Walk.{View, Progress, State, damaged, going, walk}
 use Rattle.walk.specs.WalkLaws.{found-most}
-use Rattle.walk.specs.Answer.{documentOf, distanceOf, dropRepeats, ranked, answer}
+use Rattle.walk.specs.Answer.{documentOf, distanceOf, dropRepeats, listed, ranked, answer}
 use Rattle.walk.specs.AnswerLaws.{ranked-is}
 use Rattle.lists.specs.Tests.{allPass}
 use Rattle.walk.specs.Contracts.{Answers, SearchEnds}
@@ -25,35 +25,38 @@ use Rattle.walk.specs.Wanted.{Sought}
 use Rattle.walk.specs.Contracts.{VectorsLent}
 use Rattle.best_first_walk.specs.Walks.{hitsPart, foundIn, foundAt, foundPart, EndsAs, WalkEnds}
 use Rattle.best_first_walk.specs.WalksLaws.{few-hits}
-use Rattle.best_first_search.specs.Ranks.{firstHits, FirstHits, Firsts}
+use Rattle.best_first_search.specs.Ranks.{FirstHits, Firsts}
+use Rattle.best_first_search.proofs.Struck.{listed-is}
 use Rattle.best_first_walk.specs.declared.Walked.the-variants as walked
 use Rattle.walk.specs.declared.Searched.the-variants as searched
 
 module _ (s : Shape) (c : Counts) (hit : ℕ → ℕ) where
-  pub damaged-search : (st : State) (k : ℕ) (work ids : List ℕ) (distances : List Float) → WalkEnds s c hit st walked.Damaged work
-      → SearchEnds st k searched.Damaged ids ids distances distances
-  damaged-search damaged k work ids distances w = record { is = refl; ids-kept = refl; distances-kept = refl }
-  damaged-search (going p) k work ids distances w = absurd w
+  pub damaged-search : (st : State) (test : ℕ → Bool) (k : ℕ) (work ids : List ℕ) (distances : List Float) → WalkEnds s c hit st walked.Damaged work
+      → SearchEnds st test k searched.Damaged ids ids distances distances
+  damaged-search damaged test k work ids distances w = record { is = refl; ids-kept = refl; distances-kept = refl }
+  damaged-search (going p) test k work ids distances w = absurd w
 
-  answered : (p : Progress) (k found opened : ℕ) (complete : Bool) (work ids ids′ : List ℕ) (distances distances′ : List Float) (r : ℕ)
-      → EndsAs s c hit p found opened complete work → Firsts (map hit (take found (foundPart s work))) k ids distances r ids′ distances′
-      → Answers (answer k p) (searched.Found r opened complete) ids ids′ distances distances′
+  answered : (p : Progress) (test : ℕ → Bool) (k found opened : ℕ) (complete : Bool) (work ids ids′ : List ℕ) (distances distances′ : List Float) (r : ℕ)
+      → EndsAs s c hit p found opened complete work → Firsts test (map hit (take found (foundPart s work))) k ids distances r ids′ distances′
+      → Answers (answer test k p) (searched.Found r opened complete) ids ids′ distances distances′
   unfolding answer
-  answered p k found opened complete work ids ids′ distances distances′ r e q =
-      let same : firstHits k (map hit (take found (foundPart s work))) ≡ take k (ranked p) = ap (λ (l : List ℕ). take k (dropRepeats l)) (e .finds .are) ∙ ap (take k) (sym (ranked-is p)) in
-      let count : r ≡ length (map documentOf (take k (ranked p))) = q .count-is ∙ ap length same ∙ sym (length-map (take k (ranked p)) documentOf) in
+  answered p test k found opened complete work ids ids′ distances distances′ r e q =
+      let hits : List ℕ = map hit (take found (foundPart s work)) in
+      let same : take k (listed test hits) ≡ take k (ranked test p) =
+      ap (take k) (listed-is test hits ∙ ap (λ (l : List ℕ). keep test (dropRepeats l)) (e .finds .are) ∙ sym (ranked-is test p)) in
+      let count : r ≡ length (map documentOf (take k (ranked test p))) = q .count-is ∙ ap length same ∙ sym (length-map (take k (ranked test p)) documentOf) in
       record {
         is = cc (count, e .nodes, e .all);
         ids-are = q .ids-are ∙ ap (λ (l : List ℕ). sets ids 0 (map documentOf l)) same;
         distances-are = q .distances-are ∙ ap (λ (l : List ℕ). sets distances 0 (map distanceOf l)) same;
       }
 
-  pub ended-search : (st : State) (k found opened : ℕ) (complete : Bool) (work ids ids′ : List ℕ) (distances distances′ : List Float) (r : ℕ)
-      → WalkEnds s c hit st (walked.Ended found opened complete) work → Firsts (map hit (take found (foundPart s work))) k ids distances r ids′ distances′
-      → SearchEnds st k (searched.Found r opened complete) ids ids′ distances distances′
-  ended-search damaged k found opened complete work ids ids′ distances distances′ r w q = absurd w
-  ended-search (going p) k found opened complete work ids ids′ distances distances′ r w q =
-      answered p k found opened complete work ids ids′ distances distances′ r w q
+  pub ended-search : (st : State) (test : ℕ → Bool) (k found opened : ℕ) (complete : Bool) (work ids ids′ : List ℕ) (distances distances′ : List Float) (r : ℕ)
+      → WalkEnds s c hit st (walked.Ended found opened complete) work → Firsts test (map hit (take found (foundPart s work))) k ids distances r ids′ distances′
+      → SearchEnds st test k (searched.Found r opened complete) ids ids′ distances distances′
+  ended-search damaged test k found opened complete work ids ids′ distances distances′ r w q = absurd w
+  ended-search (going p) test k found opened complete work ids ids′ distances distances′ r w q =
+      answered p test k found opened complete work ids ids′ distances distances′ r w q
 
   -- the vectors that a walk found
   ended-few : (view : View) (ef : ℕ) (st : State) (found opened : ℕ) (complete : Bool) (work : List ℕ) → walk view ef ≡ st

@@ -1,4 +1,4 @@
-// The search over a lent store: a walk, and the first k of its hits (document 01, 'Search').
+// The search over a lent store: a walk, and the first k live ones of its hits (document 01, 'Search'; 02, K10).
 pub mod rank;
 
 use crate::rank::first_hits;
@@ -63,7 +63,7 @@ fn walk_store(
     )
 }
 
-// The walk, and the first k of its hits.
+// The walk, and the first k live ones of its hits.
 pub fn best_first_search(
     shape: Shape,
     counts: Counts,

@@ -1,14 +1,19 @@
-// The first k hits of the vectors found: sorted, adjacent equal document ids lose the later (document 01, 'Search').
+// The first k live hits of the vectors found: sorted, adjacent equal document ids lose the later, withdrawn ones are struck (document 01, 'Search'; 02, K10).
 use hit_queue::answer::take_hits;
 use hit_queue::popped::pop_behind;
 use hit_queue::popped::queue_again;
 use hit_queue::queue::measure;
 use store::Counts;
 use store::Shape;
-ghost use Prim.Native.Nat.{_≤_, min};
-ghost use Rattle.lists.specs.Lists.{part};
+use store::wide;
+ghost use mathlib.Core.Path.{_≡_};
+ghost use Prim.Native.Nat.{_+_, _≤_, min};
+ghost use lib.ListN.{length};
+ghost use Rattle.lists.specs.Lists.{part, keep};
+ghost use Rattle.store.specs.Store.{liveMarks};
+ghost use Rattle.walk.specs.Answer.{isLive};
 ghost use Rattle.hit_queue.specs.Contracts.{hitsOf, MeasureLent, CountRest};
-ghost use Rattle.best_first_search.specs.Ranks.{PopsDocuments, KeepsFirst, Ranked, FirstHits, Firsts};
+ghost use Rattle.best_first_search.specs.Ranks.{PopsDocuments, KeepsFirst, Ranked, withdrawn, CountWithdrawn, DocumentsAsked, FirstHits, Firsts};
 
 // What is kept of a queue: how many hits, and a key up to which there are k documents among them; the highest of all keys, if there are not.
 struct Kept {
@@ -130,7 +135,36 @@ fn rank(
     )
 }
 
-// Writes the ids and the distances of the first k hits of the vectors whose numbers stand from a place on.
+// How many of the vectors whose numbers stand from a place on are withdrawn.
+fn count_withdrawn(marks: &[u32], list: &[u32], from: usize, found: usize) -> usize
+    requires { ⌜ CountWithdrawn (now marks) (now list) from found ⌝ }
+    ensures { λ r. ⌜ r ≡ length (keep (withdrawn (now (marks .entry))) (part from found (now (list .entry)))) ⌝ }
+{
+    let mut count = 0;
+    let mut j = 0;
+    while j < found {
+        let mark = marks[wide(list[from + j])];
+        j += 1;
+        if mark == 0 {
+            count += 1;
+        }
+    }
+    count
+}
+
+// How many documents have the first k live ones among them, whatever is measured later: k, and one for each withdrawn vector, since a withdrawn hit takes the
+// place of one document at most. Where k alone makes all be measured, at least as many as there are.
+fn documents_asked(marks: &[u32], list: &[u32], from: usize, found: usize, k: usize) -> usize
+    requires { ⌜ DocumentsAsked (now marks) (now list) from found k ⌝ }
+    ensures { λ r. ⌜ k + length (keep (withdrawn (now (marks .entry))) (part from found (now (list .entry)))) ≤ r ⌝ }
+{
+    if found / 16 < k {
+        return k + found;
+    }
+    k + count_withdrawn(marks, list, from, found)
+}
+
+// Writes the ids and the distances of the first k live hits of the vectors whose numbers stand from a place on.
 pub fn first_hits(
     shape: Shape,
     counts: Counts,
@@ -145,9 +179,23 @@ pub fn first_hits(
     distances: &mut [f32],
 ) -> usize
     requires { ⌜ FirstHits shape counts (now floats) (now numbers) (now heap) from found k (now ids) (now distances) ⌝ }
-    ensures { λ r. ⌜ Firsts (hitsOf shape (now (floats .entry)) (now (numbers .entry)) (now (query .entry)) (part from found (now (heap .entry)))) k (now (ids .entry)) (now (distances .entry)) r (now (ids .exit)) (now (distances .exit)) ⌝ }
+    ensures { λ r. ⌜ Firsts (isLive (liveMarks shape (counts .vectors) (now (numbers .entry)))) (hitsOf shape (now (floats .entry)) (now (numbers .entry)) (now (query .entry)) (part from found (now (heap .entry)))) k (now (ids .entry)) (now (distances .entry)) r (now (ids .exit)) (now (distances .exit)) ⌝ }
 {
-    let total = rank(shape, counts, floats, numbers, heap, query, from, found, k);
-    let taken = take_hits(heap, total, k, ids, distances);
+    let start = shape.live_at();
+    let end = start + counts.vectors;
+    let marks = &numbers[start..end];
+    let documents = documents_asked(marks, heap, from, found, k);
+    let total = rank(
+        shape,
+        counts,
+        floats,
+        numbers,
+        heap,
+        query,
+        from,
+        found,
+        documents,
+    );
+    let taken = take_hits(marks, heap, total, k, ids, distances);
     taken.hits
 }

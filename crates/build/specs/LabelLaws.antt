@@ -1,6 +1,6 @@
--- 02, K4: a build leaves start, length and bytes of each label as they were, whatever it answers. Why: what it writes of the numbers ends before the starts,
--- and the label text is lent to be read.
-use Prim.Native.Nat.{ℕ, _+_}
+-- 02, K4 and K10: a build leaves start, length and bytes of each label and the live marks as they were, whatever it answers. Why: what it writes of the numbers
+-- ends before the starts, and the label text is lent to be read.
+use Prim.Native.Nat.{ℕ, _+_, _*_}
 use mathlib.Core.Bool.{Bool, true, false}
 use mathlib.Core.List.{List}
 use mathlib.Core.Path.{_≡_, refl, sym, ap, _∙_}
@@ -9,7 +9,7 @@ use lib.ListN.{length, take, drop}
 use lib.Seq.{drop-drop}
 use Rattle.lists.specs.Frame.{Before, freed-drop}
 use Rattle.store.specs.declared.Shape.{Shape}
-use Rattle.store.specs.Store.{Store, startsAt, lengthsAt}
+use Rattle.store.specs.Store.{Store, startsAt, lengthsAt, liveAt}
 use Rattle.tree.specs.LayoutLaws.{NodesFit, numbers-behind}
 use Rattle.settings.specs.declared.Check.{Check}
 use Rattle.settings.specs.declared.Check.the-variants.{Fine, Refused}
@@ -20,11 +20,11 @@ use Rattle.settings.specs.declared.refusal.StoreRefusal.the-variants.{ListTooSh
 use Rattle.curator.specs.declared.Changed.{Changed}
 use Rattle.curator.specs.declared.CuratorIndex.{CuratorIndex}
 use Rattle.curator.specs.Limits.{indexShape}
-use Rattle.curator.specs.Calls.{heldStarts, heldLengths, heldText}
+use Rattle.curator.specs.Calls.{heldStarts, heldLengths, heldText, heldMarks}
 use Rattle.curator.specs.Changes.{freeOf, freeStore, Left, buildCheck, heldNodes, LaidOut, BuildsFine, BuildsBy, Builds}
 use Rattle.build.specs.FitLaws.{fine-ready, fine-few, nodes-fit}
 
--- all numbers from the starts on, and the text
+-- all numbers from the starts on, live marks among them, and the text
 pub record LabelsKept (s : Shape) (before after : Store) : Type 0 where
   pub numbers : drop (startsAt s) (after .numbers) ≡ drop (startsAt s) (before .numbers)
   pub text : after .text ≡ before .text
@@ -78,21 +78,27 @@ builds-labels index store work answer store′ work′ h = by (buildCheck index 
     by Fine f g = fine (index .built) refl f g
     by (Refused r) f (e, left) = left-labels (indexShape index) store work store′ work′ r left
 
--- ---- what is held of the labels
+-- ---- what is held of the labels, and the marks
 
 module _ (index : CuratorIndex) (before after : Store) (kept : LabelsKept (indexShape index) before after) where
   pub starts-kept : heldStarts index after ≡ heldStarts index before
   unfolding heldStarts
   starts-kept = ap (take (index .counts .entries)) (kept .numbers)
 
+  -- what stands behind the starts
+  behind : (at more : ℕ) → at ≡ startsAt (indexShape index) + more → drop at (after .numbers) ≡ drop at (before .numbers)
+  behind at more e =
+      let split : (l : List ℕ) → drop at l ≡ drop more (drop (startsAt (indexShape index)) l) =
+      λ l. ap (λ (n : ℕ). drop n l) e ∙ sym (drop-drop more (startsAt (indexShape index)) l) in
+      split (after .numbers) ∙ ap (drop more) (kept .numbers) ∙ sym (split (before .numbers))
+
   pub lengths-kept : heldLengths index after ≡ heldLengths index before
   unfolding heldLengths
-  lengths-kept =
-      let s = indexShape index in
-      let behind : (l : List ℕ) → drop (lengthsAt s) l ≡ drop (s .entries) (drop (startsAt s) l) =
-      λ l. ap (λ (n : ℕ). drop n l) (let e : lengthsAt s ≡ startsAt s + s .entries = omega arith in e) ∙ sym (drop-drop (s .entries) (startsAt s) l) in
-      ap (take (index .counts .entries))
-      (behind (after .numbers) ∙ ap (drop (s .entries)) (kept .numbers) ∙ sym (behind (before .numbers)))
+  lengths-kept = ap (take (index .counts .entries)) (behind (lengthsAt (indexShape index)) (index .capacities .entries) (omega arith))
+
+  pub marks-kept : heldMarks index after ≡ heldMarks index before
+  unfolding heldMarks
+  marks-kept = ap (take (index .counts .vectors)) (behind (liveAt (indexShape index)) (2 * index .capacities .entries) (omega arith))
 
   pub text-kept : heldText index after ≡ heldText index before
   unfolding heldText

@@ -42,7 +42,7 @@ fn free_ends(index: CuratorIndex, number: u32) -> Lent {
 }
 
 // The node parts: centroids; leaf order of vectors, six per node, child links, leaf order of entries; filters.
-fn print_nodes(index: CuratorIndex, floats: &[f32; 50], numbers: &[u32; 152], hashes: &[u64; 78]) {
+fn print_nodes(index: CuratorIndex, floats: &[f32; 50], numbers: &[u32; 156], hashes: &[u64; 78]) {
     let m = at_most(index.capacities.nodes, 18);
     print_floats(floats, 8, 8 + 2 * m);
     print_numbers(numbers, 8, starts_at(index.capacities.nodes));
@@ -55,7 +55,7 @@ fn print_end(
     answer: Changed,
     garbage: Garbage,
     floats: &[f32; 50],
-    numbers: &[u32; 152],
+    numbers: &[u32; 156],
     hashes: &[u64; 78],
     work: &[u32; 68],
 ) {
@@ -74,7 +74,7 @@ fn print_end(
 // A build of the held store: its answer, what it keeps and, if asked, the node parts.
 pub fn try_build(index: CuratorIndex, lent: Lent, garbage: Garbage, shown: bool) {
     let f = at_most(lent.floats, 50);
-    let n = at_most(lent.numbers, 152);
+    let n = at_most(lent.numbers, 156);
     let h = at_most(lent.hashes, 78);
     let t = at_most(lent.text, 6);
     let w = at_most(lent.work, 68);

@@ -35,7 +35,7 @@ pub fn sizes(nodes: usize, spare: usize) -> Lent {
     let s = at_most(spare, 2);
     Lent {
         floats: 2 * (4 + m + 2) + s,
-        numbers: 2 * 4 + 4 * 4 + 7 * m + s,
+        numbers: 3 * 4 + 4 * 4 + 7 * m + s,
         hashes: 4 + 4 * m + s,
         text: 4 + s,
         work: 3 * m + 3 * 4 + s,
@@ -70,10 +70,11 @@ pub fn starts_at(nodes: usize) -> usize
     2 * 4 + 2 * 4 + 7 * at_most(nodes, 18)
 }
 
-pub fn held_numbers(nodes: usize) -> [u32; 152] {
+pub fn held_numbers(nodes: usize) -> [u32; 156] {
     let starts = starts_at(nodes);
     let lengths = starts + 4;
-    let mut list = [900u32; 152];
+    let marks = lengths + 4;
+    let mut list = [900u32; 156];
     list[0] = 7;
     list[1] = 8;
     list[2] = 9;
@@ -86,6 +87,9 @@ pub fn held_numbers(nodes: usize) -> [u32; 152] {
     list[lengths] = 1;
     list[lengths + 1] = 1;
     list[lengths + 2] = 1;
+    list[marks] = 1;
+    list[marks + 1] = 0;
+    list[marks + 2] = 1;
     list
 }
 
@@ -110,7 +114,7 @@ pub fn overwrite(numbers: &mut [u32], garbage: Garbage) {
 
 pub fn none() -> Garbage {
     Garbage {
-        place: 152,
+        place: 156,
         value: 0,
     }
 }

@@ -2,9 +2,10 @@
 // lists are lent with places to spare and hold marks (900, as a float 9.0, as a byte a dot) wherever nothing is held.
 //
 // The store is that of document 01's worked example: D 2, B 2, V 4, E 4, with room for 4 bytes of label text; the vectors (1, 0), (0, 1) and (3, 4)
-// normalised, documents 7, 8 and 9, labels `a`, `b`, `a`. With leaf size 1 its tree has five nodes; with leaf size 2 the root and two leaves; with 3 the root
-// alone. One vector and leaf size 0 give 17 nodes. A line has the number that is returned; of an accepted build 0, the counts of vectors, entries and nodes,
-// and whether it is built; then `kept` where every place that 01 does not name as free or written is as it was, and otherwise `changed`.
+// normalised, documents 7, 8 and 9, labels `a`, `b`, `a`; 8 is withdrawn. With leaf size 1 its tree has five nodes; with leaf size 2 the root and two
+// leaves; with 3 the root alone. One vector and leaf size 0 give 17 nodes. A line has the number that is returned; of an accepted build 0, the counts of
+// vectors, entries and nodes, and whether it is built; then `kept` where every place that 01 does not name as free or written is as it was, and otherwise
+// `changed`.
 //
 // The expected lines are reasoned from 01: sizes and limits from 'The store', numbers and their order from 'Refusals and what they leave', what is
 // written from 'Clusters', 'Tree', 'Entries' and 'Filter' by hand. The hashes of `a` and `b` are published FNV-1a values.

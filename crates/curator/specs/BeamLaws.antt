@@ -10,7 +10,7 @@ use lib.ListN.{length}
 use Rattle.store.specs.Store.{Store}
 use Rattle.tree.specs.Layout.{numbersOf, hashesOf, floatsOf}
 use Rattle.tree.specs.Nodes.{Node}
-use Rattle.walk.specs.StoreView.{storeView}
+use Rattle.walk.specs.StoreView.{liveIn, storeView}
 use Rattle.walk.specs.Walk.{View, State, damaged, going, walk}
 use Rattle.settings.specs.declared.Capacities.{Capacities}
 use Rattle.curator.specs.declared.Changed.{Changed}
@@ -193,15 +193,15 @@ searches-beam beam index store work call end h g searches =
     view : List Float → View
     view query = storeView (indexShape index) (index .counts) store query (wantedOf (call .question .asked))
 
-    walked : (state : State) → WalkedTo state index work call end → WalkedTo state (withBeam beam index) work call end
-    walked damaged w = record { answer = w .answer; work = w .work; ids = w .ids; distances = w .distances }
-    walked (going p) w = record { answer = w .answer; work = w .work; ids = w .ids; distances = w .distances }
+    walked : (state : State) (test : ℕ → Bool) → WalkedTo state test index work call end → WalkedTo state test (withBeam beam index) work call end
+    walked damaged test w = record { answer = w .answer; work = w .work; ids = w .ids; distances = w .distances }
+    walked (going p) test w = record { answer = w .answer; work = w .work; ids = w .ids; distances = w .distances }
 
     by : (check : Check) → SearchesBy check index store work call end → SearchesBy check (withBeam beam index) store work call end
     by Fine w =
         record {
           query = w .query;
           normalized = w .normalized;
-          walked = walked (walk (view (w .query)) (index .params .«ef_search»)) (w .walked);
+          walked = walked (walk (view (w .query)) (index .params .«ef_search»)) (liveIn (indexShape index) (index .counts) store) (w .walked);
         }
     by (Refused r) u = u

@@ -8,7 +8,7 @@ use lib.ListN.{length}
 use Rattle.lists.specs.Lists.{part}
 use Rattle.lists.specs.Suffix.{countAtEnd}
 use Rattle.store.specs.declared.Counts.{Counts}
-use Rattle.store.specs.Store.{Store, ownersAt, startsAt, lengthsAt, entryStart}
+use Rattle.store.specs.Store.{Store, ownersAt, startsAt, lengthsAt, entryStart, liveMarks}
 use Rattle.label.specs.Names.{bytesOfNames}
 use Rattle.cluster.specs.Vectors.{vectorsIn}
 use Rattle.tree.specs.Tree.{Splitting}
@@ -54,6 +54,10 @@ heldLengths index store = part (lengthsAt (indexShape index)) (index .counts .en
 unfoldable pub heldText : CuratorIndex → Store → List ℕ
 heldText index store = part 0 (index .counts .bytes) (store .text)
 
+-- the live marks of the vectors (02, K10)
+unfoldable pub heldMarks : CuratorIndex → Store → List ℕ
+heldMarks index store = liveMarks (indexShape index) (index .counts .vectors) (store .numbers)
+
 -- two stores that agree on what an index holds
 pub record SameOfIndex (index : CuratorIndex) (s t : Store) : Type 0 where
   pub vectors : heldVectors index s ≡ heldVectors index t
@@ -62,6 +66,7 @@ pub record SameOfIndex (index : CuratorIndex) (s t : Store) : Type 0 where
   pub starts : heldStarts index s ≡ heldStarts index t
   pub lengths : heldLengths index s ≡ heldLengths index t
   pub text : heldText index s ≡ heldText index t
+  pub marks : heldMarks index s ≡ heldMarks index t
 
 -- 02, K3: 'The entries taken back are those at the end whose owner is the last vector.' How many they are, for any owners
 unfoldable pub lastEntries : CuratorIndex → Store → ℕ

@@ -1,19 +1,20 @@
--- The result of `new`, `add`, `take_back` and `build` in full: the answer, the state, and every place of every lent list.
+-- The result of `new`, `add`, `take_back`, `withdraw` and `build` in full: the answer, the state, and every place of every lent list.
 use Prim.Native.Nat.{ℕ, _+_, _*_}
-use mathlib.Core.Bool.{Bool, true, false, not}
+use mathlib.Core.Bool.{Bool, true, false, not, cond}
 use mathlib.Core.List.{List, [], _∷_}
 use mathlib.Core.Path.{_≡_}
-use lib.Dec.{ltb}
+use lib.Dec.{ltb, eqb}
 use lib.Ieee.{Float}
 use lib.ListN.{length, set, replicate}
 use lib.Seq.{sets}
 use Rattle.vector.specs.Vector.{dot, Normalized}
 use Rattle.store.specs.declared.Shape.{Shape}
 use Rattle.store.specs.declared.Counts.{Counts}
-use Rattle.store.specs.Store.{Store, ownersAt, startsAt, lengthsAt, centresPart, workPart, centroidsPart, orderPart, nodesPart, linksPart, entryOrderPart, filtersPart}
+use Rattle.store.specs.Store.{Store, ownersAt, startsAt, lengthsAt, liveAt, centresPart, workPart, centroidsPart, orderPart, nodesPart, linksPart, entryOrderPart, filtersPart}
 use Rattle.tree.specs.Tree.{treeOf, size}
 use Rattle.tree.specs.Nodes.{Node, nodesOf}
 use Rattle.tree.specs.Layout.{numbersOf, hashesOf, floatsOf}
+use Rattle.lists.specs.Lists.{isIn}
 use Rattle.lists.specs.Tests.{allPass}
 use Rattle.lists.specs.Frame.{Part, Freed}
 use Rattle.settings.specs.declared.CuratorParams.{CuratorParams}
@@ -29,11 +30,11 @@ use Rattle.settings.specs.declared.refusal.StoreRefusal.{StoreRefusal}
 use Rattle.settings.specs.declared.refusal.StoreRefusal.the-variants.{ListTooShort, VectorsFull, EntriesFull, NodesFull, Damaged, TextFull}
 use Rattle.curator.specs.Outcome.{Succeeded, ChangeRefused}
 use Rattle.curator.specs.Limits.{stateSound, indexShape}
-use Rattle.store.specs.Lent.{lengthsOf}
+use Rattle.store.specs.Lent.{storeOf, lengthsOf}
 use Rattle.curator.specs.Arguments.{AddCall}
-use Rattle.curator.specs.Rows.{firstOf, stateRow, newRows, addRows, takeBackRows, buildRows}
+use Rattle.curator.specs.Rows.{firstOf, stateRow, newRows, addRows, takeBackRows, withdrawRows, buildRows}
 use Rattle.label.specs.Names.{hashesOfLabels, startsFrom, lengthsOfNames, bytesOfNames}
-use Rattle.curator.specs.Calls.{factsOf, heldVectors, heldEntries, lastEntries, bytesLeft, splittingOf, fresh, grown, shrunk, builtWith}
+use Rattle.curator.specs.Calls.{factsOf, heldVectors, heldDocuments, heldEntries, heldMarks, lastEntries, bytesLeft, splittingOf, fresh, grown, shrunk, builtWith}
 
 -- ---- free parts
 
@@ -108,17 +109,22 @@ unfolding startsFrom lengthsOfNames
 withLabels s held names numbers =
     sets (sets numbers (startsAt s + held .entries) (startsFrom (held .bytes) names)) (lengthsAt s + held .entries) (lengthsOfNames names)
 
+-- the numbers with a live mark of 1 for the vector after those held: 'add writes 1' (02, K10)
+abbrev pub withMark : Shape → ℕ → List ℕ → List ℕ
+withMark s vectors numbers = set numbers (liveAt s + vectors) 1
+
 -- An accepted add writes the normalised vector, the document id, and one owner and hash for each label, after those held; its start and length, and its
--- bytes after the bytes held (02, K4); nothing else
+-- bytes after the bytes held (02, K4); the vector's live mark (02, K10); nothing else
 pub record Wrote (index : CuratorIndex) (store : Store) (call : AddCall) (store′ : Store) : Type 0 where
   pub stored : List Float
   pub normalized : Normalized (dot (call .vector) (call .vector)) (call .vector) stored
   pub floats : store′ .floats ≡ sets (store .floats) (index .counts .vectors * index .dimension) stored
   pub numbers :
       store′ .numbers
-      ≡ withLabels (indexShape index) (index .counts) (call .names)
+      ≡ withMark (indexShape index) (index .counts .vectors)
+      (withLabels (indexShape index) (index .counts) (call .names)
       (sets (set (store .numbers) (index .counts .vectors) (call .document)) (ownersAt (indexShape index) + index .counts .entries)
-      (replicate (length (call .names)) (index .counts .vectors)))
+      (replicate (length (call .names)) (index .counts .vectors))))
   pub hashes : store′ .hashes ≡ sets (store .hashes) (index .counts .entries) (hashesOfLabels (call .names))
   pub text : store′ .text ≡ sets (store .text) (index .counts .bytes) (bytesOfNames (call .names))
 
@@ -149,6 +155,41 @@ TakesBackBy (Check′.Refused r) index store answer = ChangeRefused r answer
 unfoldable pub TakesBack : CuratorIndex → Store → Changed → Type 0
 unfolding TakesBackBy takeBackCheck
 TakesBack index store answer = TakesBackBy (takeBackCheck index store) index store answer
+
+-- ---- withdraw
+
+-- whether a vector held has a document id
+unfoldable pub holdsDocument : CuratorIndex → Store → ℕ → Bool
+unfolding isIn heldDocuments
+holdsDocument index store document = isIn document (heldDocuments index store)
+
+unfoldable pub withdrawCheck : CuratorIndex → Store → ℕ → Check
+unfolding firstOf stateSound withdrawRows holdsDocument
+withdrawCheck index store document =
+    firstOf (stateRow (stateSound index) ∷ withdrawRows (factsOf index) (lengthsOf store) (holdsDocument index store document))
+
+-- 02, K10: 'Withdrawing a document id .. writes 0 on every vector with that id': the marks of vectors, by their document ids
+unfoldable pub marksWithdrawn : ℕ → List ℕ → List ℕ → List ℕ
+marksWithdrawn document [] marks = []
+marksWithdrawn document (d ∷ documents) [] = []
+marksWithdrawn document (d ∷ documents) (mark ∷ marks) = cond (eqb document d) 0 mark ∷ marksWithdrawn document documents marks
+
+-- the store with these marks, and nothing else altered
+unfoldable pub withdrawnFrom : CuratorIndex → Store → ℕ → Store
+unfolding marksWithdrawn heldDocuments heldMarks
+withdrawnFrom index store document =
+    storeOf (store .floats) (sets (store .numbers) (liveAt (indexShape index)) (marksWithdrawn document (heldDocuments index store) (heldMarks index store)))
+    (store .hashes) (store .text)
+
+-- The whole result of withdrawing a document id: the state stays, built or not.
+unfoldable pub WithdrawsBy : Check → CuratorIndex → Store → ℕ → Changed → Store → Type 0
+unfolding withdrawnFrom
+WithdrawsBy Check′.Fine index store document answer store′ = Succeeded index answer × (store′ ≡ withdrawnFrom index store document)
+WithdrawsBy (Check′.Refused r) index store document answer store′ = ChangeRefused r answer × (store′ ≡ store)
+
+unfoldable pub Withdraws : CuratorIndex → Store → ℕ → Changed → Store → Type 0
+unfolding WithdrawsBy withdrawCheck
+Withdraws index store document answer store′ = WithdrawsBy (withdrawCheck index store document) index store document answer store′
 
 -- ---- build
 

@@ -12,7 +12,8 @@ use Rattle.vector.specs.Normalized.{normalized, normalized-is, normalized-holds
 use Rattle.lists.specs.Counting.{countFrom-snoc}
 use Rattle.lists.specs.Lists.{part, countFrom}
 use Rattle.lists.specs.Parts.{part-append-parts, part-set-before, part-sets-before, part-sets-after, part-sets-same, part-sets-grown}
-use Rattle.store.specs.Store.{Store, vectorAt, ownersAt, startsAt, lengthsAt}
+use Rattle.store.specs.declared.Shape.{Shape}
+use Rattle.store.specs.Store.{Store, vectorAt, ownersAt, startsAt, lengthsAt, liveAt}
 use Rattle.tree.specs.Nodes.{Entries}
 use Rattle.curator.specs.declared.Changed.{Changed}
 use Rattle.curator.specs.declared.Changed.the-variants as Changed′
@@ -22,9 +23,9 @@ use Rattle.curator.specs.declared.CuratorIndex.{CuratorIndex}
 use Rattle.curator.specs.AddLaws.{add-facts}
 use Rattle.label.specs.Names.{hashesOfLabels, startsFrom, lengthsOfNames, bytesOfNames}
 use Rattle.label.specs.TextLaws.{length-starts, length-lengths}
-use Rattle.curator.specs.Calls.{factsOf, heldVectors, heldDocuments, heldEntries, heldStarts, heldLengths, heldText, SameOfIndex, grown}
+use Rattle.curator.specs.Calls.{factsOf, heldVectors, heldDocuments, heldEntries, heldStarts, heldLengths, heldText, heldMarks, SameOfIndex, grown}
 use Rattle.store.specs.Lent.{lengthsOf}
-use Rattle.curator.specs.Changes.{addCheck, withLabels, Wrote, AddsBy, Adds}
+use Rattle.curator.specs.Changes.{addCheck, withLabels, withMark, Wrote, AddsBy, Adds}
 use Rattle.curator.specs.Arguments.{AddCall}
 use Rattle.label.specs.NameLaws.{length-hashesOfLabels}
 use Rattle.curator.specs.Lent.{AddRoom}
@@ -71,7 +72,12 @@ part-grows l s m xs h =
 
 -- ---- an accepted add grows what is held by its line
 
--- starts and lengths stand behind all other numbers
+-- the live mark of the vector stands behind all other numbers that are held
+pub mark-behind : (s : Shape) (vectors : ℕ) (numbers : List ℕ) (at count : ℕ) → at + count ≤ liveAt s + vectors
+    → part at count (withMark s vectors numbers) ≡ part at count numbers
+mark-behind s vectors numbers at count h = part-sets-before at count numbers (liveAt s + vectors) (1 ∷ []) h
+
+-- starts and lengths stand behind all but the live marks
 pub labels-behind : (index : CuratorIndex) (call : AddCall) (numbers : List ℕ) (at count : ℕ) → at + count ≤ startsAt (indexShape index)
     → part at count (withLabels (indexShape index) (index .counts) (call .names) numbers) ≡ part at count numbers
 unfolding withLabels
@@ -96,6 +102,14 @@ module _ (index : CuratorIndex) (store : Store) (call : AddCall) (store′ : Sto
   owned =
       sets (set (store .numbers) (index .counts .vectors) (call .document)) (ownersAt (indexShape index) + index .counts .entries)
       (replicate (length (call .names)) (index .counts .vectors))
+
+  -- and with starts and lengths
+  abbrev pub labelled : List ℕ
+  labelled = withLabels (indexShape index) (index .counts) (call .names) owned
+
+  -- what was written before the mark
+  pub before-mark : (at count : ℕ) → at + count ≤ liveAt (indexShape index) + index .counts .vectors → part at count (store′ .numbers) ≡ part at count labelled
+  before-mark at count h = ap (part at count) (wrote .numbers) ∙ mark-behind (indexShape index) (index .counts .vectors) labelled at count h
 
   pub length-owned : length owned ≡ length (store .numbers)
   length-owned =
@@ -135,7 +149,7 @@ module _ (index : CuratorIndex) (store : Store) (call : AddCall) (store′ : Sto
   documents-grown =
       let h = room .vectors in
       let fits : index .counts .vectors < length (store .numbers) = omega (arith, room .long .numbers) in
-      ap (part 0 (index .counts .vectors + 1)) (wrote .numbers)
+      before-mark 0 (index .counts .vectors + 1) (omega arith)
       ∙ labels-behind index call owned 0 (index .counts .vectors + 1) (omega arith)
       ∙ part-sets-before 0 (index .counts .vectors + 1) (set (store .numbers) (index .counts .vectors) (call .document))
       (ownersAt (indexShape index) + index .counts .entries)
@@ -155,7 +169,8 @@ module _ (index : CuratorIndex) (store : Store) (call : AddCall) (store′ : Sto
       let wide : length numbers ≡ length (store .numbers) = length-set (store .numbers) (index .counts .vectors) (call .document) in
       let start = ownersAt (indexShape index) in
       let fits : start + index .counts .entries + length owners ≤ length numbers = omega (arith, room .long .numbers, room .entries) in
-      ap₂ (λ (k : ℕ) (l : List ℕ). part (ownersAt (indexShape index)) (index .counts .entries + k) l) (sym many) (wrote .numbers)
+      ap (λ (k : ℕ). part (ownersAt (indexShape index)) (index .counts .entries + k) (store′ .numbers)) (sym many)
+      ∙ before-mark start (index .counts .entries + length owners) (omega (arith, many, room .entries))
       ∙ labels-behind index call owned start (index .counts .entries + length owners) (omega (arith, many, room .entries))
       ∙ part-grows numbers (ownersAt (indexShape index)) (index .counts .entries) owners fits
       ∙ ap (λ (l : List ℕ). l ++ owners)
@@ -188,7 +203,7 @@ module _ (index : CuratorIndex) (store : Store) (call : AddCall) (store′ : Sto
       let k = length (call .names) in
       let start = startsAt (indexShape index) in
       let new = startsFrom (index .counts .bytes) (call .names) in
-      ap (part start (e + k)) (wrote .numbers)
+      before-mark start (e + k) (omega (arith, room .entries))
       ∙ part-sets-before start (e + k) (sets owned (start + e) new) (lengthsAt (indexShape index) + e) (lengthsOfNames (call .names)) (omega (arith, room .entries))
       ∙ part-sets-grown start e owned new k (length-starts (index .counts .bytes) (call .names)) (omega (arith, length-owned, room .entries, room .long .numbers))
       ∙ ap (λ (l : List ℕ). l ++ new) (behind-owners start e (omega arith))
@@ -202,7 +217,7 @@ module _ (index : CuratorIndex) (store : Store) (call : AddCall) (store′ : Sto
       let before = sets owned (startsAt (indexShape index) + index .counts .entries) (startsFrom (index .counts .bytes) (call .names)) in
       let new = lengthsOfNames (call .names) in
       let long = length-sets owned (startsAt (indexShape index) + index .counts .entries) (startsFrom (index .counts .bytes) (call .names)) in
-      ap (part start (e + k)) (wrote .numbers)
+      before-mark start (e + k) (omega (arith, room .entries))
       ∙ part-sets-grown start e before new k (length-lengths (call .names)) (omega (arith, long, length-owned, room .entries, room .long .numbers))
       ∙ ap (λ (l : List ℕ). l ++ new)
       (part-sets-after start e owned (startsAt (indexShape index) + e) (startsFrom (index .counts .bytes) (call .names))
@@ -224,7 +239,7 @@ module _ (index : CuratorIndex) (store : Store) (call : AddCall) (store′ : Sto
       let e = index .counts .entries in
       let start = startsAt (indexShape index) in
       let new = startsFrom (index .counts .bytes) (call .names) in
-      ap (part start e) (wrote .numbers)
+      before-mark start e (omega (arith, room .entries))
       ∙ part-sets-before start e (sets owned (start + e) new) (lengthsAt (indexShape index) + e) (lengthsOfNames (call .names)) (omega arith)
       ∙ part-sets-before start e owned (start + e) new (let k : start + e ≤ start + e = omega arith in k)
       ∙ behind-owners start e (omega arith)
@@ -235,10 +250,35 @@ module _ (index : CuratorIndex) (store : Store) (call : AddCall) (store′ : Sto
       let e = index .counts .entries in
       let start = lengthsAt (indexShape index) in
       let starts = startsFrom (index .counts .bytes) (call .names) in
-      ap (part start e) (wrote .numbers)
+      before-mark start e (omega (arith, room .entries))
       ∙ part-sets-before start e (sets owned (startsAt (indexShape index) + e) starts) (start + e) (lengthsOfNames (call .names)) (let k : start + e ≤ start + e = omega arith in k)
       ∙ part-sets-after start e owned (startsAt (indexShape index) + e) starts (omega (arith, length-starts (index .counts .bytes) (call .names), room .entries))
       ∙ behind-owners start e (omega arith)
+
+  -- starts and lengths stand before the marks
+  before-marks : (at count : ℕ) → liveAt (indexShape index) ≤ at → part at count labelled ≡ part at count (store .numbers)
+  unfolding withLabels
+  before-marks at count h =
+      let e = index .counts .entries in
+      let starts = startsFrom (index .counts .bytes) (call .names) in
+      part-sets-after at count (sets owned (startsAt (indexShape index) + e) starts) (lengthsAt (indexShape index) + e) (lengthsOfNames (call .names))
+      (omega (arith, h, length-lengths (call .names), room .entries))
+      ∙ part-sets-after at count owned (startsAt (indexShape index) + e) starts (omega (arith, h, length-starts (index .counts .bytes) (call .names), room .entries))
+      ∙ behind-owners at count (omega (arith, h))
+
+  pub marks-grown : heldMarks (grown index (call .names)) store′ ≡ heldMarks index store ++ (1 ∷ [])
+  unfolding heldMarks
+  marks-grown =
+      let n = index .counts .vectors in
+      let at = liveAt (indexShape index) in
+      ap (part at (n + 1)) (wrote .numbers)
+      ∙ part-sets-grown at n labelled (1 ∷ []) 1 refl (omega (arith, length-labels index call owned, length-owned, room .vectors, room .long .numbers))
+      ∙ ap (λ (l : List ℕ). l ++ (1 ∷ [])) (before-marks at n (omega arith))
+
+  marks-kept : heldMarks index store′ ≡ heldMarks index store
+  unfolding heldMarks
+  marks-kept =
+      before-mark (liveAt (indexShape index)) (index .counts .vectors) (omega arith) ∙ before-marks (liveAt (indexShape index)) (index .counts .vectors) (omega arith)
 
   text-kept : heldText index store′ ≡ heldText index store
   unfolding heldText
@@ -255,7 +295,7 @@ module _ (index : CuratorIndex) (store : Store) (call : AddCall) (store′ : Sto
       let owners = replicate (length (call .names)) n in
       let numbers = set (store .numbers) n (call .document) in
       let owners-kept : part start e (store′ .numbers) ≡ part start e (store .numbers) =
-      ap (part start e) (wrote .numbers) ∙ labels-behind index call owned start e (omega (arith, room .entries))
+      before-mark start e (omega (arith, room .entries)) ∙ labels-behind index call owned start e (omega (arith, room .entries))
       ∙ part-sets-before start e numbers (start + e) owners (let k : start + e ≤ start + e = omega arith in k)
       ∙ part-set-before start e (store .numbers) n (call .document) (room .vectors) in
       let hashed : part 0 e (store′ .hashes) ≡ part 0 e (store .hashes) =
@@ -265,12 +305,13 @@ module _ (index : CuratorIndex) (store : Store) (call : AddCall) (store′ : Sto
             ap (λ (l : List Float). map (vectorAt (index .dimension) l) (countFrom 0 n)) (wrote .floats)
             ∙ vectors-kept (index .dimension) n (store .floats) (wrote .stored);
         documents =
-            ap (part 0 n) (wrote .numbers) ∙ labels-behind index call owned 0 n (omega (arith, room .vectors)) ∙ part-sets-before 0 n numbers (start + e) owners (omega (arith, room .vectors))
+            before-mark 0 n (omega (arith, room .vectors)) ∙ labels-behind index call owned 0 n (omega (arith, room .vectors)) ∙ part-sets-before 0 n numbers (start + e) owners (omega (arith, room .vectors))
             ∙ take-set-le n (store .numbers) n (call .document) (omega arith);
         entries = λ i. record { owners = owners-kept i; hashes = hashed i };
         starts = starts-kept;
         lengths = lengths-kept;
         text = text-kept;
+        marks = marks-kept;
       }
 
 -- the lists keep their lengths
@@ -281,7 +322,9 @@ wrote-lengths index store call store′ wrote =
     let at = ownersAt (indexShape index) + index .counts .entries in
     let f = sym (ap length (wrote .floats) ∙ length-sets (store .floats) (n * index .dimension) (wrote .stored)) in
     let o =
-    sym (ap length (wrote .numbers) ∙ length-labels index call (sets one at (replicate (length (call .names)) n)) ∙ length-sets one at (replicate (length (call .names)) n)
+    sym (ap length (wrote .numbers)
+    ∙ length-set (withLabels (indexShape index) (index .counts) (call .names) (sets one at (replicate (length (call .names)) n))) (liveAt (indexShape index) + n) 1
+    ∙ length-labels index call (sets one at (replicate (length (call .names)) n)) ∙ length-sets one at (replicate (length (call .names)) n)
     ∙ length-set (store .numbers) n (call .document)) in
     let h = sym (ap length (wrote .hashes) ∙ length-sets (store .hashes) (index .counts .entries) (hashesOfLabels (call .names))) in
     let t = sym (ap length (wrote .text) ∙ length-sets (store .text) (index .counts .bytes) (bytesOfNames (call .names))) in
@@ -296,9 +339,10 @@ added index store call =
     record {
       floats = sets (store .floats) (index .counts .vectors * index .dimension) (normalized (call .vector));
       numbers =
-          withLabels (indexShape index) (index .counts) (call .names)
+          withMark (indexShape index) (index .counts .vectors)
+          (withLabels (indexShape index) (index .counts) (call .names)
           (sets (set (store .numbers) (index .counts .vectors) (call .document)) (ownersAt (indexShape index) + index .counts .entries)
-          (replicate (length (call .names)) (index .counts .vectors)));
+          (replicate (length (call .names)) (index .counts .vectors))));
       hashes = sets (store .hashes) (index .counts .entries) (hashesOfLabels (call .names));
       text = sets (store .text) (index .counts .bytes) (bytesOfNames (call .names));
     }
@@ -400,6 +444,7 @@ grown-same index s t call h r q =
       lengths =
           lengths-grown index s call _ r w ∙ ap (λ (a : List ℕ). a ++ lengthsOfNames (call .names)) (h .lengths) ∙ sym (lengths-grown index t call _ q v);
       text = text-grown index s call _ r w ∙ ap (λ (a : List ℕ). a ++ bytesOfNames (call .names)) (h .text) ∙ sym (text-grown index t call _ q v);
+      marks = marks-grown index s call _ r w ∙ ap (λ (a : List ℕ). a ++ (1 ∷ [])) (h .marks) ∙ sym (marks-grown index t call _ q v);
     }
 
 -- stores that agree on what is held give the same answer, are written alike, and agree afterwards on what is held

@@ -1,28 +1,31 @@
 -- The records of a call's contract, made of what the call is lent.
 use Prim.Native.Nat.{ℕ, _+_, _/_, _≤_, _<_}
-use mathlib.Core.Bool.{true}
-use mathlib.Core.List.{List, _∷_}
+use mathlib.Core.Bool.{Bool, true}
+use mathlib.Core.List.{List, [], _∷_}
 use mathlib.Core.Path.{_≡_}
 use lib.Ieee.{Float}
 use lib.ListN.{length}
 use lib.Seq.{sets}
 use denote.Ref.{RefT, now}
 use Rattle.vector.specs.Vector.{dot, Normalized}
-use Rattle.lists.specs.Lists.{total}
+use Rattle.lists.specs.Lists.{part, total, isIn}
 use Rattle.store.specs.declared.Shape.{Shape}
 use Rattle.store.specs.declared.Counts.{Counts}
 use Rattle.store.specs.declared.Lengths.{Lengths}
 use Rattle.label.specs.Names.{bytesOfNames}
 use Rattle.store.specs.Store.{Store, Limits, numbersSize}
-use Rattle.store.specs.Lent.{lengthsOf, Long}
+use Rattle.store.specs.Lent.{lengthsOf, Long, storeShort}
 use Rattle.settings.specs.declared.Check.{Check}
 use Rattle.settings.specs.declared.Check.the-variants as Check′
+use Rattle.settings.specs.declared.refusal.Refusal.the-variants as Refusal′
+use Rattle.settings.specs.declared.refusal.StoreRefusal.the-variants as StoreRefusal′
 use Rattle.curator.specs.declared.VectorCheck.{VectorCheck}
 use Rattle.curator.specs.declared.VectorCheck.the-variants as VectorCheck′
 use Rattle.curator.specs.declared.CuratorIndex.{CuratorIndex}
 use Rattle.curator.specs.Limits.{stateSound, indexShape}
-use Rattle.curator.specs.Rows.{Row, firstOf, stateRow, unbuiltRows, addRows, takeBackRows}
+use Rattle.curator.specs.Rows.{Row, row, firstOf, stateRow, unbuiltRows, addRows, takeBackRows}
 use Rattle.curator.specs.Calls.{factsOf}
+use Rattle.curator.specs.Changes.{marksWithdrawn}
 use Rattle.curator.specs.Arguments.{AddCall, addOf}
 
 -- what an add brings
@@ -33,6 +36,10 @@ adding document vector lengths bytes = addOf document (now vector) (now lengths)
 abbrev pub withSquares : Check → Float → VectorCheck
 withSquares Check′.Fine squares = VectorCheck′.Squares squares
 withSquares (Check′.Refused r) squares = VectorCheck′.Refused r
+
+-- rows 4 and 3, by the lengths of the lists
+abbrev pub lentRows : CuratorIndex → Lengths → List Row
+lentRows index lent = stateRow (stateSound index) ∷ row (storeShort (indexShape index) lent) (Refusal′.Store StoreRefusal′.ListTooShort) ∷ []
 
 -- rows 4, 3 and 5, by the lengths of the lists: those that add and take back have first
 abbrev pub earlyRows : CuratorIndex → Lengths → List Row
@@ -57,12 +64,18 @@ pub record AddRoom (index : CuratorIndex) (store : Store) (call : AddCall) : Typ
   pub entries : index .counts .entries + length (call .names) ≤ index .capacities .entries
   pub text : index .counts .bytes + length (bytesOfNames (call .names)) ≤ index .capacities .text
 
--- what the writing of starts and lengths relies on
+-- what the writing of starts, lengths and the live mark relies on
 pub record LabelsRoom (s : Shape) (held : Counts) (numbers lengths : List ℕ) : Type 0 where
   pub limits : Limits s
   pub long : numbersSize s ≤ length numbers
+  pub vectors : held .vectors < s .vectors
   pub entries : held .entries + length lengths / 2 ≤ s .entries
   pub text : held .bytes + total lengths ≤ s .text
+
+-- `withdraw_marks` writes the marks of vectors, by their document ids, and tells whether one has the id
+pub record MarksWritten (document at count : ℕ) (numbers : List ℕ) (held : Bool) (numbers′ : List ℕ) : Type 0 where
+  pub held-is : held ≡ isIn document (part 0 count numbers)
+  pub numbers-are : numbers′ ≡ sets numbers at (marksWithdrawn document (part 0 count numbers) (part at count numbers))
 
 -- the list with what is stored of a vector at a place
 pub record VectorAt (before : List Float) (place : ℕ) (vector : List Float) (after : List Float) : Type 0 where

@@ -16,6 +16,7 @@ pub mod AddLaws
 pub mod HeldLaws
 pub mod Parted
 pub mod TakeBackLaws
+pub mod WithdrawLaws
 pub mod SearchHeldLaws
 pub mod BeamLaws
 pub mod Trials

@@ -14,23 +14,27 @@ use Rattle.settings.specs.declared.refusal.Refusal.{Refusal}
 use Rattle.settings.specs.declared.refusal.Refusal.the-variants.{Settings, State, Input, Store}
 use Rattle.settings.specs.declared.refusal.SettingsRefusal.the-variants.{InvalidDimension, InvalidConfig}
 use Rattle.settings.specs.declared.refusal.StateRefusal.the-variants.{InvalidState, AlreadyBuilt, NotBuilt, EmptyIndex, NoVectorHeld}
-use Rattle.settings.specs.declared.refusal.InputRefusal.the-variants.{DimensionMismatch, NonFiniteInput, LabelLengths, AnswerTooShort, BadRecord, SettingsOrder, FileTooLong}
+use Rattle.settings.specs.declared.refusal.InputRefusal.the-variants.{DimensionMismatch, NonFiniteInput, LabelLengths, AnswerTooShort, BadRecord, SettingsOrder, FileTooLong, UnknownDocument}
 use Rattle.settings.specs.declared.refusal.StoreRefusal.the-variants.{ListTooShort, VectorsFull, EntriesFull, NodesFull, Damaged, TextFull}
 use Rattle.curator.specs.Outcome.{changedNumber, changedValues, foundNumber, foundValues, Succeeded, ChangeRefused, SearchFound, SearchRefused}
 use Rattle.settings.specs.Refusals.{number}
 
 -- ---- the number tells the refusals apart
 
+-- in the place of a number that no refusal has
+abbrev noRefusal : Refusal
+noRefusal = Settings InvalidDimension
+
 -- the refusal with a number
 refusals : List Refusal
 refusals =
-    Settings InvalidDimension ∷ Settings InvalidDimension ∷ Settings InvalidConfig ∷ Store ListTooShort ∷ State InvalidState ∷ State AlreadyBuilt
+    noRefusal ∷ Settings InvalidDimension ∷ Settings InvalidConfig ∷ Store ListTooShort ∷ State InvalidState ∷ State AlreadyBuilt
     ∷ State NotBuilt ∷ Input DimensionMismatch ∷ Input NonFiniteInput ∷ Input LabelLengths ∷ Store VectorsFull ∷ Store EntriesFull
     ∷ State EmptyIndex ∷ Store NodesFull ∷ Input AnswerTooShort ∷ Store Damaged ∷ Input BadRecord ∷ Input SettingsOrder ∷ Input FileTooLong
-    ∷ State NoVectorHeld ∷ Store TextFull ∷ []
+    ∷ State NoVectorHeld ∷ Store TextFull ∷ noRefusal ∷ noRefusal ∷ noRefusal ∷ Input UnknownDocument ∷ []
 
 refusalOf : ℕ → Refusal
-refusalOf n = getD refusals n (Settings InvalidDimension)
+refusalOf n = getD refusals n noRefusal
 
 refusal-of : (r : Refusal) → refusalOf (number r) ≡ r
 unfolding refusalOf refusals
@@ -48,6 +52,7 @@ refusal-of (Input AnswerTooShort) = refl
 refusal-of (Input BadRecord) = refl
 refusal-of (Input SettingsOrder) = refl
 refusal-of (Input FileTooLong) = refl
+refusal-of (Input UnknownDocument) = refl
 refusal-of (Store ListTooShort) = refl
 refusal-of (Store VectorsFull) = refl
 refusal-of (Store EntriesFull) = refl

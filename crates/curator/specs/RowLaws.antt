@@ -25,7 +25,7 @@ use Rattle.settings.specs.declared.refusal.Refusal.{Refusal}
 use Rattle.settings.specs.declared.refusal.Refusal.the-variants.{Settings, State, Input, Store as StoreR}
 use Rattle.settings.specs.declared.refusal.SettingsRefusal.the-variants.{InvalidDimension, InvalidConfig}
 use Rattle.settings.specs.declared.refusal.StateRefusal.the-variants.{InvalidState, AlreadyBuilt, NotBuilt, EmptyIndex, NoVectorHeld}
-use Rattle.settings.specs.declared.refusal.InputRefusal.the-variants.{DimensionMismatch, NonFiniteInput, LabelLengths, AnswerTooShort, BadRecord, SettingsOrder, FileTooLong}
+use Rattle.settings.specs.declared.refusal.InputRefusal.the-variants.{DimensionMismatch, NonFiniteInput, LabelLengths, AnswerTooShort, BadRecord, SettingsOrder, FileTooLong, UnknownDocument}
 use Rattle.settings.specs.declared.refusal.StoreRefusal.the-variants.{ListTooShort, VectorsFull, EntriesFull, NodesFull, Damaged, TextFull}
 use Rattle.curator.specs.Outcome.{changedNumber}
 use Rattle.settings.specs.Refusals.{number, checkNumber}
@@ -178,6 +178,7 @@ number-positive (Input AnswerTooShort) = omega arith
 number-positive (Input BadRecord) = omega arith
 number-positive (Input SettingsOrder) = omega arith
 number-positive (Input FileTooLong) = omega arith
+number-positive (Input UnknownDocument) = omega arith
 number-positive (StoreR ListTooShort) = omega arith
 number-positive (StoreR VectorsFull) = omega arith
 number-positive (StoreR EntriesFull) = omega arith

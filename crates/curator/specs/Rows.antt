@@ -18,7 +18,7 @@ use Rattle.settings.specs.declared.refusal.Refusal.{Refusal}
 use Rattle.settings.specs.declared.refusal.Refusal.the-variants.{Settings, State, Input, Store}
 use Rattle.settings.specs.declared.refusal.SettingsRefusal.the-variants.{InvalidDimension, InvalidConfig}
 use Rattle.settings.specs.declared.refusal.StateRefusal.the-variants.{InvalidState, AlreadyBuilt, NotBuilt, EmptyIndex, NoVectorHeld}
-use Rattle.settings.specs.declared.refusal.InputRefusal.the-variants.{DimensionMismatch, NonFiniteInput, LabelLengths, AnswerTooShort}
+use Rattle.settings.specs.declared.refusal.InputRefusal.the-variants.{DimensionMismatch, NonFiniteInput, LabelLengths, AnswerTooShort, UnknownDocument}
 use Rattle.settings.specs.declared.refusal.StoreRefusal.the-variants.{ListTooShort, VectorsFull, EntriesFull, NodesFull, Damaged, TextFull}
 use Rattle.settings.specs.Limits.{dimensionAllowed, paramsAllowed, capacitiesAllowed}
 use Rattle.label.specs.Names.{bytesOfNames}
@@ -79,6 +79,11 @@ addRows f lent call =
 unfoldable pub takeBackRows : Facts → Lengths → List Row
 unfolding storeShort
 takeBackRows f lent = unbuiltRows f lent ++ (row (eqb (f .vectors) 0) (State NoVectorHeld) ∷ [])
+
+-- 02, K10: 'After 4 and 3, an id held by no vector returns 24', after row 4. Whether a vector held has the id is handed in.
+unfoldable pub withdrawRows : Facts → Lengths → Bool → List Row
+unfolding storeShort
+withdrawRows f lent held = row (storeShort (f .shape) lent) (Store ListTooShort) ∷ row (not held) (Input UnknownDocument) ∷ []
 
 -- 'Build 4, 3; a built index then succeeds unchanged; then 12, 15, 13', after row 4. Whether an owner is not below n (15) and whether the defined
 -- tree has more than M nodes (13) are handed in.

@@ -11,8 +11,9 @@ use lib.ListN.{length}
 use Rattle.vector.specs.Normalized.{normalized, normalized-is}
 use Rattle.vector.specs.Vector.{allFinite}
 use Rattle.store.specs.Store.{Store}
-use Rattle.walk.specs.HeldLaws.{SameHeld, same-held}
+use Rattle.walk.specs.HeldLaws.{SameHeld, same-shown, same-live}
 use Rattle.walk.specs.Walk.{State, damaged, going}
+use Rattle.walk.specs.StoreView.{liveIn}
 use Rattle.settings.specs.declared.Check.{Check}
 use Rattle.settings.specs.declared.Check.the-variants.{Fine, Refused}
 use Rattle.curator.specs.declared.CuratorIndex.{CuratorIndex}
@@ -68,15 +69,16 @@ some-node index store work call f =
 -- ---- the law
 
 module _ (index : CuratorIndex) (call : SearchCall) (work other : List ℕ) (a b : SearchEnd) where
-  ended : (state : State) → WalkedTo state index work call a → WalkedTo state index other call b → SameEnd a b
+  ended : (state : State) (test : ℕ → Bool) → WalkedTo state test index work call a → WalkedTo state test index other call b → SameEnd a b
   unfolding WalkedTo
-  ended damaged x y = record { answer = search-refused-is _ _ (x .answer) ∙ sym (search-refused-is _ _ (y .answer)); ids = x .ids ∙ sym (y .ids); distances = x .distances ∙ sym (y .distances) }
-  ended (going p) x y = record { answer = found-is _ _ _ _ (x .answer) ∙ sym (found-is _ _ _ _ (y .answer)); ids = x .ids ∙ sym (y .ids); distances = x .distances ∙ sym (y .distances) }
+  ended damaged test x y = record { answer = search-refused-is _ _ (x .answer) ∙ sym (search-refused-is _ _ (y .answer)); ids = x .ids ∙ sym (y .ids); distances = x .distances ∙ sym (y .distances) }
+  ended (going p) test x y = record { answer = found-is _ _ _ _ (x .answer) ∙ sym (found-is _ _ _ _ (y .answer)); ids = x .ids ∙ sym (y .ids); distances = x .distances ∙ sym (y .distances) }
 
   -- by the walk for the normalised query
-  walked-of : (store : Store) (work : List ℕ) (end : SearchEnd) → SearchWalked index store work call end → WalkedTo (walkOf index store call) index work call end
+  walked-of : (store : Store) (work : List ℕ) (end : SearchEnd) → SearchWalked index store work call end
+      → WalkedTo (walkOf index store call) (liveIn (indexShape index) (index .counts) store) index work call end
   walked-of store work end w =
-      subst (λ (q : List _). WalkedTo (walkFor index store call q) index work call end) (normalized-is (call .question .query) (w .query) (w .normalized)) (w .walked)
+      subst (λ (q : List _). WalkedTo (walkFor index store call q) (liveIn (indexShape index) (index .counts) store) index work call end) (normalized-is (call .question .query) (w .query) (w .normalized)) (w .walked)
 
   pub searches-same : (s t : Store) → listsShort (indexShape index) (lengthsOf s) (length work) ≡ listsShort (indexShape index) (lengthsOf t) (length other)
       → SameHeld (indexShape index) (index .counts) s t → Searches index s work call a → Searches index t other call b → SameEnd a b
@@ -89,8 +91,11 @@ module _ (index : CuratorIndex) (call : SearchCall) (work other : List ℕ) (a b
       by : (c : Check) → searchCheck index s work call ≡ c → SearchesBy c index s work call a → SearchesBy c index t other call b → SameEnd a b
       by Fine f w v =
           let (some, fits) = some-node index s work call f in
-          let walks = same-held (indexShape index) (index .counts) s t same (normalized (call .question .query)) (wantedOf (call .question .asked)) some fits (index .params .«ef_search») in
-          ended (walkOf index s call) (walked-of s work a w)
-          (subst (λ (state : State). WalkedTo state index other call b) (sym walks) (walked-of t other b v))
+          let walks = same-shown (indexShape index) (index .counts) s t (same .nodes-show) (normalized (call .question .query)) (wantedOf (call .question .asked)) some fits (index .params .«ef_search») in
+          let test = liveIn (indexShape index) (index .counts) s in
+          let live = same-live (indexShape index) (index .counts) s t same in
+          ended (walkOf index s call) test (walked-of s work a w)
+          (subst (λ (state : State). WalkedTo state test index other call b) (sym walks)
+          (subst (λ (p : ℕ → Bool). WalkedTo (walkOf index t call) p index other call b) (sym live) (walked-of t other b v)))
       by (Refused r) f u v =
           record { answer = search-refused-is _ _ (u .answer) ∙ sym (search-refused-is _ _ (v .answer)); ids = u .ids ∙ sym (v .ids); distances = u .distances ∙ sym (v .distances) }

@@ -13,7 +13,7 @@ use lib.ListN.{length, getD}
 use Rattle.vector.specs.Normalized.{normalized, normalized-is}
 use Rattle.vector.specs.Vector.{allFinite}
 use Rattle.store.specs.Store.{Store}
-use Rattle.walk.specs.StoreView.{storeView}
+use Rattle.walk.specs.StoreView.{liveIn, storeView}
 use Rattle.walk.specs.Walk.{State, damaged, going, walk}
 use Rattle.settings.specs.declared.Check.{Check}
 use Rattle.settings.specs.declared.Check.the-variants.{Fine, Refused}
@@ -113,7 +113,7 @@ module _ (index : CuratorIndex) (store : Store) (work : List ℕ) (call : Search
       last : Row
       last = damagedRow index store call
 
-      walked : (state : State) → walkOf index store call ≡ state → WalkedTo state index work call end
+      walked : (state : State) → walkOf index store call ≡ state → WalkedTo state (liveIn (indexShape index) (index .counts) store) index work call end
           → foundNumber (end .answer) ≡ checkNumber (firstOf (last ∷ []))
       walked damaged e w = w .answer .number-is ∙ ap checkNumber (sym (row-stops last [] (ap isDamaged e)))
       walked (going p) e w = w .answer .number-is ∙ ap checkNumber (sym (row-passes last [] (ap isDamaged e) ∙ no-rows))

@@ -1,5 +1,6 @@
 -- The result of both searches in full: the answer and every place of the work and answer lists. The store is lent to be read only.
 use Prim.Native.Nat.{ℕ}
+use mathlib.Core.Bool.{Bool}
 use mathlib.Core.List.{List, [], _∷_}
 use mathlib.Core.Path.{_≡_}
 use lib.Ieee.{Float}
@@ -11,7 +12,7 @@ use Rattle.store.specs.Store.{Store, workPart}
 use Rattle.walk.specs.Wanted.{Sought, all-vectors, with-label}
 use Rattle.walk.specs.Walk.{State, damaged, going, walk}
 use Rattle.walk.specs.Answer.{Answer, answer}
-use Rattle.walk.specs.StoreView.{storeView}
+use Rattle.walk.specs.StoreView.{liveIn, storeView}
 use Rattle.curator.specs.declared.CuratorIndex.{CuratorIndex}
 use Rattle.settings.specs.declared.Check.{Check}
 use Rattle.settings.specs.declared.Check.the-variants as Check′
@@ -68,18 +69,20 @@ pub record Answered (index : CuratorIndex) (lent : List ℕ) (call : SearchCall)
   pub ids : end .ids ≡ sets (call .ids) 0 (a .ids)
   pub distances : end .distances ≡ sets (call .distances) 0 (a .distances)
 
-unfoldable pub WalkedTo : State → CuratorIndex → List ℕ → SearchCall → SearchEnd → Type 0
+-- by a test on hits
+unfoldable pub WalkedTo : State → (ℕ → Bool) → CuratorIndex → List ℕ → SearchCall → SearchEnd → Type 0
 unfolding answer
-WalkedTo damaged index work call end = Broken index work call end
-WalkedTo (going p) index work call end = Answered index work call (answer (call .k) p) end
+WalkedTo damaged test index work call end = Broken index work call end
+WalkedTo (going p) test index work call end = Answered index work call (answer test (call .k) p) end
 
--- 'Normalise the query', then the walk over what the store shows
+-- 'Normalise the query', then the walk over what the store shows; 'Every search .. gives only live vectors' (02, K10)
 pub record SearchWalked (index : CuratorIndex) (store : Store) (work : List ℕ) (call : SearchCall) (end : SearchEnd) : Type 0 where
   pub query : List Float
   pub normalized : Normalized (dot (call .question .query) (call .question .query)) (call .question .query) query
   pub walked :
       WalkedTo
       (walk (storeView (indexShape index) (index .counts) store query (wantedOf (call .question .asked))) (index .params .«ef_search»))
+      (liveIn (indexShape index) (index .counts) store)
       index
       work
       call

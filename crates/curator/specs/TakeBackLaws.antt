@@ -15,7 +15,7 @@ use Rattle.lists.specs.Suffix.{countAtEnd, at-end-written, at-end-few}
 use Rattle.lists.specs.Tests.{allPass-Memᴰ}
 use Rattle.store.specs.declared.Counts.{Counts}
 use Rattle.store.specs.declared.Lengths.{Lengths}
-use Rattle.store.specs.Store.{Store, ownersAt, startsAt, lengthsAt, entryStart}
+use Rattle.store.specs.Store.{Store, ownersAt, startsAt, lengthsAt, liveAt, entryStart}
 use Rattle.store.specs.Lent.{lengthsOf, Long, storeShort}
 use Rattle.store.specs.LentLaws.{store-long}
 use Rattle.settings.specs.declared.Check.{Check}
@@ -38,7 +38,7 @@ use Rattle.curator.specs.Changes.{addCheck, Adds, withLabels, Wrote, own
 use Rattle.curator.specs.Lent.{AddRoom}
 use Rattle.curator.specs.RowLaws.{FirstAt, numbersOfRows, different, fine-none, none-fine, returned-exactly, rowsOfAdd, add-check-rows}
 use Rattle.curator.specs.AddLaws.{Accepted, add-facts, adds-accepted}
-use Rattle.curator.specs.HeldLaws.{owned, length-owned, owners-grown, held-kept, wrote-lengths}
+use Rattle.curator.specs.HeldLaws.{owned, labelled, length-owned, owners-grown, held-kept, wrote-lengths}
 use Rattle.curator.specs.StateLaws.{Sound, sound-facts, facts-sound}
 use Rattle.curator.specs.OutcomeLaws.{carried-is, refused-is}
 
@@ -178,6 +178,7 @@ first-start index store call store′ room wrote some =
     let numbers = owned index store call store′ room wrote in
     let many = length-starts (index .counts .bytes) (call .names) in
     ap (λ (l : List ℕ). getD l at 0) (wrote .numbers)
+    ∙ getD-sets-before (labelled index store call store′ room wrote) (liveAt (indexShape index) + index .counts .vectors) (1 ∷ []) at 0 (omega (arith, some, room .entries))
     ∙ getD-sets-before (sets numbers at starts) (lengthsAt (indexShape index) + e) (lengthsOfNames (call .names)) at 0 (omega (arith, some, room .entries))
     ∙ ap (λ (k : ℕ). getD (sets numbers at starts) k 0) (let z : at ≡ at + 0 = omega arith in z)
     ∙ getD-sets-in numbers at starts 0 0 (omega (arith, some, many))

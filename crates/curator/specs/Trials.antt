@@ -1,4 +1,4 @@
--- The definitions on small values: `new` at the limits, an add whose squares overflow, names of an add in two parts, and a taking back.
+-- The definitions on small values: `new` at the limits, an add whose squares overflow, names of an add in two parts, a taking back, and withdrawals.
 use Prim.Native.Nat.{ℕ}
 use mathlib.Core.Bool.{true}
 use mathlib.Core.List.{List, [], _∷_, _++_, map}
@@ -10,13 +10,14 @@ use lib.Seq.{sets}
 use Rattle.label.specs.Names.{namesOf, lengthsFit, partLengths, partBytes}
 use Rattle.vector.specs.Vector.{zero32}
 use Rattle.vector.specs.Normalized.{normalized, normalized-is}
-use Rattle.store.specs.Store.{Store}
+use Rattle.store.specs.Store.{Store, liveMarks}
+use Rattle.curator.specs.Limits.{indexShape}
 use Rattle.settings.specs.declared.Check.the-variants.{Fine}
 use Rattle.curator.specs.declared.CuratorIndex.{CuratorIndex}
 use Rattle.curator.specs.declared.Changed.{Changed}
 use Rattle.curator.specs.Arguments.{AddCall, addOf}
 use Rattle.curator.specs.Calls.{lastEntries, bytesLeft, fresh}
-use Rattle.curator.specs.Changes.{created, addCheck, AddsBy, Adds, takeBackCheck}
+use Rattle.curator.specs.Changes.{created, addCheck, AddsBy, Adds, takeBackCheck, withdrawCheck, withdrawnFrom}
 use Rattle.settings.specs.Limits.{usual}
 use Rattle.settings.specs.Refusals.{checkNumber}
 use Rattle.curator.specs.Outcome.{changedNumber}
@@ -44,7 +45,7 @@ trialIndex = fresh 2 (record { «branching_factor» = 1; «max_leaf_size» = 1; 
 
 trialStore : Store
 unfolding zero32
-trialStore = record { floats = replicate 6 zero32; numbers = replicate 9 0; hashes = replicate 4 0; text = [] }
+trialStore = record { floats = replicate 6 zero32; numbers = replicate 10 0; hashes = replicate 4 0; text = [] }
 
 -- the echo of these two patterns under document id 7, without labels
 trialAdd : ℕ → ℕ → AddCall
@@ -82,13 +83,13 @@ heldIndex vectors entries nodes bytes =
       built = eqb nodes 1;
     }
 
--- its store, with these owners after three document ids, and the entries' starts 0, 1, 3 and 4
+-- its store, with these owners after three document ids, the entries' starts 0, 1, 3 and 4, and the live marks 5, 6 and 7
 heldStore : List ℕ → Store
 unfolding zero32
 heldStore owners =
     record {
       floats = replicate 5 zero32;
-      numbers = 7 ∷ 8 ∷ 9 ∷ (owners ++ (replicate 14 0 ++ (0 ∷ 1 ∷ 3 ∷ 4 ∷ replicate 4 1)));
+      numbers = 7 ∷ 8 ∷ 9 ∷ (owners ++ (replicate 14 0 ++ (0 ∷ 1 ∷ 3 ∷ 4 ∷ (replicate 4 1 ++ (5 ∷ 6 ∷ 7 ∷ [])))));
       hashes = replicate 8 0;
       text = replicate 5 97;
     }
@@ -159,3 +160,34 @@ trial-take-back-check :
     × (checkNumber (takeBackCheck (heldIndex 1 0 0 3) (heldStore (0 ∷ 0 ∷ 0 ∷ 0 ∷ []))) ≡ 0)
 unfolding takeBackCheck heldIndex heldStore
 trial-take-back-check = (refl, refl, refl, refl, refl)
+
+-- ---- withdrawing
+
+-- 02, K10: 4, 3, 24: more vectors held than there is room for; a short list, though nobody has the id; an id of no vector, and one of a vector that is not held;
+-- an id that is held, in an index that is built and in one that is not
+trial-withdraw-check :
+    (checkNumber (withdrawCheck (heldIndex 4 0 0 3) (heldStore []) 7) ≡ 4) × (checkNumber (withdrawCheck (heldIndex 2 0 0 3) (heldStore []) 6) ≡ 3)
+    × (checkNumber (withdrawCheck (heldIndex 2 0 0 3) (heldStore (0 ∷ 0 ∷ 0 ∷ 0 ∷ [])) 6) ≡ 24)
+    × (checkNumber (withdrawCheck (heldIndex 2 0 0 3) (heldStore (0 ∷ 0 ∷ 0 ∷ 0 ∷ [])) 9) ≡ 24)
+    × (checkNumber (withdrawCheck (heldIndex 2 0 0 3) (heldStore (0 ∷ 0 ∷ 0 ∷ 0 ∷ [])) 8) ≡ 0)
+    × (checkNumber (withdrawCheck (heldIndex 2 0 1 3) (heldStore (0 ∷ 0 ∷ 0 ∷ 0 ∷ [])) 8) ≡ 0)
+unfolding withdrawCheck heldIndex heldStore
+trial-withdraw-check = (refl, refl, refl, refl, refl, refl)
+
+-- the store with the document ids 8, 7 and 8
+repeated : Store
+unfolding heldStore
+repeated =
+    record {
+      floats = heldStore (0 ∷ 0 ∷ 0 ∷ 0 ∷ []) .floats;
+      numbers = sets (heldStore (0 ∷ 0 ∷ 0 ∷ 0 ∷ []) .numbers) 0 (8 ∷ 7 ∷ 8 ∷ []);
+      hashes = heldStore (0 ∷ 0 ∷ 0 ∷ 0 ∷ []) .hashes;
+      text = heldStore (0 ∷ 0 ∷ 0 ∷ 0 ∷ []) .text;
+    }
+
+-- 'writes 0 on every vector with that id': with three vectors held on two, with two on one, and the mark past them stays
+trial-withdrawn :
+    (liveMarks (indexShape (heldIndex 3 0 0 3)) 3 (withdrawnFrom (heldIndex 3 0 0 3) repeated 8 .numbers) ≡ 0 ∷ 6 ∷ 0 ∷ [])
+    × (liveMarks (indexShape (heldIndex 3 0 0 3)) 3 (withdrawnFrom (heldIndex 2 0 0 3) repeated 8 .numbers) ≡ 0 ∷ 6 ∷ 7 ∷ [])
+unfolding withdrawnFrom heldIndex heldStore repeated
+trial-withdrawn = (refl, refl)

@@ -5,7 +5,7 @@ ghost use lib.ListN.{length, set, replicate};
 ghost use lib.Seq.{sets};
 ghost use Rattle.vector.specs.Vector.{dot};
 ghost use Rattle.curator.specs.Calls.{withCounts, countsMore};
-ghost use Rattle.curator.specs.Changes.{Wrote};
+ghost use Rattle.curator.specs.Changes.{withMark, Wrote};
 ghost use Rattle.curator.specs.Lent.{adding, addChecked, AddRoom, LabelsRoom, VectorAt};
 ghost use Rattle.label.specs.Names.{summedPairs, startsByLengths};
 ghost use Rattle.store.specs.Store.{startsAt, lengthsAt};
@@ -89,11 +89,11 @@ fn write_numbers(numbers: &mut [u32], vector: usize, doc_id: u32, place: usize, 
     write_all(numbers, place, count, owner);
 }
 
-// Writes start and length of each label's text, after those held.
+// Writes start and length of each label's text, and the vector's live mark, after those held.
 fn write_labels(numbers: &mut [u32], shape: Shape, held: Counts, lengths: &[u8])
     requires { ⌜ LabelsRoom shape held (now numbers) (now lengths) ⌝ }
-    ensures { λ _. ⌜ now (numbers .exit) ≡ sets (sets (now (numbers .entry)) (startsAt shape + held .entries) (startsByLengths (held .bytes) (summedPairs (now (lengths .entry)))))
-        (lengthsAt shape + held .entries) (summedPairs (now (lengths .entry))) ⌝ }
+    ensures { λ _. ⌜ now (numbers .exit) ≡ withMark shape (held .vectors) (sets (sets (now (numbers .entry)) (startsAt shape + held .entries) (startsByLengths (held .bytes) (summedPairs (now (lengths .entry)))))
+        (lengthsAt shape + held .entries) (summedPairs (now (lengths .entry)))) ⌝ }
 {
     label::names::write_places(
         numbers,
@@ -102,6 +102,8 @@ fn write_labels(numbers: &mut [u32], shape: Shape, held: Counts, lengths: &[u8])
         held.bytes,
         lengths,
     );
+    let mark_at = shape.live_at() + held.vectors;
+    numbers[mark_at] = 1;
 }
 
 // Writes what an accepted add writes, after what is held; `squares` is the sum of the vector's squares. The vector comes last: nothing else waits for the

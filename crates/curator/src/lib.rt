@@ -1,5 +1,5 @@
 // The index: settings, state, refusals and the entry points.
-ghost use Rattle.curator.specs.Changes.{Creates, Adds, TakesBack};
+ghost use Rattle.curator.specs.Changes.{Creates, Adds, TakesBack, Withdraws};
 ghost use Rattle.curator.specs.Lent.{adding};
 ghost use Rattle.curator.specs.Calls.{withCounts};
 ghost use Rattle.store.specs.Lent.{lent};
@@ -9,10 +9,12 @@ mod add;
 mod check;
 pub mod limits;
 mod take_back;
+mod withdraw;
 
 use settings::Capacities;
 use settings::Check;
 use settings::CuratorParams;
+use settings::refusal::InputRefusal;
 use settings::refusal::Refusal;
 use settings::refusal::SettingsRefusal;
 use store::Counts;
@@ -27,7 +29,7 @@ pub struct CuratorIndex {
     pub built: bool,
 }
 
-// What `new`, `add`, `take_back` and `build` answer: the index from now on, or why not.
+// What `new`, `add`, `take_back`, `withdraw` and `build` answer: the index from now on, or why not.
 pub enum Changed {
     Index(CuratorIndex),
     Refused(Refusal),
@@ -157,5 +159,34 @@ impl CuratorIndex {
                 Changed::Index(take_back::shrunk(self, entries, bytes))
             }
         }
+    }
+
+    // Withdraws a document id: every vector held that has it is no longer live. The state stays, built or not.
+    pub fn withdraw(
+        self,
+        floats: &[f32],
+        numbers: &mut [u32],
+        hashes: &[u64],
+        text: &[u8],
+        doc_id: u32,
+    ) -> Changed
+        ensures { λ r. ⌜ Withdraws self (lent (floats .entry) (numbers .entry) (hashes .entry) (text .entry)) «doc_id»
+            r
+            (lent (floats .entry) (numbers .exit) (hashes .entry) (text .entry)) ⌝ }
+    {
+        let lent = Lengths {
+            floats: floats.len(),
+            numbers: numbers.len(),
+            hashes: hashes.len(),
+            text: text.len(),
+        };
+        if let Check::Refused(refusal) = check::lent_check(self, lent) {
+            return Changed::Refused(refusal);
+        }
+        let live_at = limits::shape_of(self).live_at();
+        if withdraw::withdraw_marks(numbers, live_at, self.counts.vectors, doc_id) {
+            return Changed::Index(self);
+        }
+        Changed::Refused(Refusal::Input(InputRefusal::UnknownDocument))
     }
 }

@@ -13,15 +13,15 @@ use Rattle.curator.specs.declared.CuratorIndex.{CuratorIndex}
 use Rattle.curator.specs.declared.Found.{Found}
 use Rattle.curator.specs.declared.Found.the-variants as Found′
 use Rattle.settings.specs.declared.refusal.Refusal.{Refusal}
-use Rattle.curator.specs.Outcome.{foundNumber, foundValues}
+use Rattle.curator.specs.Outcome.{changedNumber, foundNumber, foundValues}
 use Rattle.settings.specs.Refusals.{number}
-use Rattle.curator.specs.Changes.{Adds, TakesBack, Builds}
+use Rattle.curator.specs.Changes.{Adds, TakesBack, Withdraws, Builds}
 use Rattle.curator.specs.Arguments.{AddCall, SearchCall}
 use Rattle.curator.specs.Searches.{SearchEnd, Searches}
 use Rattle.curator_c.specs.declared.state.StateRead.{StateRead}
 use Rattle.curator_c.specs.declared.state.StateRead.the-variants.{State, Nothing}
 use Rattle.curator_c.specs.State.{places, stateList, stateIn}
-use Rattle.curator_c.specs.Results.{invalid, storable, Returns, ChangeResult, AddsIn, AddResult, TakesBackIn, TakeBackResult, BuildsIn, BuildResult, hitsAsked, withHits, asking, ended, SearchesIn, SearchResult}
+use Rattle.curator_c.specs.Results.{invalid, storable, Returns, ChangeResult, AddsIn, AddResult, TakesBackIn, TakeBackResult, WithdrawsIn, WithdrawResult, BuildsIn, BuildResult, hitsAsked, withHits, asking, ended, SearchesIn, SearchResult}
 use Rattle.curator_c.specs.ResultLaws.{storable-held}
 use Rattle.curator.specs.OutcomeLaws.{is-refused, is-search-refused}
 
@@ -86,6 +86,21 @@ pub take-back-held : (list : List ℕ) (index : CuratorIndex) (store : Store) (a
 unfolding TakesBackIn
 take-back-held list index store answer n list′ e takes returns =
     held-changed (λ held a. TakesBackIn held store a) list index answer n list′ e takes returns
+
+pub withdraw-nothing : (list : List ℕ) (store : Store) (document : ℕ) → stateIn list ≡ Nothing → WithdrawResult list store document 4 store
+unfolding WithdrawsIn
+withdraw-nothing list store document e =
+    record {
+      answer = Changed′.Refused invalid;
+      withdraws = subst (λ (held : StateRead). WithdrawsIn held store document (Changed′.Refused invalid) store) (sym e) (is-refused invalid _ refl, refl);
+      number = refl;
+    }
+
+pub withdraw-held : (list : List ℕ) (index : CuratorIndex) (store : Store) (document : ℕ) (answer : Changed) (n : ℕ) (store′ : Store) → stateIn list ≡ State index
+    → Withdraws index store document answer store′ → n ≡ changedNumber answer → WithdrawResult list store document n store′
+unfolding WithdrawsIn
+withdraw-held list index store document answer n store′ e withdraws is =
+    record { answer = answer; withdraws = subst (λ (held : StateRead). WithdrawsIn held store document answer store′) (sym e) withdraws; number = is }
 
 pub build-nothing : (list : List ℕ) (store : Store) (work : List ℕ) → stateIn list ≡ Nothing → BuildResult list store work 4 list store work
 unfolding BuildsIn

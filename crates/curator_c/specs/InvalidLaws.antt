@@ -14,19 +14,19 @@ use Rattle.settings.specs.declared.Check.the-variants as Check′
 use Rattle.curator.specs.declared.CuratorIndex.{CuratorIndex}
 use Rattle.curator.specs.declared.Found.{Found}
 use Rattle.curator.specs.Limits.{stateSound}
-use Rattle.curator.specs.Outcome.{foundNumber, foundValues, ChangeRefused}
-use Rattle.curator.specs.Rows.{stateRow, addRows, takeBackRows, buildRows, searchRows}
+use Rattle.curator.specs.Outcome.{changedNumber, foundNumber, foundValues, ChangeRefused}
+use Rattle.curator.specs.Rows.{stateRow, addRows, takeBackRows, withdrawRows, buildRows, searchRows}
 use Rattle.curator.specs.RowLaws.{row-stops}
 use Rattle.curator.specs.Calls.{factsOf}
 use Rattle.store.specs.Lent.{lengthsOf}
-use Rattle.curator.specs.Changes.{AddsBy, addCheck, Adds, takeBackCheck, TakesBackBy, TakesBack, ownersDamaged, tooManyNodes, BuildsBy, buildCheck, Builds, freeOf}
+use Rattle.curator.specs.Changes.{AddsBy, addCheck, Adds, takeBackCheck, TakesBackBy, TakesBack, holdsDocument, withdrawCheck, WithdrawsBy, Withdraws, ownersDamaged, tooManyNodes, BuildsBy, buildCheck, Builds, freeOf}
 use Rattle.lists.specs.Frame.{Freed}
 use Rattle.curator.specs.Arguments.{AddCall, SearchCall, askingOf}
 use Rattle.curator.specs.Searches.{Untouched, SearchesBy, searchCheck, Searches}
 use Rattle.curator_c.specs.declared.state.StateRead.{StateRead}
 use Rattle.curator_c.specs.declared.state.StateRead.the-variants.{State, Nothing}
 use Rattle.curator_c.specs.State.{stateIn}
-use Rattle.curator_c.specs.Results.{invalid, Returns, AddsIn, AddResult, TakesBackIn, TakeBackResult, BuildsIn, BuildResult, asking, ended, SearchesIn, SearchResult}
+use Rattle.curator_c.specs.Results.{invalid, Returns, AddsIn, AddResult, TakesBackIn, TakeBackResult, WithdrawsIn, WithdrawResult, BuildsIn, BuildResult, asking, ended, SearchesIn, SearchResult}
 use Rattle.curator.specs.OutcomeLaws.{search-refused-is, refused-is}
 
 -- whether a list holds a sound state
@@ -44,6 +44,11 @@ add-first index store call u =
 take-back-first : (index : CuratorIndex) (store : Store) → stateSound index ≡ false → takeBackCheck index store ≡ Check′.Refused invalid
 unfolding takeBackCheck
 take-back-first index store u = row-stops (stateRow (stateSound index)) (takeBackRows (factsOf index) (lengthsOf store)) (ap not u)
+
+withdraw-first : (index : CuratorIndex) (store : Store) (document : ℕ) → stateSound index ≡ false → withdrawCheck index store document ≡ Check′.Refused invalid
+unfolding withdrawCheck
+withdraw-first index store document u =
+    row-stops (stateRow (stateSound index)) (withdrawRows (factsOf index) (lengthsOf store) (holdsDocument index store document)) (ap not u)
 
 build-first : (index : CuratorIndex) (store : Store) (work : List ℕ) → stateSound index ≡ false → buildCheck index store work ≡ Check′.Refused invalid
 unfolding buildCheck
@@ -89,6 +94,19 @@ take-back-invalid state store n state′ u result =
     by : (held : StateRead) → soundIn held ≡ false → TakesBackIn held store (result .answer) → ChangeRefused invalid (result .answer)
     by Nothing e takes = takes
     by (State index) e takes = subst (λ (check : Check). TakesBackBy check index store (result .answer)) (take-back-first index store e) takes
+
+pub withdraw-invalid : (state : List ℕ) (store : Store) (document n : ℕ) (store′ : Store) → soundIn (stateIn state) ≡ false
+    → WithdrawResult state store document n store′ → (n ≡ 4) × (store′ ≡ store)
+unfolding soundIn WithdrawsIn Withdraws WithdrawsBy
+withdraw-invalid state store document n store′ u result =
+    let (refused, kept) = by (stateIn state) u (result .withdraws) in
+    (result .number ∙ ap changedNumber (refused-is invalid (result .answer) refused), kept)
+  where
+    by : (held : StateRead) → soundIn held ≡ false → WithdrawsIn held store document (result .answer) store′
+        → ChangeRefused invalid (result .answer) × (store′ ≡ store)
+    by Nothing e withdraws = withdraws
+    by (State index) e withdraws =
+        subst (λ (check : Check). WithdrawsBy check index store document (result .answer) store′) (withdraw-first index store document e) withdraws
 
 same-store : (s t : Store) → s .floats ≡ t .floats → s .numbers ≡ t .numbers → s .hashes ≡ t .hashes → s .text ≡ t .text → s ≡ t
 same-store s t f n h x = λ i. record { floats = f i; numbers = n i; hashes = h i; text = x i }

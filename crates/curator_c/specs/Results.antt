@@ -22,7 +22,7 @@ use Rattle.settings.specs.declared.refusal.StateRefusal.the-variants.{InvalidSt
 use Rattle.settings.specs.declared.refusal.StoreRefusal.the-variants.{ListTooShort}
 use Rattle.settings.specs.Refusals.{number}
 use Rattle.curator.specs.Outcome.{changedNumber, foundNumber, foundValues, ChangeRefused}
-use Rattle.curator.specs.Changes.{Creates, Adds, TakesBack, Builds}
+use Rattle.curator.specs.Changes.{Creates, Adds, TakesBack, Withdraws, Builds}
 use Rattle.curator.specs.Arguments.{AddCall, SearchCall}
 use Rattle.curator.specs.Searches.{SearchEnd, Untouched, Searches}
 use Rattle.curator_c.specs.declared.state.StateRead.{StateRead}
@@ -33,7 +33,7 @@ use Rattle.curator_c.specs.State.{places, stateList, stateIn}
 abbrev pub invalid : Refusal
 invalid = Refusal′.State InvalidState
 
--- ---- new, add, take back and build
+-- ---- new, add, take back, withdraw and build
 
 -- the state list after an answer: the new state in its first places; a refused call leaves it
 abbrev pub stored : List ℕ → Changed → List ℕ
@@ -81,6 +81,18 @@ TakesBackIn (State index) store answer = TakesBack index store answer
 -- the whole result of `curator_take_back`, which is lent the store to be read
 abbrev pub TakeBackResult : List ℕ → Store → ℕ → List ℕ → Type 0
 TakeBackResult state store returned state′ = ChangeResult (λ held answer. TakesBackIn held store answer) state returned state′
+
+-- a withdrawal from the state that a list holds
+unfoldable pub WithdrawsIn : StateRead → Store → ℕ → Changed → Store → Type 0
+unfolding Withdraws
+WithdrawsIn Nothing store document answer store′ = ChangeRefused invalid answer × (store′ ≡ store)
+WithdrawsIn (State index) store document answer store′ = Withdraws index store document answer store′
+
+-- the whole result of `curator_withdraw`, which is lent the state to be read: it stays
+pub record WithdrawResult (state : List ℕ) (store : Store) (document returned : ℕ) (store′ : Store) : Type 0 where
+  pub answer : Changed
+  pub withdraws : WithdrawsIn (stateIn state) store document answer store′
+  pub number : returned ≡ changedNumber answer
 
 -- a build of the state that a list holds
 unfoldable pub BuildsIn : StateRead → Store → List ℕ → Changed → Store → List ℕ → Type 0

@@ -7,11 +7,11 @@ ghost use lib.Seq.{sets};
 ghost use Rattle.curator.specs.Lent.{adding};
 ghost use Rattle.label.specs.Fnv.{fnvFrom};
 ghost use Rattle.store.specs.Lent.{lent};
-ghost use Rattle.curator.specs.Outcome.{foundNumber, foundValues};
+ghost use Rattle.curator.specs.Outcome.{changedNumber, foundNumber, foundValues};
 ghost use Rattle.search.specs.Lent.{filtered, unfiltered};
 ghost use Rattle.settings.specs.Given.{paramsOf, capacitiesOf};
 ghost use Rattle.curator_c.specs.Results.{storable, Returns, hitsAsked};
-ghost use Rattle.curator_c.specs.Results.{NewResult, AddResult, TakeBackResult, BuildResult, SearchResult, PoolResult};
+ghost use Rattle.curator_c.specs.Results.{NewResult, AddResult, TakeBackResult, WithdrawResult, BuildResult, SearchResult, PoolResult};
 
 pub mod state;
 
@@ -131,6 +131,36 @@ pub extern "C" fn curator_take_back(
     match state::state_in(state) {
         StateRead::Nothing => INVALID_STATE,
         StateRead::State(index) => keep(index.take_back(floats, numbers, hashes, text), state),
+    }
+}
+
+// The number of an answer whose state is the one that was lent.
+fn returned(answer: Changed) -> u32
+    ensures { λ r. ⌜ r ≡ changedNumber answer ⌝ }
+{
+    match answer {
+        Changed::Refused(refusal) => refusal.number(),
+        Changed::Index(_) => ANSWERED,
+    }
+}
+
+// Withdraws a document id: no search gives a vector that has it. The state is read only.
+#[no_mangle]
+pub extern "C" fn curator_withdraw(
+    state: &[usize],
+    floats: &[f32],
+    numbers: &mut [u32],
+    hashes: &[u64],
+    text: &[u8],
+    doc_id: u32,
+) -> u32
+    ensures { λ r. ⌜ WithdrawResult (now (state .entry)) (lent (floats .entry) (numbers .entry) (hashes .entry) (text .entry)) «doc_id»
+        r
+        (lent (floats .entry) (numbers .exit) (hashes .entry) (text .entry)) ⌝ }
+{
+    match state::state_in(state) {
+        StateRead::Nothing => INVALID_STATE,
+        StateRead::State(index) => returned(index.withdraw(floats, numbers, hashes, text, doc_id)),
     }
 }
 

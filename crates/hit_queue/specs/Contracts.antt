@@ -133,13 +133,13 @@ pub record TakeHits (heap : List ℕ) (count k : ℕ) (ids : List ℕ) (distance
   pub ids-room : k ≤ length ids
   pub distances-room : k ≤ length distances
 
--- 'the first k stay': their ids and distances are written from the front, and the other places keep what they held; what is left of the queue are the
--- hits behind them, of which those directly behind the last with its id are repeats
-pub record Takes (heap : List ℕ) (count k : ℕ) (ids : List ℕ) (distances : List Float) (r : Taken) (heap′ : List ℕ) (ids′ : List ℕ) (distances′ : List Float) : Type 0 where
-  pub count-is : r .hits ≡ length (take k (rankedQueue count heap))
-  pub ids-are : ids′ ≡ sets ids 0 (map documentOf (take k (rankedQueue count heap)))
-  pub distances-are : distances′ ≡ sets distances 0 (map distanceOf (take k (rankedQueue count heap)))
-  pub rest : rankedQueue count heap ≡ take k (rankedQueue count heap) ++ dropAfter (r .last) (sort (records 3 (r .left) heap′))
+-- 'the first k stay', of those that pass a test: their ids and distances are written from the front, and the other places keep what they held; what is left of the
+-- queue are the hits behind them, of which those directly behind the last document with its id are repeats
+pub record Takes (test : ℕ → Bool) (heap : List ℕ) (count k : ℕ) (ids : List ℕ) (distances : List Float) (r : Taken) (heap′ : List ℕ) (ids′ : List ℕ) (distances′ : List Float) : Type 0 where
+  pub count-is : r .hits ≡ length (take k (keep test (rankedQueue count heap)))
+  pub ids-are : ids′ ≡ sets ids 0 (map documentOf (take k (keep test (rankedQueue count heap))))
+  pub distances-are : distances′ ≡ sets distances 0 (map distanceOf (take k (keep test (rankedQueue count heap))))
+  pub rest : keep test (rankedQueue count heap) ≡ take k (keep test (rankedQueue count heap)) ++ keep test (dropAfter (r .last) (sort (records 3 (r .left) heap′)))
   pub few : r .left ≤ count
   pub queue : Heap (records 3 (r .left) heap′)
 

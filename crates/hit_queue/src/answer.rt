@@ -1,12 +1,14 @@
 // The hits of an answer are taken out of the queue.
+use record_queue::Record;
 use record_queue::pop;
 use total_order::from_key;
 ghost use mathlib.Core.Path.{_≡_};
 ghost use Prim.Native.Nat.{_+_, _<_};
 ghost use lib.ListN.{length};
-ghost use Rattle.record_queue.specs.Records.{records};
+ghost use Rattle.record_queue.specs.Records.{value, records};
+ghost use Rattle.lists.specs.Lists.{keep};
 ghost use Rattle.distance.specs.Distance.{distance};
-ghost use Rattle.walk.specs.Answer.{dropAfter};
+ghost use Rattle.walk.specs.Answer.{isLive, dropAfter};
 ghost use Rattle.hit_queue.specs.Contracts.{TakeHits, Takes, CountRest};
 ghost use Rattle.record_queue.specs.Sorted.{sort};
 
@@ -17,8 +19,20 @@ pub struct Taken {
     pub last: u64,
 }
 
-// Takes the first k hits out of the queue, each document's first of a run, and writes their ids and distances.
+// Whether a hit's vector is live: its mark is not 0, among those of the vectors held.
+fn live(marks: &[u32], hit: Record) -> bool
+    ensures { λ r. ⌜ r ≡ isLive (now (marks .entry)) (value hit) ⌝ }
+{
+    let vector = (hit.rest % 0x1_0000_0000) as usize;
+    if vector < marks.len() {
+        return marks[vector] != 0;
+    }
+    false
+}
+
+// Takes the first k live hits out of the queue, each document's first of a run, and writes their ids and distances.
 pub fn take_hits(
+    marks: &[u32],
     heap: &mut [u32],
     count: usize,
     k: usize,
@@ -26,7 +40,7 @@ pub fn take_hits(
     distances: &mut [f32],
 ) -> Taken
     requires { ⌜ TakeHits (now heap) count k (now ids) (now distances) ⌝ }
-    ensures { λ r. ⌜ Takes (now (heap .entry)) count k (now (ids .entry)) (now (distances .entry)) r (now (heap .exit)) (now (ids .exit)) (now (distances .exit)) ⌝ }
+    ensures { λ r. ⌜ Takes (isLive (now (marks .entry))) (now (heap .entry)) count k (now (ids .entry)) (now (distances .entry)) r (now (heap .exit)) (now (ids .exit)) (now (distances .exit)) ⌝ }
 {
     let mut hits = 0;
     let mut left = count;
@@ -45,19 +59,21 @@ pub fn take_hits(
         left -= 1;
         let document = least.rest / 0x1_0000_0000;
         if document != last {
-            ids[hits] = document as u32;
-            distances[hits] = from_key(least.key);
-            hits += 1;
             last = document;
+            if live(marks, least) {
+                ids[hits] = document as u32;
+                distances[hits] = from_key(least.key);
+                hits += 1;
+            }
         }
     }
     end
 }
 
-// How many hits are left in the queue behind one with a document id, repeats dropped.
-pub fn count_rest(heap: &mut [u32], count: usize, after: u64) -> usize
+// How many live hits are left in the queue behind one with a document id, repeats dropped.
+pub fn count_rest(marks: &[u32], heap: &mut [u32], count: usize, after: u64) -> usize
     requires { ⌜ CountRest (now heap) count ⌝ }
-    ensures { λ r. ⌜ r ≡ length (dropAfter after (sort (records 3 count (now (heap .entry))))) ⌝ }
+    ensures { λ r. ⌜ r ≡ length (keep (isLive (now (marks .entry))) (dropAfter after (sort (records 3 count (now (heap .entry)))))) ⌝ }
 {
     let mut total = 0;
     let mut left = count;
@@ -67,8 +83,10 @@ pub fn count_rest(heap: &mut [u32], count: usize, after: u64) -> usize
         left -= 1;
         let id = least.rest / 0x1_0000_0000;
         if id != last {
-            total += 1;
             last = id;
+            if live(marks, least) {
+                total += 1;
+            }
         }
     }
     total

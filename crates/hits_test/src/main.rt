@@ -56,7 +56,7 @@ fn fill_and_print(ids: &[u32], distances: &[f32], count: usize) {
 fn added(
     index: CuratorIndex,
     floats: &mut [f32; 50],
-    numbers: &mut [u32; 59],
+    numbers: &mut [u32; 63],
     hashes: &mut [u64; 24],
     text: &mut [u8; 4],
     doc_id: u32,
@@ -73,7 +73,7 @@ fn added(
 fn three_built(
     fresh: CuratorIndex,
     floats: &mut [f32; 50],
-    numbers: &mut [u32; 59],
+    numbers: &mut [u32; 63],
     hashes: &mut [u64; 24],
     text: &mut [u8; 4],
     work: &mut [u32; 27],
@@ -88,7 +88,7 @@ fn three_built(
 fn print_nearest(
     built: CuratorIndex,
     floats: &[f32; 50],
-    numbers: &[u32; 59],
+    numbers: &[u32; 63],
     hashes: &[u64; 24],
     text: &[u8; 4],
     work: &mut [u32; 27],
@@ -120,7 +120,7 @@ fn print_nearest(
 
 fn records_of_a_search(fresh: CuratorIndex) {
     let mut floats = [0.0f32; 50];
-    let mut numbers = [0u32; 59];
+    let mut numbers = [0u32; 63];
     let mut hashes = [0u64; 24];
     let mut text = [0u8; 4];
     let mut work = [0u32; 27];

@@ -1,6 +1,6 @@
-// Every refusal of `new`, `add` and `take_back` at its boundary, and what the lists hold after each add. The lists are longer than their sizes and
-// marked beforehand, so that a surplus place that is written shows. A line has the number that is returned, 0 where the call is accepted, and then the
-// counts of vectors, entries and bytes; after an add follow the four lists.
+// Every refusal of `new`, `add`, `take_back` and `withdraw` at its boundary, and what the lists hold after each add and each withdrawal. The lists are longer
+// than their sizes and marked beforehand, so that a surplus place that is written shows. A line has the number that is returned, 0 where the call is accepted,
+// and then the counts of vectors, entries and bytes; after an add or a withdrawal follow the four lists.
 ghost use Prim.Native.Nat.{_≤_};
 use curator::Changed;
 use curator::CuratorIndex;
@@ -65,7 +65,7 @@ fn print_bytes(list: &[u8]) {
     io::write_all(1, b"\n");
 }
 
-fn print_lists(floats: &[f32; 10], numbers: &[u32; 21], hashes: &[u64; 8], text: &[u8; 6]) {
+fn print_lists(floats: &[f32; 10], numbers: &[u32; 23], hashes: &[u64; 8], text: &[u8; 6]) {
     print_floats(floats);
     print_numbers(numbers);
     print_hashes(hashes);
@@ -157,7 +157,7 @@ fn sizes() {
     print_answer(CuratorIndex::new(0, params(0, 128, 256, 4), capacities(0, 0, 0, 4177921)));
 }
 
-// A state with D 2, B 1, V 2, E 2, M 1 and 4 bytes of label text: 8 floats, 19 numbers, 6 hashes.
+// A state with D 2, B 1, V 2, E 2, M 1 and 4 bytes of label text: 8 floats, 21 numbers, 6 hashes.
 fn state(vectors: usize, entries: usize, nodes: usize, bytes: usize, built: bool) -> CuratorIndex {
     CuratorIndex {
         dimension: 2,
@@ -184,10 +184,10 @@ fn try_add(
     lengths: &[u8],
     bytes: &[u8],
 )
-    requires { ⌜ (f ≤ 10) × (n ≤ 21) × (h ≤ 8) × (t ≤ 6) ⌝ }
+    requires { ⌜ (f ≤ 10) × (n ≤ 23) × (h ≤ 8) × (t ≤ 6) ⌝ }
 {
     let mut floats = [9.0f32; 10];
-    let mut numbers = [9u32; 21];
+    let mut numbers = [9u32; 23];
     let mut hashes = [9u64; 8];
     let mut text = [9u8; 6];
     print_answer(index.add(
@@ -204,25 +204,25 @@ fn try_add(
 }
 
 fn states(vector: &[f32]) {
-    try_add(state(3, 0, 0, 0, false), 10, 21, 8, 6, vector, b"", b"");
-    try_add(state(0, 3, 0, 0, false), 10, 21, 8, 6, vector, b"", b"");
-    try_add(state(1, 0, 2, 0, true), 10, 21, 8, 6, vector, b"", b"");
-    try_add(state(0, 0, 1, 0, true), 10, 21, 8, 6, vector, b"", b"");
-    try_add(state(1, 0, 0, 0, true), 10, 21, 8, 6, vector, b"", b"");
-    try_add(state(1, 0, 1, 0, false), 10, 21, 8, 6, vector, b"", b"");
-    try_add(state(0, 0, 0, 5, false), 10, 21, 8, 6, vector, b"", b"");
+    try_add(state(3, 0, 0, 0, false), 10, 23, 8, 6, vector, b"", b"");
+    try_add(state(0, 3, 0, 0, false), 10, 23, 8, 6, vector, b"", b"");
+    try_add(state(1, 0, 2, 0, true), 10, 23, 8, 6, vector, b"", b"");
+    try_add(state(0, 0, 1, 0, true), 10, 23, 8, 6, vector, b"", b"");
+    try_add(state(1, 0, 0, 0, true), 10, 23, 8, 6, vector, b"", b"");
+    try_add(state(1, 0, 1, 0, false), 10, 23, 8, 6, vector, b"", b"");
+    try_add(state(0, 0, 0, 5, false), 10, 23, 8, 6, vector, b"", b"");
     try_add(state(3, 0, 0, 0, false), 0, 0, 0, 0, vector, b"", b"");
 }
 
 fn lists(vector: &[f32]) {
-    try_add(state(0, 0, 0, 0, false), 7, 19, 6, 4, vector, b"", b"");
-    try_add(state(0, 0, 0, 0, false), 8, 18, 6, 4, vector, b"", b"");
-    try_add(state(0, 0, 0, 0, false), 8, 19, 5, 4, vector, b"", b"");
-    try_add(state(0, 0, 0, 0, false), 8, 19, 6, 3, vector, b"", b"");
-    try_add(state(0, 0, 0, 0, false), 8, 19, 6, 4, vector, b"", b"");
-    try_add(state(1, 0, 1, 0, true), 8, 19, 5, 4, vector, b"", b"");
-    try_add(state(1, 0, 1, 0, true), 8, 19, 6, 3, vector, b"", b"");
-    try_add(state(1, 0, 1, 0, true), 8, 19, 6, 4, &[3.0f32], b"", b"");
+    try_add(state(0, 0, 0, 0, false), 7, 21, 6, 4, vector, b"", b"");
+    try_add(state(0, 0, 0, 0, false), 8, 20, 6, 4, vector, b"", b"");
+    try_add(state(0, 0, 0, 0, false), 8, 21, 5, 4, vector, b"", b"");
+    try_add(state(0, 0, 0, 0, false), 8, 21, 6, 3, vector, b"", b"");
+    try_add(state(0, 0, 0, 0, false), 8, 21, 6, 4, vector, b"", b"");
+    try_add(state(1, 0, 1, 0, true), 8, 21, 5, 4, vector, b"", b"");
+    try_add(state(1, 0, 1, 0, true), 8, 21, 6, 3, vector, b"", b"");
+    try_add(state(1, 0, 1, 0, true), 8, 21, 6, 4, &[3.0f32], b"", b"");
 }
 
 fn vectors() {
@@ -230,11 +230,11 @@ fn vectors() {
     let greatest = 3.4028235e38f32;
     let infinity = greatest * 2.0;
     let nan = infinity - infinity;
-    try_add(state(0, 0, 0, 0, false), 10, 21, 8, 6, &[3.0f32], b"", b"");
+    try_add(state(0, 0, 0, 0, false), 10, 23, 8, 6, &[3.0f32], b"", b"");
     try_add(
         state(0, 0, 0, 0, false),
         10,
-        21,
+        23,
         8,
         6,
         &[nan, nan, nan],
@@ -244,7 +244,7 @@ fn vectors() {
     try_add(
         state(0, 0, 0, 0, false),
         10,
-        21,
+        23,
         8,
         6,
         &[greatest, 0.0],
@@ -254,7 +254,7 @@ fn vectors() {
     try_add(
         state(0, 0, 0, 0, false),
         10,
-        21,
+        23,
         8,
         6,
         &[1e30, -1e30],
@@ -264,7 +264,7 @@ fn vectors() {
     try_add(
         state(0, 0, 0, 0, false),
         10,
-        21,
+        23,
         8,
         6,
         &[0.0, least],
@@ -274,7 +274,7 @@ fn vectors() {
     try_add(
         state(0, 0, 0, 0, false),
         10,
-        21,
+        23,
         8,
         6,
         &[infinity, 0.0],
@@ -284,7 +284,7 @@ fn vectors() {
     try_add(
         state(0, 0, 0, 0, false),
         10,
-        21,
+        23,
         8,
         6,
         &[0.0, -infinity],
@@ -294,7 +294,7 @@ fn vectors() {
     try_add(
         state(0, 0, 0, 0, false),
         10,
-        21,
+        23,
         8,
         6,
         &[0.0, nan],
@@ -308,18 +308,18 @@ fn labels(vector: &[f32]) {
     try_add(
         state(0, 0, 0, 0, false),
         10,
-        21,
+        23,
         8,
         6,
         vector,
         b"\x01",
         b"a",
     );
-    try_add(state(0, 0, 0, 0, false), 10, 21, 8, 6, vector, b"\x00", b"");
+    try_add(state(0, 0, 0, 0, false), 10, 23, 8, 6, vector, b"\x00", b"");
     try_add(
         state(0, 0, 0, 0, false),
         10,
-        21,
+        23,
         8,
         6,
         vector,
@@ -329,7 +329,7 @@ fn labels(vector: &[f32]) {
     try_add(
         state(0, 0, 0, 0, false),
         10,
-        21,
+        23,
         8,
         6,
         vector,
@@ -339,7 +339,7 @@ fn labels(vector: &[f32]) {
     try_add(
         state(0, 0, 0, 0, false),
         10,
-        21,
+        23,
         8,
         6,
         vector,
@@ -349,7 +349,7 @@ fn labels(vector: &[f32]) {
     try_add(
         state(0, 0, 0, 0, false),
         10,
-        21,
+        23,
         8,
         6,
         vector,
@@ -359,7 +359,7 @@ fn labels(vector: &[f32]) {
     try_add(
         state(0, 0, 0, 0, false),
         10,
-        21,
+        23,
         8,
         6,
         vector,
@@ -369,7 +369,7 @@ fn labels(vector: &[f32]) {
     try_add(
         state(0, 0, 0, 0, false),
         10,
-        21,
+        23,
         8,
         6,
         vector,
@@ -379,7 +379,7 @@ fn labels(vector: &[f32]) {
     try_add(
         state(0, 0, 0, 0, false),
         10,
-        21,
+        23,
         8,
         6,
         vector,
@@ -389,18 +389,18 @@ fn labels(vector: &[f32]) {
     try_add(
         state(0, 0, 0, 0, false),
         10,
-        21,
+        23,
         8,
         6,
         vector,
         b"\x01\x01\x00",
         b"ab",
     );
-    try_add(state(2, 0, 0, 0, false), 10, 21, 8, 6, vector, b"", b"a");
+    try_add(state(2, 0, 0, 0, false), 10, 23, 8, 6, vector, b"", b"a");
     try_add(
         state(2, 0, 0, 0, false),
         10,
-        21,
+        23,
         8,
         6,
         vector,
@@ -410,23 +410,23 @@ fn labels(vector: &[f32]) {
 }
 
 fn room(vector: &[f32]) {
-    try_add(state(1, 0, 0, 0, false), 10, 21, 8, 6, vector, b"", b"");
-    try_add(state(2, 0, 0, 0, false), 10, 21, 8, 6, vector, b"", b"");
+    try_add(state(1, 0, 0, 0, false), 10, 23, 8, 6, vector, b"", b"");
+    try_add(state(2, 0, 0, 0, false), 10, 23, 8, 6, vector, b"", b"");
     try_add(
         state(2, 2, 0, 0, false),
         10,
-        21,
+        23,
         8,
         6,
         vector,
         b"\x01\x00",
         b"a",
     );
-    try_add(state(1, 2, 0, 0, false), 10, 21, 8, 6, vector, b"", b"");
+    try_add(state(1, 2, 0, 0, false), 10, 23, 8, 6, vector, b"", b"");
     try_add(
         state(1, 1, 0, 0, false),
         10,
-        21,
+        23,
         8,
         6,
         vector,
@@ -436,7 +436,7 @@ fn room(vector: &[f32]) {
     try_add(
         state(1, 1, 0, 0, false),
         10,
-        21,
+        23,
         8,
         6,
         vector,
@@ -444,7 +444,7 @@ fn room(vector: &[f32]) {
         b"ab",
     );
     let three = b"\x00\x00\x00\x00\x00\x00";
-    try_add(state(0, 0, 0, 0, false), 10, 21, 8, 6, vector, three, b"");
+    try_add(state(0, 0, 0, 0, false), 10, 23, 8, 6, vector, three, b"");
 }
 
 // An add with these labels to a state with so many counts, with all of the lists.
@@ -453,7 +453,7 @@ fn try_text(vectors: usize, entries: usize, held: usize, lengths: &[u8], bytes: 
     try_add(
         state(vectors, entries, 0, held, false),
         10,
-        21,
+        23,
         8,
         6,
         &vector,
@@ -495,10 +495,10 @@ fn owned_by(owner: u32, next_owner: u32) -> Entries {
 
 // A taking back from lists of the lengths given, with these two entries.
 fn try_take_back(index: CuratorIndex, f: usize, n: usize, h: usize, t: usize, entries: Entries)
-    requires { ⌜ (f ≤ 10) × (n ≤ 21) × (h ≤ 8) × (t ≤ 6) ⌝ }
+    requires { ⌜ (f ≤ 10) × (n ≤ 23) × (h ≤ 8) × (t ≤ 6) ⌝ }
 {
     let floats = [9.0f32; 10];
-    let mut numbers = [9u32; 21];
+    let mut numbers = [9u32; 23];
     let hashes = [9u64; 8];
     let text = [9u8; 6];
     numbers[2] = entries.owner;
@@ -511,20 +511,20 @@ fn try_take_back(index: CuratorIndex, f: usize, n: usize, h: usize, t: usize, en
 fn back_refused() {
     let entries = owned_by(0, 0);
     try_take_back(state(3, 0, 0, 0, false), 0, 0, 0, 0, entries);
-    try_take_back(state(0, 0, 1, 0, false), 10, 21, 8, 6, entries);
-    try_take_back(state(0, 0, 0, 5, false), 10, 21, 8, 6, entries);
-    try_take_back(state(1, 0, 1, 0, true), 7, 19, 6, 4, entries);
-    try_take_back(state(1, 0, 0, 0, false), 8, 18, 6, 4, entries);
-    try_take_back(state(0, 0, 0, 0, false), 8, 19, 5, 4, entries);
-    try_take_back(state(0, 0, 0, 0, false), 8, 19, 6, 3, entries);
-    try_take_back(state(1, 0, 1, 0, true), 8, 19, 6, 4, entries);
-    try_take_back(state(0, 0, 0, 0, false), 8, 19, 6, 4, entries);
-    try_take_back(state(0, 2, 0, 0, false), 8, 19, 6, 4, entries);
+    try_take_back(state(0, 0, 1, 0, false), 10, 23, 8, 6, entries);
+    try_take_back(state(0, 0, 0, 5, false), 10, 23, 8, 6, entries);
+    try_take_back(state(1, 0, 1, 0, true), 7, 21, 6, 4, entries);
+    try_take_back(state(1, 0, 0, 0, false), 8, 20, 6, 4, entries);
+    try_take_back(state(0, 0, 0, 0, false), 8, 21, 5, 4, entries);
+    try_take_back(state(0, 0, 0, 0, false), 8, 21, 6, 3, entries);
+    try_take_back(state(1, 0, 1, 0, true), 8, 21, 6, 4, entries);
+    try_take_back(state(0, 0, 0, 0, false), 8, 21, 6, 4, entries);
+    try_take_back(state(0, 2, 0, 0, false), 8, 21, 6, 4, entries);
 }
 
 // A taking back from a state with so many vectors, entries and bytes.
 fn back_from(vectors: usize, entries: usize, held: usize, stored: Entries) {
-    try_take_back(state(vectors, entries, 0, held, false), 8, 19, 6, 4, stored);
+    try_take_back(state(vectors, entries, 0, held, false), 8, 21, 6, 4, stored);
 }
 
 fn back_accepted() {
@@ -564,6 +564,91 @@ fn back_bytes() {
     back_to(0, 0, 0, 3);
 }
 
+// The document ids of two vectors, and their live marks.
+struct Documents {
+    id: u32,
+    next_id: u32,
+    mark: u32,
+    next_mark: u32,
+}
+
+fn of_ids(id: u32, next_id: u32, mark: u32, next_mark: u32) -> Documents {
+    Documents {
+        id,
+        next_id,
+        mark,
+        next_mark,
+    }
+}
+
+// A withdrawal of document 77 from lists of the lengths given, with these two vectors.
+fn try_withdraw(index: CuratorIndex, f: usize, n: usize, h: usize, t: usize, stored: Documents)
+    requires { ⌜ (f ≤ 10) × (n ≤ 23) × (h ≤ 8) × (t ≤ 6) ⌝ }
+{
+    let floats = [9.0f32; 10];
+    let mut numbers = [9u32; 23];
+    let hashes = [9u64; 8];
+    let text = [9u8; 6];
+    numbers[0] = stored.id;
+    numbers[1] = stored.next_id;
+    numbers[19] = stored.mark;
+    numbers[20] = stored.next_mark;
+    print_answer(index.withdraw(
+        &floats[..f],
+        &mut numbers[..n],
+        &hashes[..h],
+        &text[..t],
+        77,
+    ));
+    print_lists(&floats, &numbers, &hashes, &text);
+}
+
+// Rows 4 and 3 before 24, whether a vector has the id or not; built or not makes no difference.
+fn withdraw_refused() {
+    let both = of_ids(77, 77, 1, 1);
+    let none = of_ids(76, 78, 1, 1);
+    try_withdraw(state(3, 0, 0, 0, false), 0, 0, 0, 0, both);
+    try_withdraw(state(3, 0, 0, 0, false), 10, 23, 8, 6, none);
+    try_withdraw(state(0, 0, 1, 0, false), 10, 23, 8, 6, both);
+    try_withdraw(state(2, 0, 0, 0, true), 10, 23, 8, 6, both);
+    try_withdraw(state(2, 0, 0, 5, false), 10, 23, 8, 6, both);
+    try_withdraw(state(2, 0, 0, 0, false), 7, 21, 6, 4, both);
+    try_withdraw(state(2, 0, 1, 0, true), 8, 20, 6, 4, both);
+    try_withdraw(state(2, 0, 0, 0, false), 8, 21, 5, 4, none);
+    try_withdraw(state(0, 0, 0, 0, false), 8, 21, 6, 3, none);
+    try_withdraw(state(0, 0, 0, 0, false), 8, 21, 6, 4, both);
+    try_withdraw(state(2, 0, 0, 0, false), 8, 21, 6, 4, none);
+    try_withdraw(state(2, 0, 1, 0, true), 10, 23, 8, 6, none);
+    try_withdraw(state(1, 0, 0, 0, false), 10, 23, 8, 6, of_ids(76, 77, 1, 1));
+}
+
+// One vector or both, held or not, with marks of any number; 0 stays.
+fn withdraw_accepted() {
+    try_withdraw(state(2, 0, 0, 0, false), 8, 21, 6, 4, of_ids(77, 77, 1, 1));
+    try_withdraw(state(2, 0, 1, 0, true), 8, 21, 6, 4, of_ids(77, 77, 1, 1));
+    try_withdraw(state(2, 2, 0, 4, false), 10, 23, 8, 6, of_ids(77, 78, 1, 1));
+    try_withdraw(state(2, 0, 1, 0, true), 10, 23, 8, 6, of_ids(76, 77, 1, 1));
+    try_withdraw(state(1, 0, 0, 0, false), 10, 23, 8, 6, of_ids(77, 77, 1, 1));
+    try_withdraw(
+        state(2, 0, 0, 0, false),
+        10,
+        23,
+        8,
+        6,
+        of_ids(77, 77, 2, 4294967295),
+    );
+    try_withdraw(state(2, 0, 0, 0, false), 10, 23, 8, 6, of_ids(77, 77, 0, 1));
+    try_withdraw(state(2, 0, 1, 0, true), 10, 23, 8, 6, of_ids(77, 76, 0, 0));
+    try_withdraw(
+        state(2, 0, 0, 0, false),
+        10,
+        23,
+        8,
+        6,
+        of_ids(65613, 77, 3, 3),
+    );
+}
+
 fn main() {
     dimensions();
     settings();
@@ -578,4 +663,6 @@ fn main() {
     back_refused();
     back_accepted();
     back_bytes();
+    withdraw_refused();
+    withdraw_accepted();
 }

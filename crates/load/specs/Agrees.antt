@@ -39,7 +39,7 @@ use Rattle.curator.specs.Changes.{Creates}
 use Rattle.curator.specs.Arguments.{AddCall, SearchCall, Asked, everything, labelled}
 use Rattle.curator.specs.Searches.{Searches}
 use Rattle.runs.specs.Calls.{Change, add, build, change, search, Alike}
-use Rattle.runs.specs.Model.{Setting, Model, emptyModel, changeCheck, changedBy, modelSearchCheck, modelWalk, Expected, returns, answers, answered, searchedBy, expected, after}
+use Rattle.runs.specs.Model.{Setting, Model, emptyModel, changeCheck, changedBy, modelSearchCheck, modelWalk, Expected, returns, answers, rowLive, answered, searchedBy, expected, after}
 use Rattle.runs.specs.Run.{found, Lent, nextIndex, Changes, SearchStep}
 use Rattle.runs.specs.Theorem.{AnsweredWith, replyOf, Matches}
 use Rattle.store.specs.Fronts.{nothing, join-nothing}
@@ -157,14 +157,14 @@ lines-in-front ids distances newIds newDistances e p q =
 
 module _ (s : Setting) (allowed : Allowed s) (m : Model) (index : CuratorIndex) (next : ℕ) (c : Carried) where
   answer-by : (w : walk.Progress) (call : SearchCall) (lent : step.LoadLists) (reply : Found) → call .k ≤ length (call .ids) → call .k ≤ length (call .distances)
-      → AnsweredWith (found (searchEnd reply lent)) (replyOf (answer (call .k) w) call) → c ≡ foundBy index reply next
-      → Invariant s m index (lent .store) → Agrees (called (answers (answer (call .k) w)) (printed [] (running s m))) next c lent
+      → AnsweredWith (found (searchEnd reply lent)) (replyOf (answer (rowLive m) (call .k) w) call) → c ≡ foundBy index reply next
+      → Invariant s m index (lent .store) → Agrees (called (answers (answer (rowLive m) (call .k) w)) (printed [] (running s m))) next c lent
   unfolding called before answer answerText
   answer-by w call lent reply p q h k inv =
-      let a = answer (call .k) w in
-      let hits = take (call .k) (ranked w) in
+      let a = answer (rowLive m) (call .k) w in
+      let hits = take (call .k) (ranked (rowLive m) w) in
       let is : c ≡ Answered index next (length (a .ids)) (a .opened) (a .complete) = k ∙ ap (λ (x : Found). foundBy index x next) (found-is _ _ _ _ (h .0)) in
-      let few : length (a .ids) ≤ call .k = omega (arith, length-map hits documentOf, length-take (call .k) (ranked w)) in
+      let few : length (a .ids) ≤ call .k = omega (arith, length-map hits documentOf, length-take (call .k) (ranked (rowLive m) w)) in
       let same : length (a .distances) ≡ length (a .ids) = length-map hits distanceOf ∙ sym (length-map hits documentOf) in (
         Running index,
         (λ n. ap (λ (x : Carried). stepOf x n) is),
@@ -178,8 +178,8 @@ module _ (s : Setting) (allowed : Allowed s) (m : Model) (index : CuratorIndex) 
 
   search-by : (check : Check) (w : State) (call : SearchCall) (lent : step.LoadLists) (work : List ℕ) (reply : Found)
       → (check ≡ Check′.Fine → (call .k ≤ length (call .ids)) × (call .k ≤ length (call .distances)))
-      → Matches (searchedBy check (call .k) w) (search fronts work call) (found (searchEnd reply lent)) → c ≡ foundBy index reply next
-      → Invariant s m index (lent .store) → Agrees (called (searchedBy check (call .k) w) (printed [] (running s m))) next c lent
+      → Matches (searchedBy m check (call .k) w) (search fronts work call) (found (searchEnd reply lent)) → c ≡ foundBy index reply next
+      → Invariant s m index (lent .store) → Agrees (called (searchedBy m check (call .k) w) (printed [] (running s m))) next c lent
   unfolding searchedBy answered refusedText
   search-by Check′.Fine damaged call lent work reply room h k inv = absurd h
   search-by Check′.Fine (going p) call lent work reply room h k inv = answer-by p call lent reply (room refl .0) (room refl .1) h k inv

@@ -63,18 +63,18 @@ room-of index store work call e =
     let row = none .1 .1 .1 .1 .1 .0 in
     (ltb-false (length (call .ids)) (call .k) (or-left few fewer row), ltb-false (length (call .distances)) (call .k) (or-right few fewer row))
 
-walked-fits : (w : State) (index : CuratorIndex) (work : List ℕ) (call : SearchCall) (end : SearchEnd) → call .k ≤ length (call .ids)
+walked-fits : (w : State) (test : ℕ → Bool) (index : CuratorIndex) (work : List ℕ) (call : SearchCall) (end : SearchEnd) → call .k ≤ length (call .ids)
     → call .k ≤ length (call .distances)
-    → WalkedTo w index work call end → (count opened : ℕ) (complete : Bool) → end .answer ≡ Found′.Hits count opened complete
+    → WalkedTo w test index work call end → (count opened : ℕ) (complete : Bool) → end .answer ≡ Found′.Hits count opened complete
     → (count ≤ length (end .ids)) × (count ≤ length (end .distances))
 unfolding WalkedTo answer
-walked-fits damaged index work call end p q h count opened complete e = not-hits (sym (search-refused-is _ _ (h .answer)) ∙ e)
-walked-fits (going w) index work call end p q h count opened complete e =
-    let hits = take (call .k) (ranked w) in
-    let a = answer (call .k) w in
+walked-fits damaged test index work call end p q h count opened complete e = not-hits (sym (search-refused-is _ _ (h .answer)) ∙ e)
+walked-fits (going w) test index work call end p q h count opened complete e =
+    let hits = take (call .k) (ranked test w) in
+    let a = answer test (call .k) w in
     let same : Found′.Hits (length (a .ids)) (a .opened) (a .complete) ≡ Found′.Hits count opened complete = sym (found-is _ _ _ _ (h .answer)) ∙ e in
     let is : length (a .ids) ≡ count = ap hitsOf same in
-    let few : length (a .ids) ≤ call .k = omega (arith, length-map hits documentOf, length-take (call .k) (ranked w)) in
+    let few : length (a .ids) ≤ call .k = omega (arith, length-map hits documentOf, length-take (call .k) (ranked test w)) in
     let i = ap length (h .ids) ∙ length-sets (call .ids) 0 (a .ids) in
     let d = ap length (h .distances) ∙ length-sets (call .distances) 0 (a .distances) in
     (omega (arith, p, is, few, i), omega (arith, q, is, few, d))
@@ -89,7 +89,7 @@ searched-fits : (c : Check) (index : CuratorIndex) (store : Store) (work : List 
     → (count ≤ length (end .ids)) × (count ≤ length (end .distances))
 unfolding SearchesBy
 searched-fits Check′.Fine index store work call end room h count opened complete e =
-    walked-fits _ index work call end (room refl .0) (room refl .1) (h .walked) count opened complete e
+    walked-fits _ _ index work call end (room refl .0) (room refl .1) (h .walked) count opened complete e
 searched-fits (Check′.Refused r) index store work call end room h count opened complete e = not-hits (sym (search-refused-is _ _ (h .answer)) ∙ e)
 
 found-fits : (index : CuratorIndex) (store : Store) (work : List ℕ) (call : SearchCall) (lent : LoadLists) (next : ℕ) (i : CuratorIndex) (reply : Found)

@@ -38,7 +38,7 @@ pub fn print_file(file: &[u8]) -> usize
     ensures { λ r. ⌜ r ≡ length (fileText (now (file .entry))) ⌝ }
 {
     let mut floats = [0.0f32; 11264];
-    let mut numbers = [0u32; 4864];
+    let mut numbers = [0u32; 4992];
     let mut hashes = [0u64; 2304];
     let mut labels = [0u8; 65280];
     let mut work = [0u32; 2304];

@@ -34,8 +34,7 @@ use Rattle.runs.specs.Theorem.{withBudget}
 use Rattle.runs.specs.State.{Allowed, Within, Small, stateFor, nodesHeld, no-nodes}
 use Rattle.runs.specs.Held.{Held, held-added, withRow, length-rows, count-more, bytes-more}
 use Rattle.runs.specs.Refusals.{add-refused}
-use Rattle.runs.specs.Built.{Laid}
-use Rattle.runs.specs.Invariant.{Invariant, held-front, held-back}
+use Rattle.runs.specs.Invariant.{Invariant, nothing-written, held-front, held-back}
 use Rattle.runs.specs.ChangeLaws.{Others, ChangeEnds, ChangeOutcome, ChangeLaws}
 use Rattle.curator.specs.OutcomeLaws.{refused-is, is-refused, carried-is, is-carried}
 
@@ -74,16 +73,12 @@ module _ (s : Setting) (allowed : Allowed s) (m : Model) (front rest front′ : 
   ends : (check : Check) → addCheck (stateFor s m) front call ≡ check → AddsBy check (stateFor s m) front call answer front′
       → (changedNumber answer ≡ checkNumber check) × Invariant s (changedBy check (add call) m) (nextIndex (stateFor s m) answer) (joinStores front′ rest)
   unfolding AddsBy changedBy nextIndex
-  ends (Check′.Refused r) e by =
-      let same : joinStores front rest ≡ joinStores front′ rest = ap (λ (f : Store). joinStores f rest) (sym (by .1)) in (
-        by .0 .number-is,
-        record {
-          state = ap (nextIndex (stateFor s m)) (refused-is r answer (by .0));
-          within = inv .within;
-          held = subst (Held s m) same (inv .held);
-          laid = λ b. subst (Laid s m) same (inv .laid b);
-        },
-      )
+  ends (Check′.Refused r) e by = (
+    by .0 .number-is,
+    nothing-written s m (stateFor s m) (nextIndex (stateFor s m) answer) (joinStores front rest) (joinStores front′ rest) inv
+        (ap (nextIndex (stateFor s m)) (refused-is r answer (by .0)))
+        (ap (λ (f : Store). joinStores f rest) (by .1)),
+  )
   ends Check′.Fine e by =
       let found : Accepted (stateFor s m) front call = add-facts (stateFor s m) front call e in
       let room = found .room in

@@ -35,7 +35,7 @@ use Rattle.runs.specs.State.{Allowed, Within, Small, stateFor, nodesHeld
 use Rattle.runs.specs.Held.{Held, SameRows, rows-join, held-same}
 use Rattle.runs.specs.Refusals.{build-refused, build-room, BuildRoom}
 use Rattle.runs.specs.Built.{Laid, NodeFacts, node-facts, laid-same, laid-out, built-held, held-nodes, laid-lengths, lays-out, left-lengths, left-same, left-held, leaves}
-use Rattle.runs.specs.Invariant.{Invariant, long-same, held-front, held-back}
+use Rattle.runs.specs.Invariant.{Invariant, nothing-written, long-same, nodes-same, held-front, held-back}
 use Rattle.runs.specs.ChangeLaws.{Others, ChangeEnds, ChangeOutcome, ChangeLaws}
 use Rattle.curator.specs.OutcomeLaws.{refused-is, carried-is, is-carried, is-refused}
 
@@ -77,7 +77,7 @@ bytes-rows m = refl
 held-rows : (s : Setting) (m : Model) (store : Store) → Held s m store → Held s (builtModel m) store
 unfolding rowVectors rowHashes rowNames rowBytes
 held-rows s m store h =
-    record { vectors = h .vectors; documents = h .documents; owners = h .owners; hashes = h .hashes; starts = h .starts; lengths = h .lengths; text = h .text }
+    record { vectors = h .vectors; documents = h .documents; owners = h .owners; hashes = h .hashes; starts = h .starts; lengths = h .lengths; text = h .text; live = h .live }
 
 laid-rows : (s : Setting) (m : Model) (store : Store) → Laid s m store → Laid s (builtModel m) store
 unfolding modelNodes rowVectors rowEntries rowHashes
@@ -131,17 +131,13 @@ module _ (s : Setting) (allowed : Allowed s) (m : Model) (work work′ : List �
   fine-ends : (b : Bool) → m .built ≡ b → check ≡ Check′.Fine → BuildsFine b (stateFor s m) front work answer front′ work′
       → (changedNumber answer ≡ 0) × Invariant s (builtModel m) (nextIndex (stateFor s m) answer) (joinStores front′ rest)
   unfolding BuildsFine nextIndex
-  fine-ends true b e by =
-      let same : joinStores front rest ≡ joinStores front′ rest = ap (λ (f : Store). joinStores f rest) (sym (by .1)) in (
-        by .0 .number-is,
-        subst (λ (x : Model). Invariant s x (nextIndex (stateFor s m) answer) (joinStores front′ rest)) (sym (built-again m b))
-            (record {
-              state = ap (nextIndex (stateFor s m)) (carried-is (stateFor s m) answer (by .0));
-              within = inv .within;
-              held = subst (Held s m) same (inv .held);
-              laid = λ t. subst (Laid s m) same (inv .laid t);
-            }),
-      )
+  fine-ends true b e by = (
+    by .0 .number-is,
+    subst (λ (x : Model). Invariant s x (nextIndex (stateFor s m) answer) (joinStores front′ rest)) (sym (built-again m b))
+        (nothing-written s m (stateFor s m) (nextIndex (stateFor s m) answer) (joinStores front rest) (joinStores front′ rest) inv
+        (ap (nextIndex (stateFor s m)) (carried-is (stateFor s m) answer (by .0)))
+        (ap (λ (f : Store). joinStores f rest) (by .1))),
+  )
   fine-ends false b e by =
       let room : BuildRoom s m (lengthsOf front) = build-room s m (lengthsOf front) (length work) b e in
       let facts : NodeFacts s m = node-facts s m allowed (inv .within) (room .nodes) in
@@ -158,7 +154,7 @@ module _ (s : Setting) (allowed : Allowed s) (m : Model) (work work′ : List �
           state = ap (nextIndex (stateFor s m)) (carried-is (builtWith (stateFor s m) (length (heldNodes (stateFor s m) front))) answer (by .0)) ∙ state-built s m (length (heldNodes (stateFor s m) front)) count;
           within = within-rows s m (inv .within) (room .rows) (room .nodes);
           held = held-rows s m all (held-back s m front′ rest (inv .within) long′ h′);
-          laid = λ t. laid-rows s m all (laid-same s m front′ all facts (agree-sym (long-same s front′ rest long′)) l);
+          laid = λ t. laid-rows s m all (laid-same s m front′ all facts (agree-sym (nodes-same s all front′ (long-same s front′ rest long′))) l);
         },
       )
 

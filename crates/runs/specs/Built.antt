@@ -1,19 +1,20 @@
--- What the lists hold of a built index: the node parts are the layout of the rows' nodes. They depend on the lists up to their sizes alone; an accepted
--- build writes them, and after it no call of a run writes at all. A refused build leaves the rows' parts.
+-- What the lists hold of a built index: the node parts are the layout of the rows' nodes. They depend on the lists up to the ends of those parts alone; an
+-- accepted build writes them, and after it a run writes nothing but live marks, which stand behind them. A refused build leaves the rows' parts.
 use Prim.Native.Nat.{ℕ, _+_, _*_, _≤_, _<_}
 use native.Mathlib.Nat.{mul-comm, mul-add, mul-le-mul-right}
 use native.Mathlib.Omega.{arith}
 use mathlib.Core.List.{List, [], _∷_, List·Memᴰ}
 use mathlib.Core.Path.{_≡_, refl, sym, ap, ap₂, _∙_, subst}
 use lib.Ieee.{Float, nan}
-use lib.ListN.{length, getD, take, replicate, length-replicate}
+use lib.ListN.{length, getD, take, drop, replicate, length-replicate}
 use lib.Seq.{sets}
 use Rattle.lists.specs.Lists.{part, joined}
-use Rattle.lists.specs.Parts.{part-sets-same, take-sets}
+use Rattle.lists.specs.Parts.{part-sets-same, part-behind, take-sets}
 use Rattle.lists.specs.Frame.{Freed, From, Before, freed-length, freed-take, freed-drop, freed}
 use Rattle.store.specs.declared.Shape.{Shape}
-use Rattle.store.specs.Store.{Store, centroidsAt, centresAt, orderAt, nodesAt, linksAt, entryOrderAt, startsAt, lengthsAt, filtersAt, floatsSize, numbersSize, hashesSize, workPart}
-use Rattle.store.specs.Lent.{storeOf, lengthsOf, sizesOf, Long}
+use Rattle.store.specs.declared.Lengths.{Lengths}
+use Rattle.store.specs.Store.{Store, centroidsAt, centresAt, orderAt, nodesAt, linksAt, entryOrderAt, startsAt, lengthsAt, liveAt, filtersAt, hashesSize, workPart}
+use Rattle.store.specs.Lent.{storeOf, lengthsOf, sizesOf, NoShorter, Long}
 use Rattle.store.specs.Agree.{Agree, part-same}
 use Rattle.tree.specs.Nodes.{Node, Entries, nodesOf}
 use Rattle.tree.specs.Layout.{sixFrom, floatsOf, numbersOf, hashesOf}
@@ -73,19 +74,34 @@ node-facts s m a w h =
       count = length-nodesOf sp v e;
     }
 
--- the lists up to their sizes
-abbrev pub SameLists : Setting → Store → Store → Type 0
-SameLists s = Agree (sizesOf (settingShape s))
+-- where the node parts end: the centroids, the leaf order of entries, the filters; of the label text they have nothing
+abbrev pub nodesEnd : Setting → Lengths
+nodesEnd s =
+    record {
+      floats = centresAt (settingShape s);
+      numbers = startsAt (settingShape s);
+      hashes = hashesSize (settingShape s);
+      text = 0;
+    }
 
-centroids-within : (d v n m b : ℕ) → n ≤ m → d * v + n * d ≤ d * (v + m + b)
-centroids-within d v n m b h =
+-- the lists up to there
+abbrev pub SameNodes : Setting → Store → Store → Type 0
+SameNodes s = Agree (nodesEnd s)
+
+-- that is within the sizes
+pub nodes-within : (s : Setting) → NoShorter (nodesEnd s) (sizesOf (settingShape s))
+nodes-within s =
+    let p = mul-add (s .dimension) (s .capacities .vectors + s .capacities .nodes) (s .params .«branching_factor») in
+    record { floats = omega arith; numbers = omega arith; hashes = omega arith; text = omega arith }
+
+centroids-within : (d v n m : ℕ) → n ≤ m → d * v + n * d ≤ d * (v + m)
+centroids-within d v n m h =
     let p = mul-le-mul-right d h in
     let q = mul-comm m d in
-    let r = mul-add d (v + m) b in
     let t = mul-add d v m in
     omega arith
 
-pub laid-same : (s : Setting) (m : Model) (store store′ : Store) → NodeFacts s m → SameLists s store store′ → Laid s m store → Laid s m store′
+pub laid-same : (s : Setting) (m : Model) (store store′ : Store) → NodeFacts s m → SameNodes s store store′ → Laid s m store → Laid s m store′
 laid-same s m store store′ facts a l =
     let N = modelNodes s m in
     let sh = settingShape s in
@@ -94,12 +110,12 @@ laid-same s m store store′ facts a l =
     let e = length-blocks (λ node. node .centroid) (s .dimension) N (facts .wide) in
     let f = length-blocks (λ node. node .filter) 4 N (facts .four) in
     let x = length-sixFrom 0 0 0 N in
-    let w = centroids-within (s .dimension) (c .vectors) (length N) (c .nodes) (s .params .«branching_factor») (fit .nodes-fit) in
-    let numbers : (at : ℕ) (content : List ℕ) → at + length content ≤ numbersSize sh → StandsAt at content (store .numbers) → StandsAt at content (store′ .numbers) =
-    λ at content h x. stands-same at content (store .numbers) (store′ .numbers) (numbersSize sh) h (a .numbers) x in
+    let w = centroids-within (s .dimension) (c .vectors) (length N) (c .nodes) (fit .nodes-fit) in
+    let numbers : (at : ℕ) (content : List ℕ) → at + length content ≤ startsAt sh → StandsAt at content (store .numbers) → StandsAt at content (store′ .numbers) =
+    λ at content h x. stands-same at content (store .numbers) (store′ .numbers) (startsAt sh) h (a .numbers) x in
     record {
       centroids =
-          stands-same (centroidsAt sh) (joined (λ node. node .centroid) N) (store .floats) (store′ .floats) (floatsSize sh) (omega (arith, w, e)) (a .floats)
+          stands-same (centroidsAt sh) (joined (λ node. node .centroid) N) (store .floats) (store′ .floats) (centresAt sh) (omega (arith, w, e)) (a .floats)
           (l .centroids);
       order = numbers (orderAt sh) (joined (λ node. node .ids) N) (omega (arith, fit .ids-fit)) (l .order);
       six = numbers (nodesAt sh) (sixFrom 0 0 0 N) (omega (arith, fit .nodes-fit, x)) (l .six);
@@ -188,6 +204,7 @@ module _ (s : Setting) (m : Model) (store store′ : Store) (work work′ : List
         fronts = built-fronts;
         starts = built-behind (startsAt (settingShape s)) e (omega arith);
         lengths = built-behind (lengthsAt (settingShape s)) e (omega arith);
+        live = built-behind (liveAt (settingShape s)) (s .capacities .vectors) (omega arith);
       }
 
 -- ---- an accepted build, whatever index and lists it is given
@@ -250,14 +267,16 @@ pub left-same : (sh : Shape) (store store′ : Store) (work work′ : List ℕ) 
 unfolding freeOf freeStore Freed
 left-same sh store store′ work work′ l = λ i. record { floats = l .floats i; numbers = l .numbers i; hashes = l .hashes i; text = l .text i }
 
--- what is free starts behind the rows' parts, and ends before starts and lengths
+-- what is free starts behind the rows' parts, and ends before the starts, with lengths and live marks behind them
 module _ (s : Setting) (store store′ : Store) (work work′ : List ℕ) where
   kept-by : (r : Refusal) → From (rowsEnd s .floats) (freeOf (settingShape s) r .floats) → From (rowsEnd s .numbers) (freeOf (settingShape s) r .numbers)
       → From (rowsEnd s .hashes) (freeOf (settingShape s) r .hashes) → Before (startsAt (settingShape s)) (freeOf (settingShape s) r .numbers)
-      → Before (lengthsAt (settingShape s)) (freeOf (settingShape s) r .numbers) → Left (settingShape s) r store work store′ work′ → SameRows s store store′
-  kept-by r f n h b b′ l =
+      → Left (settingShape s) r store work store′ work′ → SameRows s store store′
+  kept-by r f n h b l =
       let sh = settingShape s in
       let free = freeOf (settingShape s) r in
+      let behind : drop (startsAt (settingShape s)) (store .numbers) ≡ drop (startsAt (settingShape s)) (store′ .numbers) =
+      freed-drop (startsAt sh) (free .numbers) (store .numbers) (store′ .numbers) b (l .numbers) in
       record {
         fronts =
             record {
@@ -266,29 +285,29 @@ module _ (s : Setting) (store store′ : Store) (work work′ : List ℕ) where
               hashes = freed-take (rowsEnd s .hashes) (free .hashes) (store .hashes) (store′ .hashes) h (l .hashes);
               text = ap (take (s .capacities .text)) (sym (l .text));
             };
-        starts = ap (take (s .capacities .entries)) (freed-drop (startsAt sh) (free .numbers) (store .numbers) (store′ .numbers) b (l .numbers));
-        lengths = ap (take (s .capacities .entries)) (freed-drop (lengthsAt sh) (free .numbers) (store .numbers) (store′ .numbers) b′ (l .numbers));
+        starts = part-behind (startsAt sh) (startsAt sh) (s .capacities .entries) (store .numbers) (store′ .numbers) (omega arith) behind;
+        lengths = part-behind (startsAt sh) (lengthsAt sh) (s .capacities .entries) (store .numbers) (store′ .numbers) (omega arith) behind;
+        live = part-behind (startsAt sh) (liveAt sh) (s .capacities .vectors) (store .numbers) (store′ .numbers) (omega arith) behind;
       }
 
   kept-store : (r : StoreRefusal) → Left (settingShape s) (Refusal′.Store r) store work store′ work′ → SameRows s store store′
   unfolding freeOf freeStore
-  kept-store ListTooShort l = kept-by (Refusal′.Store ListTooShort) tt tt tt tt tt l
-  kept-store VectorsFull l = kept-by (Refusal′.Store VectorsFull) tt tt tt tt tt l
-  kept-store EntriesFull l = kept-by (Refusal′.Store EntriesFull) tt tt tt tt tt l
+  kept-store ListTooShort l = kept-by (Refusal′.Store ListTooShort) tt tt tt tt l
+  kept-store VectorsFull l = kept-by (Refusal′.Store VectorsFull) tt tt tt tt l
+  kept-store EntriesFull l = kept-by (Refusal′.Store EntriesFull) tt tt tt tt l
   kept-store NodesFull l =
       kept-by (Refusal′.Store NodesFull)
       (omega arith, ((let q = mul-add (s .dimension) (s .capacities .vectors) (s .capacities .nodes) in omega arith), tt))
       (omega arith, (omega arith, (omega arith, (omega arith, tt))))
       (omega arith, tt)
       (omega arith, (omega arith, (omega arith, (omega arith, tt))))
-      (omega arith, (omega arith, (omega arith, (omega arith, tt))))
       l
-  kept-store Damaged l = kept-by (Refusal′.Store Damaged) tt tt tt tt tt l
-  kept-store TextFull l = kept-by (Refusal′.Store TextFull) tt tt tt tt tt l
+  kept-store Damaged l = kept-by (Refusal′.Store Damaged) tt tt tt tt l
+  kept-store TextFull l = kept-by (Refusal′.Store TextFull) tt tt tt tt l
 
   pub left-held : (r : Refusal) → Left (settingShape s) r store work store′ work′ → SameRows s store store′
   unfolding freeOf
-  left-held (Refusal′.Settings r) l = kept-by (Refusal′.Settings r) tt tt tt tt tt l
-  left-held (Refusal′.State r) l = kept-by (Refusal′.State r) tt tt tt tt tt l
-  left-held (Refusal′.Input r) l = kept-by (Refusal′.Input r) tt tt tt tt tt l
+  left-held (Refusal′.Settings r) l = kept-by (Refusal′.Settings r) tt tt tt tt l
+  left-held (Refusal′.State r) l = kept-by (Refusal′.State r) tt tt tt tt l
+  left-held (Refusal′.Input r) l = kept-by (Refusal′.Input r) tt tt tt tt l
   left-held (Refusal′.Store r) l = kept-store r l

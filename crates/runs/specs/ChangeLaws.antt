@@ -1,5 +1,5 @@
--- What is owed for a change, in one record: whoever adds a change to `Change` proves it of that one (Adds.antt, TakesBack.antt, Builds.antt), and the rest
--- goes by kinds of calls. Reached.antt has it of every change.
+-- What is owed for a change, in one record: whoever adds a change to `Change` proves it of that one (Adds.antt, TakesBack.antt, Withdraws.antt, Builds.antt),
+-- and the rest goes by kinds of calls. Reached.antt has it of every change.
 use Prim.Native.Nat.{ℕ}
 use mathlib.Core.Bool.{Bool, true, false, cond, false≢true}
 use mathlib.Core.Logic.{_⊎_, inl, inr}

@@ -37,7 +37,7 @@ alike-expected s m (change f w c) (change f′ w′ c′) a = λ i. returns (che
 alike-expected s m (change f w c) (search f′ w′ call′) a = absurd a
 alike-expected s m (search f w call) (change f′ w′ c′) a = absurd a
 alike-expected s m (search f w call) (search f′ w′ call′) a =
-    λ i. searchedBy (alike-search-check s m f f′ (length w) (length w′) call call′ (a .0) (a .1) (a .2) i) (a .2 .k i) (modelWalk s m (a .2 .question i))
+    λ i. searchedBy m (alike-search-check s m f f′ (length w) (length w′) call call′ (a .0) (a .1) (a .2) i) (a .2 .k i) (modelWalk s m (a .2 .question i))
 
 pub alike-after : (s : Setting) (m : Model) (call call′ : Call) → Alike call call′ → after s m call ≡ after s m call′
 unfolding after

@@ -1,6 +1,6 @@
 -- Runs of 01's worked example, computed: 'D 2, B 2, leaf size 1, ef 5, beam 4; 7: (1, 0) `a`; 8: (0, 2) `b`; 9: (3, 4) `a`; search k 4, `a`, (1, 0)', with
--- refused calls in between; V 4, E 4, M 5; and M 4, where the build is refused; with takings back; with names in two parts; with two labels of
--- one hash. The premise holds of it, and it has runs.
+-- refused calls in between; V 4, E 4, M 5; and M 4, where the build is refused; with takings back; with withdrawals; with names in two parts;
+-- with two labels of one hash. The premise holds of it, and it has runs.
 use Prim.Native.Nat.{ℕ}
 use native.Mathlib.Omega.{arith}
 use mathlib.Core.Bool.{Bool, true}
@@ -16,7 +16,7 @@ use Rattle.store.specs.Lent.{sizesOf}
 use Rattle.curator.specs.Calls.{fresh}
 use Rattle.curator.specs.Changes.{created}
 use Rattle.curator.specs.Arguments.{addOf, Asked, everything, labelled}
-use Rattle.runs.specs.Calls.{add, take-back, build, Call, change, search, AllTyped, Alike, AllAlike}
+use Rattle.runs.specs.Calls.{add, take-back, withdraw, build, Call, change, search, AllTyped, Alike, AllAlike}
 use Rattle.runs.specs.Model.{Setting, settingShape, Model, emptyModel, Expected, returns, answers, expected, after, modelFrom}
 use Rattle.runs.specs.Run.{Ended, Run}
 use Rattle.runs.specs.Theorem.{Matches, InPairs, Premise, Better}
@@ -150,6 +150,55 @@ typed-back =
 -- it has a run
 pub back-run : (ends : List Ended) × Run (sample 5 5) callsBack ends
 back-run = run-of callsBack typed-back
+
+-- ---- withdrawing
+
+abbrev pub withdraws : ℕ → Call
+withdraws document = change fronts [] (withdraw document)
+
+-- an id that no vector has is refused, as 9 is after its vector was taken back; 9 is then taught again, and 8 withdrawn twice before the build, 7 after it
+abbrev pub callsWithdrawn : List Call
+callsWithdrawn =
+    withdraws 7 ∷ first ∷ second ∷ third ∷ withdraws 9 ∷ backs ∷ withdraws 9 ∷ third ∷ withdraws 8 ∷ withdraws 8
+    ∷ change fronts (replicate 30 0) build
+    ∷ searches 0 nan 4 label-a
+    ∷ searches 0 nan 4 (labelled (98 ∷ []))
+    ∷ searches 0 nan 4 everything
+    ∷ withdraws 7
+    ∷ searches 0 nan 1 label-a
+    ∷ searches 0 nan 4 everything
+    ∷ withdraws 10
+    ∷ []
+
+-- as many nodes are opened as before; of those that carry the label only the live are found, and the first k are of these
+pub expects-withdrawn : expectations (sample 5 5) emptyModel callsWithdrawn
+    ≡ returns 24 ∷ returns 0 ∷ returns 0 ∷ returns 0 ∷ returns 0 ∷ returns 0 ∷ returns 24 ∷ returns 0 ∷ returns 0 ∷ returns 0
+    ∷ returns 0
+    ∷ hits (7 ∷ 9 ∷ []) (0 ∷ 0x3ecccccc ∷ []) 5 true
+    ∷ hits [] [] 5 true
+    ∷ hits (7 ∷ 9 ∷ []) (0 ∷ 0x3ecccccc ∷ []) 5 true
+    ∷ returns 0
+    ∷ hits (9 ∷ []) (0x3ecccccc ∷ []) 5 true
+    ∷ hits (9 ∷ []) (0x3ecccccc ∷ []) 5 true
+    ∷ returns 24
+    ∷ []
+unfolding expectations ofBits fnvFrom fnvStep distance namesOf lengthsFit
+expects-withdrawn = refl
+
+tested-withdrawn : premiseTest (sample 5 5) emptyModel callsWithdrawn ≡ true
+unfolding premiseTest ofBits fnvFrom fnvStep distance namesOf lengthsFit
+tested-withdrawn = refl
+
+pub premise-withdrawn : Premise (sample 5 5) callsWithdrawn
+premise-withdrawn = test-premise (sample 5 5) callsWithdrawn tested-withdrawn
+
+typed-withdrawn : AllTyped callsWithdrawn
+typed-withdrawn =
+    (tt, (omega arith, (omega arith, (omega arith, (tt, (tt, (tt, (omega arith, (tt, (tt, (tt, (tt, (tt, (tt, (tt, (tt, (tt, (tt, tt))))))))))))))))))
+
+-- it has a run
+pub withdrawn-run : (ends : List Ended) × Run (sample 5 5) callsWithdrawn ends
+withdrawn-run = run-of callsWithdrawn typed-withdrawn
 
 -- ---- names in two parts
 

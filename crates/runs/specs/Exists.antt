@@ -1,6 +1,7 @@
 -- Nothing of demand 3 is empty: every call has an outcome, whatever index, lists and arguments it is given, and so every list of calls whose document
 -- ids are u32s has a run, for every setting that `new` accepts. Whatever an outcome leaves free can be anything; here it is zeros.
 use Prim.Native.Nat.{ℕ}
+use mathlib.Core.Bool.{Bool}
 use mathlib.Core.List.{List, [], _∷_}
 use mathlib.Core.Path.{_≡_, refl, sym, ap, _∙_, subst}
 use lib.ListN.{length}
@@ -12,7 +13,7 @@ use Rattle.store.specs.Store.{Store, workPart}
 use Rattle.store.specs.Lent.{lengthsOf, NoShorter, joinStores}
 use Rattle.walk.specs.Walk.{State, damaged, going, walk}
 use Rattle.walk.specs.Answer.{answer}
-use Rattle.walk.specs.StoreView.{storeView}
+use Rattle.walk.specs.StoreView.{liveIn, storeView}
 use Rattle.curator.specs.declared.CuratorIndex.{CuratorIndex}
 use Rattle.settings.specs.declared.Check.{Check}
 use Rattle.settings.specs.declared.Check.the-variants as Check′
@@ -37,16 +38,16 @@ pub record SearchOutcome (index : CuratorIndex) (store : Store) (work : List ℕ
   pub end : SearchEnd
   pub searches : Searches index store work call end
 
-walked-by : (index : CuratorIndex) (work : List ℕ) (call : SearchCall) (state : State) → (end : SearchEnd) × WalkedTo state index work call end
+walked-by : (test : ℕ → Bool) (index : CuratorIndex) (work : List ℕ) (call : SearchCall) (state : State) → (end : SearchEnd) × WalkedTo state test index work call end
 unfolding WalkedTo
-walked-by index work call damaged =
+walked-by test index work call damaged =
     let w = freed 0 (workPart (indexShape index) ∷ []) work in (
       record { answer = Found′.Refused (Refusal′.Store StoreRefusal′.Damaged); work = w .0; ids = call .ids; distances = call .distances },
       record { answer = is-search-refused _ _ refl; work = w .1; ids = refl; distances = refl },
     )
-walked-by index work call (going p) =
+walked-by test index work call (going p) =
     let w = freed 0 (workPart (indexShape index) ∷ []) work in
-    let a = answer (call .k) p in (
+    let a = answer test (call .k) p in (
       record { answer = Found′.Hits (length (a .ids)) (a .opened) (a .complete); work = w .0; ids = sets (call .ids) 0 (a .ids); distances = sets (call .distances) 0 (a .distances) },
       record { answer = is-found _ _ _ _ refl; work = w .1; ids = refl; distances = refl },
     )
@@ -57,7 +58,7 @@ search-by index store work call (Check′.Refused r) =
     (record { answer = Found′.Refused r; work = work; ids = call .ids; distances = call .distances }, record { answer = is-search-refused r (Found′.Refused r) refl; work = refl; ids = refl; distances = refl })
 search-by index store work call Check′.Fine =
     let view = storeView (indexShape index) (index .counts) store (normalized (call .question .query)) (wantedOf (call .question .asked)) in
-    let r = walked-by index work call (walk view (index .params .«ef_search»)) in
+    let r = walked-by (liveIn (indexShape index) (index .counts) store) index work call (walk view (index .params .«ef_search»)) in
     (r .0, record { query = normalized (call .question .query); normalized = normalized-holds (call .question .query); walked = r .1 })
 
 pub search-outcome : (index : CuratorIndex) (store : Store) (work : List ℕ) (call : SearchCall) → SearchOutcome index store work call

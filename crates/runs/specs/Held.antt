@@ -1,9 +1,11 @@
--- What the lists hold of the rows: vectors, document ids, owners and hashes, starts, lengths and bytes of labels. They depend on the fronts of the lists that
--- stand before the node parts, on the starts and lengths behind them, and on the label text, so a build, refused or not, leaves them; an accepted add writes
--- one row more, behind those held.
+-- What the lists hold of the rows: vectors, document ids, owners and hashes, starts, lengths and bytes of labels, live marks. They depend on the fronts of the
+-- lists that stand before the node parts, on the starts, lengths and marks behind them, and on the label text, so a build, refused or not, leaves them; an
+-- accepted add writes one row more, behind those held.
 use Prim.Native.Nat.{ℕ, suc, _+_, _*_, _≤_, _<_}
 use native.Mathlib.Nat.{zero-add, add-zero, mul-comm, mul-add, le-refl, suc-mul, mul-le-mul-right}
+use native.Mathlib.Numerals.{add-one}
 use native.Mathlib.Omega.{arith}
+use mathlib.Core.Bool.{cond}
 use mathlib.Core.List.{List, [], _∷_, _++_, map, map-append, append-nil, append-assoc, List·Memᴰ, List·Memᴰ·not-nil, List·Memᴰ·append-cases}
 use mathlib.Core.Path.{_≡_, refl, sym, ap, ap₂, _∙_, subst}
 use lib.Ieee.{Float}
@@ -16,19 +18,23 @@ use Rattle.lists.specs.Parts.{part-sets-same, part-sets-before, part-sets-grown
 use Rattle.lists.specs.Tests.{either}
 use Rattle.vector.specs.Normalized.{normalized, normalized-is, length-normalized}
 use Rattle.store.specs.declared.Lengths.{Lengths}
-use Rattle.store.specs.Store.{Store, vectorAt, centroidsAt, orderAt, startsAt, lengthsAt, filtersAt}
+use Rattle.store.specs.Store.{Store, vectorAt, centroidsAt, orderAt, startsAt, lengthsAt, liveAt, filtersAt, liveMarks}
 use Rattle.store.specs.Lent.{lengthsOf, sizesOf, NoShorter, joinStores}
 use Rattle.store.specs.Agree.{Agree, agree-sym, agree-join, part-same, part-front, take-less}
 use Rattle.label.specs.Names.{hashesOfLabels, startsFrom, lengthsOfNames, bytesOfNames}
 use Rattle.label.specs.TextLaws.{starts-append, lengths-append, bytes-append}
-use Rattle.curator.specs.Calls.{heldVectors, heldEntries, heldStarts, heldLengths, heldText}
-use Rattle.curator.specs.HeldLaws.{labels-behind, owned, starts-grown, lengths-grown, text-grown}
+use Rattle.curator.specs.Calls.{heldVectors, heldDocuments, heldEntries, heldStarts, heldLengths, heldText, heldMarks}
+use Rattle.curator.specs.HeldLaws.{before-mark, labels-behind, owned, starts-grown, lengths-grown, text-grown, marks-grown}
 use Rattle.curator.specs.Changes.{Wrote}
 use Rattle.curator.specs.Arguments.{AddCall}
 use Rattle.curator.specs.Lent.{AddRoom}
 use Rattle.label.specs.NameLaws.{length-hashesOfLabels}
-use Rattle.runs.specs.Model.{Setting, Model, ModelRow, emptyModel, hashesIn, rowVectors, rowHashes, rowNames, rowBytes, ownersFrom, rowEntries, newRow, settingShape}
+use Rattle.runs.specs.Model.{Setting, Model, ModelRow, emptyModel, hashesIn, rowVectors, rowHashes, rowDocuments, rowNames, rowBytes, ownersFrom, rowEntries, newRow, settingShape}
 use Rattle.runs.specs.State.{stateFor, Within}
+
+-- the live mark of a row: 'add writes 1' and a withdrawal 0 (02, K10)
+abbrev pub liveMark : ModelRow → ℕ
+liveMark r = cond (r .live) 1 0
 
 pub record Held (s : Setting) (m : Model) (store : Store) : Type 0 where
   pub vectors : map (vectorAt (s .dimension) (store .floats)) (countFrom 0 (length (m .rows))) ≡ rowVectors m
@@ -38,6 +44,7 @@ pub record Held (s : Setting) (m : Model) (store : Store) : Type 0 where
   pub starts : part (startsAt (settingShape s)) (length (rowHashes m)) (store .numbers) ≡ startsFrom 0 (rowNames m)
   pub lengths : part (lengthsAt (settingShape s)) (length (rowHashes m)) (store .numbers) ≡ lengthsOfNames (rowNames m)
   pub text : part 0 (rowBytes m) (store .text) ≡ bytesOfNames (rowNames m)
+  pub live : liveMarks (settingShape s) (length (m .rows)) (store .numbers) ≡ map liveMark (m .rows)
 
 -- the fronts that it depends on: up to the centroids, the leaf order, the filters, and all of the label text
 abbrev pub rowsEnd : Setting → Lengths
@@ -49,14 +56,15 @@ rowsEnd s =
       text = s .capacities .text;
     }
 
--- and the starts and lengths behind them
+-- and the starts, lengths and live marks behind them
 pub record SameRows (s : Setting) (store store′ : Store) : Type 0 where
   pub fronts : Agree (rowsEnd s) store store′
   pub starts : part (startsAt (settingShape s)) (s .capacities .entries) (store .numbers) ≡ part (startsAt (settingShape s)) (s .capacities .entries) (store′ .numbers)
   pub lengths : part (lengthsAt (settingShape s)) (s .capacities .entries) (store .numbers) ≡ part (lengthsAt (settingShape s)) (s .capacities .entries) (store′ .numbers)
+  pub live : liveMarks (settingShape s) (s .capacities .vectors) (store .numbers) ≡ liveMarks (settingShape s) (s .capacities .vectors) (store′ .numbers)
 
 pub rows-sym : (s : Setting) (store store′ : Store) → SameRows s store store′ → SameRows s store′ store
-rows-sym s store store′ same = record { fronts = agree-sym (same .fronts); starts = sym (same .starts); lengths = sym (same .lengths) }
+rows-sym s store store′ same = record { fronts = agree-sym (same .fronts); starts = sym (same .starts); lengths = sym (same .lengths); live = sym (same .live) }
 
 -- two fronts of the same lengths that agree so, each with the same rest behind it
 pub rows-join : (s : Setting) (front front′ rest : Store) → lengthsOf front ≡ lengthsOf front′ → SameRows s front front′
@@ -69,6 +77,7 @@ rows-join s front front′ rest l same =
       fronts = agree-join (rowsEnd s) front front′ rest l (same .fronts);
       starts = part-front (startsAt sh) e (front .numbers) (front′ .numbers) (rest .numbers) n (same .starts);
       lengths = part-front (lengthsAt sh) e (front .numbers) (front′ .numbers) (rest .numbers) n (same .lengths);
+      live = part-front (liveAt sh) (s .capacities .vectors) (front .numbers) (front′ .numbers) (rest .numbers) n (same .live);
     }
 
 -- they end within the sizes
@@ -115,18 +124,27 @@ held-same s m store store′ w same h =
           sym (take-less (length (rowHashes m)) (c .entries) (drop (lengthsAt sh) (store .numbers)) (drop (lengthsAt sh) (store′ .numbers)) (w .entries) (same .lengths))
           ∙ h .lengths;
       text = sym (part-same 0 (rowBytes m) (c .text) (store .text) (store′ .text) (omega (arith, w .bytes)) (a .text)) ∙ h .text;
+      live = sym (take-less n (c .vectors) (drop (liveAt sh) (store .numbers)) (drop (liveAt sh) (store′ .numbers)) (w .vectors) (same .live)) ∙ h .live;
     }
 
 -- nothing is held of no row
 pub held-empty : (s : Setting) (store : Store) → Held s emptyModel store
 unfolding countFrom rowVectors rowHashes rowNames rowBytes ownersFrom joined startsFrom lengthsOfNames bytesOfNames
 held-empty s store =
-    record { vectors = refl; documents = refl; owners = refl; hashes = refl; starts = refl; lengths = refl; text = refl }
+    record { vectors = refl; documents = refl; owners = refl; hashes = refl; starts = refl; lengths = refl; text = refl; live = refl }
 
 -- what a state of the model holds, as build reads it
 pub held-vectors : (s : Setting) (m : Model) (store : Store) → Held s m store → heldVectors (stateFor s m) store ≡ rowVectors m
 unfolding heldVectors
 held-vectors s m store h = h .vectors
+
+pub held-documents : (s : Setting) (m : Model) (store : Store) → Held s m store → heldDocuments (stateFor s m) store ≡ rowDocuments m
+unfolding heldDocuments rowDocuments
+held-documents s m store h = h .documents
+
+pub held-marks : (s : Setting) (m : Model) (store : Store) → Held s m store → heldMarks (stateFor s m) store ≡ map liveMark (m .rows)
+unfolding heldMarks
+held-marks s m store h = h .live
 
 pub held-entries : (s : Setting) (m : Model) (store : Store) → Held s m store → heldEntries (stateFor s m) store ≡ rowEntries m
 unfolding heldEntries rowEntries
@@ -227,7 +245,7 @@ module _ (s : Setting) (m : Model) (call : AddCall) (store store′ : Store) (ro
       let at = s .capacities .vectors + length (rowHashes m) in
       let one = sets (store .numbers) n (call .document ∷ []) in
       let small : 0 + suc n ≤ at = omega (arith, room .vectors, en) in
-      ap (λ (l : List ℕ). part 0 (suc n) l) (wrote .numbers)
+      before-mark (stateFor s m) store call store′ room wrote 0 (suc n) (omega (arith, room .vectors, en))
       ∙ labels-behind (stateFor s m) call (owned (stateFor s m) store call store′ room wrote) 0 (suc n) (omega (arith, room .vectors, en))
       ∙ part-sets-before 0 (suc n) (set (store .numbers) (length (m .rows)) (call .document)) at L small
       ∙ ap (λ (k : ℕ). part 0 (suc n) (set (store .numbers) k (call .document))) en
@@ -243,7 +261,7 @@ module _ (s : Setting) (m : Model) (call : AddCall) (store store′ : Store) (ro
       let e = length (rowHashes m) in
       let L = replicate (length (call .names)) (length (m .rows)) in
       let n = length (m .rows) in
-      ap (λ (l : List ℕ). part v (e + length (call .names)) l) (wrote .numbers)
+      before-mark (stateFor s m) store call store′ room wrote v (e + length (call .names)) (omega (arith, room .entries))
       ∙ labels-behind (stateFor s m) call (owned (stateFor s m) store call store′ room wrote) v (e + length (call .names)) (omega (arith, room .entries))
       ∙ part-sets-grown v e (set (store .numbers) n (call .document)) L (length (call .names)) (length-replicate (length (call .names)) n)
       (let t : v + e + length (call .names) ≤ length (set (store .numbers) n (call .document)) =
@@ -275,6 +293,13 @@ module _ (s : Setting) (m : Model) (call : AddCall) (store store′ : Store) (ro
   unfolding heldText
   added-text h = text-grown (stateFor s m) store call store′ room wrote ∙ ap (λ (l : List ℕ). l ++ bytesOfNames (call .names)) h
 
+  added-live : liveMarks (settingShape s) (length (m .rows)) (store .numbers) ≡ map liveMark (m .rows)
+      → liveMarks (settingShape s) (suc (length (m .rows))) (store′ .numbers) ≡ map liveMark (m .rows) ++ (1 ∷ [])
+  unfolding heldMarks
+  added-live h =
+      ap (λ (k : ℕ). liveMarks (settingShape s) k (store′ .numbers)) (sym (add-one (length (m .rows))))
+      ∙ marks-grown (stateFor s m) store call store′ room wrote ∙ ap (λ (l : List ℕ). l ++ (1 ∷ [])) h
+
   pub held-added : Held s m store → Held s (withRow m (newRow call)) store′
   held-added h =
       let r = newRow call in
@@ -294,6 +319,7 @@ module _ (s : Setting) (m : Model) (call : AddCall) (store store′ : Store) (ro
         starts = ap (λ (k : ℕ). part (startsAt (settingShape s)) k (store′ .numbers)) count ∙ added-starts (h .starts) ∙ sym (starts-more m r);
         lengths = ap (λ (k : ℕ). part (lengthsAt (settingShape s)) k (store′ .numbers)) count ∙ added-lengths (h .lengths) ∙ sym (lengths-more m r);
         text = ap (λ (k : ℕ). part 0 k (store′ .text)) (bytes-more m r) ∙ added-text (h .text) ∙ sym (text-more m r);
+        live = ap (λ (k : ℕ). liveMarks (settingShape s) k (store′ .numbers)) (length-rows m r) ∙ added-live (h .live) ∙ sym (map-append liveMark (m .rows) (r ∷ []));
       }
 
 -- ---- owners are rows: build's 15 never

@@ -16,6 +16,8 @@ pub mod Invariant
 pub mod ChangeLaws
 pub mod Adds
 pub mod TakesBack
+pub mod Withdrawn
+pub mod Withdraws
 pub mod Builds
 -- the walk over the store is the walk over the rows' tree, which is sound; the cases of what is wanted
 pub mod WantedLaws

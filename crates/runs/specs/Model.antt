@@ -1,12 +1,12 @@
 -- Document 01, 'The book', here the model: 'It is written from the settings, the capacities and the calls' arguments, list lengths among them; never
 -- from state, store or answers.' A line of the book is a row of the model. It says what is expected of every call, and is changed by it.
 use Prim.Native.Nat.{ℕ, suc, _-_}
-use mathlib.Core.Bool.{Bool, true, false}
+use mathlib.Core.Bool.{Bool, true, false, not, _&&_}
 use mathlib.Core.List.{List, [], _∷_, _++_, map}
-use lib.Dec.{ltb}
+use lib.Dec.{ltb, eqb}
 use lib.Ieee.{Float}
 use lib.ListN.{length, getD, take, replicate}
-use Rattle.lists.specs.Lists.{joined}
+use Rattle.lists.specs.Lists.{joined, isIn}
 use Rattle.distance.specs.Distance.{distance}
 use Rattle.total_order.specs.TotalOrder.{keyOf}
 use Rattle.vector.specs.Normalized.{normalized}
@@ -16,7 +16,7 @@ use Rattle.store.specs.declared.Lengths.{Lengths}
 use Rattle.tree.specs.Tree.{treeOf, size}
 use Rattle.tree.specs.Nodes.{Node, noNode, Entries, nodesOf}
 use Rattle.walk.specs.Walk.{View, Shown, State, damaged, going, children, hits, walk}
-use Rattle.walk.specs.Answer.{Answer, answer, hitOf}
+use Rattle.walk.specs.Answer.{Answer, answer, hitOf, vectorOf}
 use Rattle.walk.specs.Wanted.{Sought, EntryRead, LeafList, vector-list, entry-list, denies, listRead, given, most}
 use Rattle.settings.specs.declared.CuratorParams.{CuratorParams}
 use Rattle.settings.specs.declared.Capacities.{Capacities}
@@ -24,12 +24,12 @@ use Rattle.settings.specs.declared.Check.{Check}
 use Rattle.settings.specs.declared.Check.the-variants.{Fine, Refused}
 use Rattle.curator.specs.Limits.{shapeOf}
 use Rattle.settings.specs.Refusals.{number, checkNumber}
-use Rattle.curator.specs.Rows.{Facts, Row, firstOf, addRows, takeBackRows, buildRows, searchRows}
+use Rattle.curator.specs.Rows.{Facts, Row, firstOf, addRows, takeBackRows, withdrawRows, buildRows, searchRows}
 use Rattle.label.specs.Names.{hashesOfLabels, bytesOfNames}
 use Rattle.curator.specs.Calls.{splittingOf}
 use Rattle.curator.specs.Arguments.{AddCall, Question, SearchCall, askingOf}
 use Rattle.curator.specs.Searches.{wantedOf}
-use Rattle.runs.specs.Calls.{Change, add, take-back, build, Call, change, search}
+use Rattle.runs.specs.Calls.{Change, add, take-back, withdraw, build, Call, change, search}
 
 -- the settings and capacities of an accepted `new`
 pub record Setting : Type 0 where
@@ -40,11 +40,13 @@ pub record Setting : Type 0 where
 abbrev pub settingShape : Setting → Shape
 settingShape s = shapeOf (s .dimension) (s .params) (s .capacities)
 
--- a line: 'document id, normalised vector, each label's hash'; 'The book's lines keep their labels' bytes too' (02, K4), and a hash is that of the bytes
+-- a line: 'document id, normalised vector, each label's hash'; 'The book's lines keep their labels' bytes too' (02, K4), and a hash is that of the bytes; 'the
+-- book's lines have the live mark too' (02, K10)
 pub record ModelRow : Type 0 where
   pub document : ℕ
   pub vector : List Float
   pub names : List (List ℕ)
+  pub live : Bool
 
 abbrev pub hashesIn : ModelRow → List ℕ
 hashesIn r = hashesOfLabels (r .names)
@@ -65,6 +67,9 @@ rowVectors m = map (λ r. r .vector) (m .rows)
 unfoldable pub rowHashes : Model → List ℕ
 unfolding joined hashesOfLabels
 rowHashes m = joined hashesIn (m .rows)
+
+unfoldable pub rowDocuments : Model → List ℕ
+rowDocuments m = map (λ r. r .document) (m .rows)
 
 -- the labels, line by line; 'and those are its bytes held'
 unfoldable pub rowNames : Model → List (List ℕ)
@@ -107,9 +112,10 @@ modelCounts s m = record { vectors = length (m .rows); entries = length (rowHash
 
 -- 'Each call is put to the refusals in their order, without 4 and 15'; of the lists that it is lent the rows look at the lengths
 unfoldable pub changeRows : Setting → Model → Lengths → ℕ → Change → List Row
-unfolding addRows takeBackRows buildRows modelFacts nodeCount
+unfolding addRows takeBackRows withdrawRows buildRows modelFacts nodeCount isIn rowDocuments
 changeRows s m lent work (add call) = addRows (modelFacts s m) lent call
 changeRows s m lent work take-back = takeBackRows (modelFacts s m) lent
+changeRows s m lent work (withdraw document) = withdrawRows (modelFacts s m) lent (isIn document (rowDocuments m))
 changeRows s m lent work build = buildRows (modelFacts s m) lent work false (ltb (s .capacities .nodes) (nodeCount s m))
 
 unfoldable pub changeCheck : Setting → Model → Lengths → ℕ → Change → Check
@@ -118,17 +124,24 @@ changeCheck s m lent work c = firstOf (changeRows s m lent work c)
 
 -- 'document id, normalised vector, each label's hash', and the labels' bytes
 abbrev pub newRow : AddCall → ModelRow
-newRow call = record { document = call .document; vector = normalized (call .vector); names = call .names }
+newRow call = record { document = call .document; vector = normalized (call .vector); names = call .names; live = true }
 
 -- the lines without the last
 abbrev pub struck : List ModelRow → List ModelRow
 struck rows = take (length rows - 1) rows
 
--- 'Any other add writes a line at the end'; taking back 'strikes the book's last line' (02, K3); 'Any other build makes it built'
+-- a line after a document id was withdrawn: one that has the id is not live
+abbrev pub withdrawRow : ℕ → ModelRow → ModelRow
+withdrawRow document r =
+    record { document = r .document; vector = r .vector; names = r .names; live = r .live && not (eqb document (r .document)) }
+
+-- 'Any other add writes a line at the end'; taking back 'strikes the book's last line' (02, K3); withdrawing reaches 'every vector with that id' (02, K10); 'Any
+-- other build makes it built'
 unfoldable pub carriedOut : Change → Model → Model
 unfolding normalized
 carriedOut (add call) m = record { rows = m .rows ++ (newRow call ∷ []); built = m .built }
 carriedOut take-back m = record { rows = struck (m .rows); built = m .built }
+carriedOut (withdraw document) m = record { rows = map (withdrawRow document) (m .rows); built = m .built }
 carriedOut build m = record { rows = m .rows; built = true }
 
 -- 'A refused call leaves the book as it is.'
@@ -140,11 +153,15 @@ changedBy Fine c m = carriedOut c m
 -- ---- the search over the rows and their tree: no list of a store occurs in it
 
 abbrev pub noRow : ModelRow
-noRow = record { document = 0; vector = []; names = [] }
+noRow = record { document = 0; vector = []; names = []; live = false }
 
 -- the hit of the row with a number: 'Distances are from the normalised query to the lines' vectors'
 unfoldable pub rowHit : Model → List Float → ℕ → ℕ
 rowHit m query i = hitOf (distance query (getD (m .rows) i noRow .vector)) (getD (m .rows) i noRow .document) i
+
+-- whether the row of a hit is live: 'Every search .. gives only live vectors' (02, K10)
+unfoldable pub rowLive : Model → ℕ → Bool
+rowLive m hit = getD (m .rows) (vectorOf hit) noRow .live
 
 -- what the rows have of an entry
 abbrev pub rowRead : Model → EntryRead
@@ -206,23 +223,23 @@ pub data Expected : Type 0 where
   answers : Answer → Expected
   nothing : Expected
 
--- 'Any other search is answered': by the defined walk's first k
-unfoldable pub answered : ℕ → State → Expected
-unfolding answer
-answered k damaged = nothing
-answered k (going p) = answers (answer k p)
+-- 'Any other search is answered': by the defined walk's first k that are live
+unfoldable pub answered : Model → ℕ → State → Expected
+unfolding answer rowLive
+answered m k damaged = nothing
+answered m k (going p) = answers (answer (rowLive m) k p)
 
 -- a search that is refused, and one that is not
-unfoldable pub searchedBy : Check → ℕ → State → Expected
+unfoldable pub searchedBy : Model → Check → ℕ → State → Expected
 unfolding answered
-searchedBy Fine k walked = answered k walked
-searchedBy (Refused r) k walked = returns (number r)
+searchedBy m Fine k walked = answered m k walked
+searchedBy m (Refused r) k walked = returns (number r)
 
 -- what is expected of a call that is put to a model
 unfoldable pub expected : Setting → Model → Call → Expected
 unfolding changeCheck modelSearchCheck modelWalk searchedBy
 expected s m (change fronts work c) = returns (checkNumber (changeCheck s m fronts (length work) c))
-expected s m (search fronts work call) = searchedBy (modelSearchCheck s m fronts (length work) call) (call .k) (modelWalk s m (call .question))
+expected s m (search fronts work call) = searchedBy m (modelSearchCheck s m fronts (length work) call) (call .k) (modelWalk s m (call .question))
 
 -- the model after a call: 'Any other search is answered and writes nothing'
 unfoldable pub after : Setting → Model → Call → Model

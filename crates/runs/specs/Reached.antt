@@ -21,17 +21,16 @@ use Rattle.curator.specs.Rows.{searchRows}
 use Rattle.curator.specs.RowLaws.{number-positive}
 use Rattle.curator.specs.Arguments.{SearchCall, askingOf}
 use Rattle.curator.specs.Searches.{Searches}
-use Rattle.runs.specs.Calls.{Change, add, take-back, build, Call, change, search, Typed, TypedCall}
-use Rattle.runs.specs.Model.{Setting, Model, emptyModel, modelFacts, changeRows, changeCheck, changedBy, modelSearchCheck, modelCheck, modelWalk, returns, searchedBy, answered, expected, after, modelFrom}
+use Rattle.runs.specs.Calls.{Change, add, take-back, withdraw, build, Call, change, search, Typed, TypedCall}
+use Rattle.runs.specs.Model.{Setting, Model, emptyModel, rowLive, modelFacts, changeRows, changeCheck, changedBy, modelSearchCheck, modelCheck, modelWalk, returns, searchedBy, answered, expected, after, modelFrom}
 use Rattle.runs.specs.Run.{Ended, changed, found, nextIndex, Changes, ChangeStep, SearchStep, Step, RunFrom, done, next, indexAfter, storeAfter, Run}
 use Rattle.runs.specs.Theorem.{endNumber, Reply, AnsweredWith, replyOf, Matches, AtEach, NeverDamaged}
 use Rattle.runs.specs.State.{Allowed, Within, Small, stateFor, created-is, empty-small}
-use Rattle.runs.specs.Held.{Held}
-use Rattle.runs.specs.Built.{Laid}
-use Rattle.runs.specs.Invariant.{Invariant, begins}
+use Rattle.runs.specs.Invariant.{Invariant, begins, nothing-written}
 use Rattle.runs.specs.ChangeLaws.{Other, first-other, ChangeEnds, ChangeLaws}
 use Rattle.runs.specs.Adds.{add-laws}
 use Rattle.runs.specs.TakesBack.{take-back-laws}
+use Rattle.runs.specs.Withdraws.{withdraw-laws}
 use Rattle.runs.specs.Builds.{build-laws}
 use Rattle.runs.specs.Search.{search-keeps}
 use Rattle.curator.specs.OutcomeLaws.{found-is}
@@ -41,6 +40,7 @@ use Rattle.curator.specs.OutcomeLaws.{found-is}
 pub change-laws : (c : Change) → ChangeLaws c
 change-laws (add call) = add-laws call
 change-laws take-back = take-back-laws
+change-laws (withdraw document) = withdraw-laws document
 change-laws build = build-laws
 
 -- on any index that stands for a model
@@ -77,17 +77,11 @@ pub search-step : (s : Setting) → Allowed s → (m : Model) (index : CuratorIn
 search-step s a m index store inv fronts work call end index′ store′ st =
     let whole = subst (λ (i : CuratorIndex). Invariant s m i (joinStores (st .front) (st .rest))) (inv .state) (subst (Invariant s m index) (st .whole) inv) in
     let by : Searches (stateFor s m) (st .front) work call (st .search-end) =
-    subst (λ (i : CuratorIndex). Searches i (st .front) work call (st .search-end)) (inv .state) (st .searches) in
-    let same : joinStores (st .front) (st .rest) ≡ store′ = sym (st .whole) ∙ sym (st .store-next) in (
+    subst (λ (i : CuratorIndex). Searches i (st .front) work call (st .search-end)) (inv .state) (st .searches) in (
       subst (λ (e : Ended). Matches (expected s m (search fronts work call)) (search fronts work call) e) (sym (st .ended))
           (subst (λ (lent : Lengths). Matches (expected s m (search lent work call)) (search lent work call) (found (st .search-end))) (st .lent)
           (search-keeps s a m (st .front) (st .rest) whole work call (st .search-end) by)),
-      record {
-        state = st .index-next ∙ inv .state;
-        within = inv .within;
-        held = subst (Held s m) same (whole .held);
-        laid = λ b. subst (Laid s m) same (whole .laid b);
-      },
+      nothing-written s m index index′ store store′ inv (st .index-next) (st .store-next),
     )
 
 -- document ids stay u32s
@@ -177,20 +171,20 @@ along-all s Fact m (call ∷ calls) h = (h 0, along-all s Fact (after s m call) 
 
 -- ---- the number is the model's, neither 15 nor 4
 
-search-number : (fronts : Lengths) (work : List ℕ) (call : SearchCall) (end : Ended) (check : Check) (walked : State)
-    → Matches (searchedBy check (call .k) walked) (search fronts work call) end → endNumber end ≡ checkNumber check
+search-number : (m : Model) (fronts : Lengths) (work : List ℕ) (call : SearchCall) (end : Ended) (check : Check) (walked : State)
+    → Matches (searchedBy m check (call .k) walked) (search fronts work call) end → endNumber end ≡ checkNumber check
 unfolding searchedBy answered
-search-number fronts work call (changed answer) (Check′.Refused r) walked h = absurd h
-search-number fronts work call (found end) (Check′.Refused r) walked h = h .0
-search-number fronts work call end Check′.Fine damaged h = absurd h
-search-number fronts work call (changed answer) Check′.Fine (going p) h = absurd h
-search-number fronts work call (found end) Check′.Fine (going p) h = h .0 .number-is
+search-number m fronts work call (changed answer) (Check′.Refused r) walked h = absurd h
+search-number m fronts work call (found end) (Check′.Refused r) walked h = h .0
+search-number m fronts work call end Check′.Fine damaged h = absurd h
+search-number m fronts work call (changed answer) Check′.Fine (going p) h = absurd h
+search-number m fronts work call (found end) Check′.Fine (going p) h = h .0 .number-is
 
 pub end-number : (s : Setting) (m : Model) (call : Call) (end : Ended) → Matches (expected s m call) call end → endNumber end ≡ checkNumber (modelCheck s m call)
 unfolding expected modelCheck
 end-number s m (change fronts work c) (changed answer) h = h
 end-number s m (change fronts work c) (found end) h = absurd h
-end-number s m (search fronts work call) end h = search-number fronts work call end (modelSearchCheck s m fronts (length work) call) (modelWalk s m (call .question)) h
+end-number s m (search fronts work call) end h = search-number m fronts work call end (modelSearchCheck s m fronts (length work) call) (modelWalk s m (call .question)) h
 
 call-other : (s : Setting) (m : Model) (call : Call) → Other (checkNumber (modelCheck s m call))
 unfolding modelCheck searchRows modelFacts
@@ -232,17 +226,17 @@ pub record Finds (s : Setting) (m : Model) (fronts : Lengths) (work : List ℕ) 
   pub progress : Progress
   pub check : modelSearchCheck s m fronts (length work) call ≡ Check′.Fine
   pub walked : modelWalk s m (call .question) ≡ going progress
-  pub is : reply ≡ replyOf (answer (call .k) progress) call
+  pub is : reply ≡ replyOf (answer (rowLive m) (call .k) progress) call
 
 finds-by : (s : Setting) (m : Model) (fronts : Lengths) (work : List ℕ) (call : SearchCall) (end : Ended) (reply : Reply) (check : Check) (walked : State)
     → modelSearchCheck s m fronts (length work) call ≡ check → modelWalk s m (call .question) ≡ walked
-    → Matches (searchedBy check (call .k) walked) (search fronts work call) end → AnsweredWith end reply → Finds s m fronts work call reply
+    → Matches (searchedBy m check (call .k) walked) (search fronts work call) end → AnsweredWith end reply → Finds s m fronts work call reply
 unfolding searchedBy answered
 finds-by s m fronts work call end reply (Check′.Refused r) walked e w h k =
     let z = not-refused fronts work call (number r) end reply h k in absurd (omega (arith, number-positive r, z))
 finds-by s m fronts work call end reply Check′.Fine damaged e w h k = absurd h
 finds-by s m fronts work call end reply Check′.Fine (going p) e w h k =
-    record { progress = p; check = e; walked = w; is = answered-one end reply (replyOf (answer (call .k) p) call) k h }
+    record { progress = p; check = e; walked = w; is = answered-one end reply (replyOf (answer (rowLive m) (call .k) p) call) k h }
 
 pub answered-finds : (s : Setting) (m : Model) (fronts : Lengths) (work : List ℕ) (call : SearchCall) (end : Ended) (reply : Reply)
     → Matches (expected s m (search fronts work call)) (search fronts work call) end → AnsweredWith end reply → Finds s m fronts work call reply

@@ -1,5 +1,5 @@
 -- A state of a run refuses as its model does: the rows are the same, and what they look at is the same by `stateFor` and by what is held. Row 4 never
--- holds (State.antt); an owner is a row's number, so build's 15 never does either; the tree is over the same vectors.
+-- holds (State.antt); the document ids held are the rows'; an owner is a row's number, so build's 15 never does either; the tree is over the same vectors.
 use Prim.Native.Nat.{ℕ, _≤_, _<_}
 use native.Mathlib.Omega.{arith}
 use mathlib.Core.Bool.{Bool, true, false, not, _&&_}
@@ -8,26 +8,27 @@ use mathlib.Core.Path.{_≡_, refl, sym, ap, _∙_, subst}
 use borrow.Author.Tests.{ltb-false, eqb-false, lt-ltb, not-false}
 use lib.Dec.{ltb, eqb}
 use lib.ListN.{length}
+use Rattle.lists.specs.Lists.{isIn}
 use Rattle.lists.specs.Counting.{Memᴰ-getD}
 use Rattle.lists.specs.Tests.{allPass, all-pass, or-left, or-right}
 use Rattle.store.specs.declared.Lengths.{Lengths}
 use Rattle.store.specs.Store.{Store}
-use Rattle.store.specs.Lent.{lengthsOf, Long, listsShort}
-use Rattle.store.specs.LentLaws.{lists-long}
+use Rattle.store.specs.Lent.{lengthsOf, Long, storeShort, listsShort}
+use Rattle.store.specs.LentLaws.{store-long, lists-long}
 use Rattle.tree.specs.Nodes.{Entries}
 use Rattle.tree.specs.Tree.{treeOf, size}
 use Rattle.settings.specs.declared.Check.the-variants as Check′
 use Rattle.curator.specs.Arguments.{AddCall, SearchCall, askingOf}
-use Rattle.curator.specs.Rows.{Facts, firstOf, addRows, takeBackRows, buildRows, searchRows}
+use Rattle.curator.specs.Rows.{Facts, firstOf, addRows, takeBackRows, withdrawRows, buildRows, searchRows}
 use Rattle.curator.specs.RowLaws.{NoneHolds, fine-none}
 use Rattle.curator.specs.Calls.{factsOf, heldEntries, splittingOf}
-use Rattle.curator.specs.Changes.{addCheck, takeBackCheck, buildCheck, ownersDamaged, tooManyNodes}
+use Rattle.curator.specs.Changes.{addCheck, takeBackCheck, holdsDocument, withdrawCheck, buildCheck, ownersDamaged, tooManyNodes}
 use Rattle.curator.specs.Searches.{searchCheck}
 use Rattle.curator.specs.StateLaws.{sound-passes}
-use Rattle.runs.specs.Calls.{add, take-back, build}
-use Rattle.runs.specs.Model.{Setting, Model, rowEntries, modelFacts, settingShape, nodeCount, changeCheck, modelSearchCheck}
+use Rattle.runs.specs.Calls.{add, take-back, withdraw, build}
+use Rattle.runs.specs.Model.{Setting, Model, rowDocuments, rowEntries, modelFacts, settingShape, nodeCount, changeCheck, modelSearchCheck}
 use Rattle.runs.specs.State.{Allowed, Within, stateFor, state-sound}
-use Rattle.runs.specs.Held.{Held, held-vectors, held-entries, owner-below}
+use Rattle.runs.specs.Held.{Held, held-vectors, held-documents, held-entries, owner-below}
 
 -- ---- add, take back and search
 
@@ -47,6 +48,28 @@ module _ (s : Setting) (m : Model) (a : Allowed s) (w : Within s m) (front : Sto
   unfolding searchCheck modelSearchCheck modelFacts
   search-refused work call =
       sound-passes (stateFor s m) (searchRows (factsOf (stateFor s m)) (lengthsOf front) (length work) (askingOf call)) (state-sound s m a w)
+
+-- ---- withdraw
+
+-- whether a vector held has the id does not matter where row 3 holds
+short-withdraw : (f : Facts) (lent : Lengths) (has has′ : Bool) (b : Bool) → storeShort (f .shape) lent ≡ b → (b ≡ false → has ≡ has′)
+    → firstOf (withdrawRows f lent has) ≡ firstOf (withdrawRows f lent has′)
+unfolding firstOf withdrawRows
+short-withdraw f lent has has′ true e h = rw e
+short-withdraw f lent has has′ false e h = rw (h refl)
+
+-- `held`: what the lent front holds, where it is long enough; a withdrawal is lent no work list
+pub withdraw-refused : (s : Setting) (m : Model) → Allowed s → Within s m → (front : Store) (work document : ℕ)
+    → (Long (settingShape s) (lengthsOf front) → Held s m front)
+    → withdrawCheck (stateFor s m) front document ≡ changeCheck s m (lengthsOf front) work (withdraw document)
+unfolding withdrawCheck holdsDocument changeCheck modelFacts
+withdraw-refused s m a w front work document held =
+    let index = stateFor s m in
+    let lent = lengthsOf front in
+    let has = holdsDocument index front document in
+    sound-passes index (withdrawRows (factsOf index) lent has) (state-sound s m a w)
+    ∙ short-withdraw (modelFacts s m) lent has (isIn document (rowDocuments m)) (storeShort (settingShape s) lent) refl
+    (λ e. ap (isIn document) (held-documents s m front (held (store-long (settingShape s) lent e))))
 
 -- ---- build
 

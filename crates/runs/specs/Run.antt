@@ -8,10 +8,10 @@ use Rattle.store.specs.Lent.{lengthsOf, joinStores}
 use Rattle.curator.specs.declared.CuratorIndex.{CuratorIndex}
 use Rattle.curator.specs.declared.Changed.{Changed}
 use Rattle.curator.specs.declared.Changed.the-variants.{Index, Refused}
-use Rattle.curator.specs.Changes.{Creates, Adds, TakesBack, Builds}
+use Rattle.curator.specs.Changes.{Creates, Adds, TakesBack, Withdraws, Builds}
 use Rattle.curator.specs.Searches.{SearchEnd, Searches}
 use Rattle.curator.specs.Arguments.{SearchCall}
-use Rattle.runs.specs.Calls.{Change, add, take-back, build, Call, change, search, Typed}
+use Rattle.runs.specs.Calls.{Change, add, take-back, withdraw, build, Call, change, search, Typed}
 use Rattle.runs.specs.Model.{Setting}
 
 -- what a call ended with: the answer; a search also with its answer lists
@@ -33,6 +33,7 @@ nextIndex index (Refused r) = index
 abbrev pub Changes : Change → CuratorIndex → Store → List ℕ → Changed → Store → List ℕ → Type 0
 Changes (add call) index store work answer store′ work′ = Adds index store call answer store′
 Changes take-back index store work answer store′ work′ = TakesBack index store answer × (store′ ≡ store)
+Changes (withdraw document) index store work answer store′ work′ = Withdraws index store document answer store′
 Changes build index store work answer store′ work′ = Builds index store work answer store′ work′
 
 -- One call on an index and its lists: each list is a front, which is lent, and a rest, which 'stays as it was'; the step is the entry point's own

@@ -12,7 +12,7 @@ use lib.Seq.{take-length, take-suc, take-at, take-take}
 use Rattle.lists.specs.Lists.{part, countFrom}
 use Rattle.lists.specs.Counting.{countFrom-snoc, length-countFrom}
 use Rattle.store.specs.declared.Lengths.{Lengths}
-use Rattle.store.specs.Store.{Store, vectorAt, startsAt, lengthsAt, entryStart}
+use Rattle.store.specs.Store.{Store, vectorAt, startsAt, lengthsAt, liveAt, entryStart}
 use Rattle.label.specs.Names.{startsFrom, lengthsOfNames, bytesOfNames}
 use Rattle.label.specs.NameLaws.{length-hashesOfLabels}
 use Rattle.label.specs.TextLaws.{length-starts, length-lengths, start-append}
@@ -36,9 +36,9 @@ use Rattle.runs.specs.Model.{Setting, Model, ModelRow, noRow, struck, ha
 use Rattle.runs.specs.Run.{nextIndex}
 use Rattle.runs.specs.Theorem.{withBudget}
 use Rattle.runs.specs.State.{Allowed, Within, Small, stateFor, nodesHeld, no-nodes}
-use Rattle.runs.specs.Held.{Held, withRow, length-rows, vectors-more, hashes-more, names-more, bytes-more, text-more, starts-more, lengths-more, names-length, owners-more, owners-below, owners-length, length-vectors}
+use Rattle.runs.specs.Held.{Held, liveMark, withRow, length-rows, vectors-more, hashes-more, names-more, bytes-more, text-more, starts-more, lengths-more, names-length, owners-more, owners-below, owners-length, length-vectors}
 use Rattle.runs.specs.Refusals.{take-back-refused}
-use Rattle.runs.specs.Invariant.{Invariant, held-front}
+use Rattle.runs.specs.Invariant.{Invariant, nothing-written, held-front}
 use Rattle.runs.specs.ChangeLaws.{Others, ChangeEnds, ChangeOutcome, ChangeLaws}
 
 -- ---- the model is one without its last row, and that row
@@ -116,6 +116,9 @@ module _ (s : Setting) (m : Model) (r : ModelRow) (store : Store) (h : Held s (w
             front-is (drop (lengthsAt (settingShape s)) (store .numbers)) (lengthsOfNames (rowNames m)) (lengthsOfNames (r .names))
             (length (rowHashes m)) (length (rowHashes (withRow m r))) (length-lengths (rowNames m) ∙ names-length m) (omega arith) (h .lengths ∙ lengths-more m r);
         text = kept-text;
+        live =
+            front-is (drop (liveAt (settingShape s)) (store .numbers)) (map liveMark (m .rows)) (liveMark r ∷ []) (length (m .rows)) (length (withRow m r .rows))
+            (length-map (m .rows) liveMark) (omega arith) (h .live ∙ map-append liveMark (m .rows) (r ∷ []));
       }
 
   pub last-entries : lastEntries (stateFor s (withRow m r)) store ≡ length (hashesIn r)
@@ -204,12 +207,9 @@ module _ (s : Setting) (allowed : Allowed s) (m : Model) (front rest : Store) (a
   unfolding TakesBackBy changedBy carriedOut nextIndex
   ends (Check′.Refused r) e by = (
     by .number-is,
-    record {
-      state = ap (nextIndex (stateFor s m)) (refused-is r answer by);
-      within = inv .within;
-      held = inv .held;
-      laid = inv .laid;
-    },
+    nothing-written s m (stateFor s m) (nextIndex (stateFor s m) answer) (joinStores front rest) (joinStores front rest) inv
+        (ap (nextIndex (stateFor s m)) (refused-is r answer by))
+        refl,
   )
   ends Check′.Fine e by = (by .number-is, fine-ends (can-take-back (stateFor s m) front e) by)
 

@@ -117,9 +117,15 @@ unfolding hasLabel
 carries everything r = true
 carries (labelled name) r = hasLabel name (r .names)
 
-unfoldable pub about : Question → Model → List ModelRow
+-- the rows that carry what is searched for
+unfoldable pub carrying : Question → Model → List ModelRow
 unfolding keep carries
-about question m = keep (carries (question .asked)) (m .rows)
+carrying question m = keep (carries (question .asked)) (m .rows)
+
+-- 'whole answers are read over live vectors' (02, K10)
+unfoldable pub about : Question → Model → List ModelRow
+unfolding keep carrying
+about question m = keep (λ r. r .live) (carrying question m)
 
 -- 'Distances are from the normalised query to the lines' vectors and rank in total order.'
 abbrev pub rowDistance : Question → ModelRow → Float

@@ -21,13 +21,13 @@ use Rattle.curator.specs.declared.CuratorIndex.{CuratorIndex}
 use Rattle.curator.specs.Arguments.{AddCall}
 use Rattle.curator.specs.Rows.{firstOf, addRows, takeBackRows}
 use Rattle.curator.specs.RowLaws.{fine-none, zero-fine}
-use Rattle.curator.specs.Calls.{heldDocuments, heldStarts, heldLengths, heldText, SameOfIndex}
+use Rattle.curator.specs.Calls.{heldStarts, heldLengths, heldText, SameOfIndex}
 use Rattle.runs.specs.Calls.{add, take-back, Call, change}
 use Rattle.runs.specs.Model.{Setting, Model, emptyModel, newRow, settingShape, modelFacts, changeCheck, modelCheck, changedBy, carriedOut, after, modelFrom}
 use Rattle.runs.specs.Run.{Ended, Step, indexAfter, storeAfter, Run}
 use Rattle.runs.specs.Theorem.{endNumber}
 use Rattle.runs.specs.State.{Allowed, stateFor}
-use Rattle.runs.specs.Held.{Held, withRow, length-rows, held-vectors, held-entries}
+use Rattle.runs.specs.Held.{Held, withRow, length-rows, held-vectors, held-documents, held-entries, held-marks}
 use Rattle.runs.specs.Invariant.{Invariant}
 use Rattle.runs.specs.TakesBack.{struck-row}
 use Rattle.runs.specs.Reached.{run-allowed, reached, step-keeps, end-number}
@@ -37,7 +37,7 @@ use Rattle.runs.specs.Reached.{run-allowed, reached, step-keeps, end-num
 pub record Undone (s : Setting) (fronts : Lengths) (end : Ended) (index : CuratorIndex) (store store′ : Store) (index″ : CuratorIndex) (store″ : Store) : Type 0 where
   -- the taking back is accepted where it is lent what add is, and refused with 3 where it is not
   pub number : endNumber end ≡ cond (storeShort (settingShape s) fronts) 3 0
-  -- accepted, 'counts and the vectors, ids, owners and hashes held are those before that add', and with K4 starts, lengths and text
+  -- accepted, 'counts and the vectors, ids, owners and hashes held are those before that add', and with K4 starts, lengths and text, with K10 live marks
   pub state : endNumber end ≡ 0 → index″ ≡ index
   pub held : endNumber end ≡ 0 → SameOfIndex index store″ store
   -- 'and places past the counts keep their numbers': no list is written
@@ -57,16 +57,17 @@ AddUndone s calls =
 -- two stores that hold the rows of one model
 same-held : (s : Setting) (m : Model) (index : CuratorIndex) (store store′ : Store) → index ≡ stateFor s m → Held s m store → Held s m store′
     → SameOfIndex index store store′
-unfolding heldDocuments heldStarts heldLengths heldText
+unfolding heldStarts heldLengths heldText
 same-held s m index store store′ e h h′ =
     subst (λ (i : CuratorIndex). SameOfIndex i store store′) (sym e)
     (record {
       vectors = held-vectors s m store h ∙ sym (held-vectors s m store′ h′);
-      documents = h .documents ∙ sym (h′ .documents);
+      documents = held-documents s m store h ∙ sym (held-documents s m store′ h′);
       entries = held-entries s m store h ∙ sym (held-entries s m store′ h′);
       starts = h .starts ∙ sym (h′ .starts);
       lengths = h .lengths ∙ sym (h′ .lengths);
       text = h .text ∙ sym (h′ .text);
+      marks = held-marks s m store h ∙ sym (held-marks s m store′ h′);
     })
 
 -- What is held is the model's alone: runs of other calls, from other lists, that come to one model have the same state and hold the same. So a taking back

@@ -1,9 +1,10 @@
 -- The store's view and the view of the rows' tree are the same at every node number: a node's six numbers, blocks, filter and centroid are read back
--- from the layout, and its hits from what is held. So both walks are one, and nothing that a run has built shows damage.
+-- from the layout, and its hits from what is held. So both walks are one, and nothing that a run has built shows damage. Both strike the same hits, by the
+-- live marks that are held.
 use Prim.Native.Nat.{ℕ, zero, suc, _+_, _-_, _*_, _^_, _≤_, _<_}
 use native.Mathlib.Nat.{mul-comm, add-mul, mul-le-mul-right, suc-mul, zero-add}
 use native.Mathlib.Omega.{arith}
-use mathlib.Core.Bool.{Bool, true, _&&_, cond}
+use mathlib.Core.Bool.{Bool, true, false, not, _&&_, cond}
 use mathlib.Core.List.{List, [], _∷_, map, List·Memᴰ}
 use mathlib.Core.Path.{_≡_, refl, sym, ap, ap₂, _∙_, subst}
 use borrow.Author.Tests.{le-leb, lt-ltb, eq-eqb, ne-eqb}
@@ -30,15 +31,15 @@ use Rattle.tree.specs.NumberedNodes.{node-entries, node-children}
 use Rattle.tree.specs.LayoutLaws.{blockAt, row-read, start-read, start-end, six-getD, sixOf, length-sixFrom, length-blocks}
 use Rattle.walk.specs.Walk.{Shown, children, hits, damage, shown, walk}
 use Rattle.walk.specs.SameWalkLaws.{same-below}
-use Rattle.walk.specs.Answer.{hitOf}
+use Rattle.walk.specs.Answer.{vectorOf, hitOf, isLive}
 use Rattle.walk.specs.Wanted.{Sought, LeafList, vector-list, entry-list, denies, listRead, passes, given, heldIn}
 use Rattle.walk.specs.WantedLaws.{Reading, SameNumber, numbers-same, passes-same, given-same, given-read}
-use Rattle.walk.specs.StoreView.{blockHeld, hitAt, fieldOf, partOf, endIn, entryRead, childrenShown, listShown, leafShown, nodeShown, storeView}
+use Rattle.walk.specs.StoreView.{blockHeld, hitAt, fieldOf, partOf, endIn, entryRead, childrenShown, listShown, leafShown, nodeShown, liveIn, storeView}
 use Rattle.walk.specs.StoreViewLaws.{store-shown, store-children-below}
 use Rattle.curator.specs.Calls.{splittingOf}
-use Rattle.runs.specs.Model.{Setting, Model, noRow, rowHashes, rowNames, rowBytes, rowVectors, rowEntries, nodeCount, modelNodes, modelCounts, settingShape, rowHit, rowRead, nodeList, leafHits, nodeGives, treeView}
+use Rattle.runs.specs.Model.{Setting, Model, ModelRow, noRow, rowHashes, rowNames, rowBytes, rowVectors, rowEntries, nodeCount, modelNodes, modelCounts, settingShape, rowHit, rowLive, rowRead, nodeList, leafHits, nodeGives, treeView}
 use Rattle.runs.specs.State.{Allowed, Within, limits, some-nodes}
-use Rattle.runs.specs.Held.{Held, owner-below, owners-length, names-length, length-vectors}
+use Rattle.runs.specs.Held.{Held, liveMark, owner-below, owners-length, names-length, length-vectors}
 use Rattle.runs.specs.Built.{StandsAt, Laid, NodeFacts}
 use Rattle.runs.specs.WantedLaws.{held-passes}
 
@@ -377,3 +378,24 @@ module _ (s : Setting) (m : Model) (store : Store) (a : Allowed s) (w : Within s
       ∙ ap₂ (λ (f : List ℕ) (sh : Shown). cond (denies wanted f) (hits []) sh) (filter-at i (within i h)) (node-shown query wanted i (within i h) h)
       ∙ sym (tree-shown s m query wanted i))
       ef
+
+-- ---- the hits that are struck
+
+-- past the rows there is no mark, and no live row
+mark-at : (rows : List ModelRow) (i : ℕ) → getD (map liveMark rows) i 0 ≡ liveMark (getD rows i noRow)
+mark-at [] i = refl
+mark-at (r ∷ rows) zero = refl
+mark-at (r ∷ rows) (suc i) = mark-at rows i
+
+-- '0 is withdrawn, anything else live'
+mark-live : (live : Bool) → not (eqb (cond live 1 0) 0) ≡ live
+mark-live true = refl
+mark-live false = refl
+
+pub same-live : (s : Setting) (m : Model) (store : Store) → Held s m store → liveIn (settingShape s) (modelCounts s m) store ≡ rowLive m
+unfolding isLive rowLive
+same-live s m store held =
+    let at : (hit : ℕ) → liveIn (settingShape s) (modelCounts s m) store hit ≡ rowLive m hit = λ hit.
+    (ap (λ (marks : List ℕ). not (eqb (getD marks (vectorOf hit) 0) 0)) (held .live)
+    ∙ ap (λ (mark : ℕ). not (eqb mark 0)) (mark-at (m .rows) (vectorOf hit)) ∙ mark-live (getD (m .rows) (vectorOf hit) noRow .live)) in
+    λ i hit. at hit i

@@ -133,12 +133,12 @@ carried-is (labelled name) r = has-is name (r .names)
 -- ---- all rows
 
 -- the numbers of the rows that carry what is wanted, from a first number on
-unfoldable pub numbersAbout : Sought → ℕ → List ModelRow → List ℕ
-numbersAbout wanted i [] = []
-numbersAbout wanted i (r ∷ rows) = let rest = numbersAbout wanted (suc i) rows in cond (carried wanted r) (i ∷ rest) rest
+unfoldable pub numbersCarrying : Sought → ℕ → List ModelRow → List ℕ
+numbersCarrying wanted i [] = []
+numbersCarrying wanted i (r ∷ rows) = let rest = numbersCarrying wanted (suc i) rows in cond (carried wanted r) (i ∷ rest) rest
 
-numbers-all : (i : ℕ) (rows : List ModelRow) → numbersAbout all-vectors i rows ≡ countFrom i (length rows)
-unfolding numbersAbout carried countFrom
+numbers-all : (i : ℕ) (rows : List ModelRow) → numbersCarrying all-vectors i rows ≡ countFrom i (length rows)
+unfolding numbersCarrying carried countFrom
 numbers-all i [] = refl
 numbers-all i (r ∷ rows) = ap (λ (l : List ℕ). i ∷ l) (numbers-all (suc i) rows)
 
@@ -218,8 +218,8 @@ hashes-long r = length-hashesOfLabels (r .names)
 
 select-rows : (hash : ℕ) (name : List ℕ) (i : ℕ) (rows : List ModelRow)
     → ((r : ModelRow) → List·Memᴰ r rows → NoTwo (λ (a b : List ℕ). sameLabel a b ≡ true) (r .names))
-    → select (isBoth hash name) (ownersFrom i rows) (joined (λ r. r .names) rows) ≡ numbersAbout (with-label hash name) i rows
-unfolding ownersFrom joined numbersAbout carried select
+    → select (isBoth hash name) (ownersFrom i rows) (joined (λ r. r .names) rows) ≡ numbersCarrying (with-label hash name) i rows
+unfolding ownersFrom joined numbersCarrying carried select
 select-rows hash name i [] d = refl
 select-rows hash name i (r ∷ rows) d =
     ap (λ (k : ℕ). select (isBoth hash name) (replicate k i ++ ownersFrom (suc i) rows) (r .names ++ joined (λ t. t .names) rows)) (hashes-long r)
@@ -258,7 +258,7 @@ rows-select m hash name = refl
 
 entries-rows : (m : Model) (hash : ℕ) (name : List ℕ)
     → ((r : ModelRow) → List·Memᴰ r (m .rows) → NoTwo (λ (a b : List ℕ). sameLabel a b ≡ true) (r .names))
-    → map (rowRead m .owner) (keep (isLabels (rowRead m) hash name) (countFrom 0 (length (rowHashes m)))) ≡ numbersAbout (with-label hash name) 0 (m .rows)
+    → map (rowRead m .owner) (keep (isLabels (rowRead m) hash name) (countFrom 0 (length (rowHashes m)))) ≡ numbersCarrying (with-label hash name) 0 (m .rows)
 unfolding rowEntries
 entries-rows m hash name d =
     let n = length (rowNames m) in
@@ -272,7 +272,7 @@ entries-rows m hash name d =
 
 -- over all rows those that carry what is wanted are given
 pub given-all : (wanted : Sought) (m : Model) → ((r : ModelRow) → List·Memᴰ r (m .rows) → NoTwo (λ (a b : List ℕ). sameLabel a b ≡ true) (r .names))
-    → given wanted (rowRead m) (listOver (listRead wanted) m (countFrom 0 (length (m .rows)))) ≡ numbersAbout wanted 0 (m .rows)
+    → given wanted (rowRead m) (listOver (listRead wanted) m (countFrom 0 (length (m .rows)))) ≡ numbersCarrying wanted 0 (m .rows)
 unfolding given listOver
 given-all all-vectors m d = sym (numbers-all 0 (m .rows))
 given-all (with-label hash name) m d =

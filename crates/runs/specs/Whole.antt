@@ -24,7 +24,7 @@ use Rattle.settings.specs.Refusals.{checkNumber}
 use Rattle.curator.specs.Searches.{wantedOf}
 use Rattle.curator.specs.Arguments.{Question}
 use Rattle.runs.specs.Calls.{Call, change, search}
-use Rattle.runs.specs.Model.{Setting, Model, ModelRow, changeCheck, expected}
+use Rattle.runs.specs.Model.{Setting, Model, ModelRow, rowLive, changeCheck, expected}
 use Rattle.runs.specs.Run.{Ended}
 use Rattle.runs.specs.Theorem.{Reply, Matches, Distinct, rowDistance, NoLaterRow, InOrder, Reference, FirstOf, WholeIsFirst, Marked}
 use Rattle.runs.specs.State.{Allowed, Within, Small}
@@ -80,43 +80,43 @@ module _ (s : Setting) (m : Model) (a : Allowed s) (w : Within s m) (d : Distinc
 
   module _ (b : ℕ) (p : Progress) (e : walk (searchView s m question) b ≡ going p) (f : whole p ≡ true) (k : ℕ) where
     -- the ranks of a whole walk's hits are those of the reference list
-    ranks-same : map hitRank (ranked p) ≡ map (rowRank question) reference
+    ranks-same : map hitRank (ranked (rowLive m) p) ≡ map (rowRank question) reference
     ranks-same =
-        let all : ranked p ≡ sort (hitsAbout m question) = found-ranked s m a w d small question b p e ∙ found-whole s m a w d small question b p e f in
+        let all : ranked (rowLive m) p ≡ sort (hitsAbout m question) = found-ranked s m a w d small question b p e (rowLive m) ∙ found-whole s m a w d small question b p e f in
         ap (map hitRank) all
         ∙ sorted-unique (sorted-ranks (sort (hitsAbout m question)) (sort-sorted (hitsAbout m question))) (sorted-rows question reference low (ref .ordered))
         (List·Permᴰ·trans (Permᴰ·map hitRank (Permᴰ·symm (sort-perm (hitsAbout m question))))
         (List·Permᴰ·trans (perm-of-eq (ranks-about s m a w question)) (Permᴰ·map (rowRank question) (Permᴰ·symm (ref .same)))))
 
-    first-ranks : map hitRank (take k (ranked p)) ≡ map (rowRank question) (take k reference)
-    first-ranks = map-take hitRank k (ranked p) ∙ ap (take k) ranks-same ∙ sym (map-take (rowRank question) k reference)
+    first-ranks : map hitRank (take k (ranked (rowLive m) p)) ≡ map (rowRank question) (take k reference)
+    first-ranks = map-take hitRank k (ranked (rowLive m) p) ∙ ap (take k) ranks-same ∙ sym (map-take (rowRank question) k reference)
 
     first-low : (r : ModelRow) → List·Memᴰ r (take k reference) → r .document < 2 ^ 32
     first-low r n = low r (take-Memᴰ k reference n)
 
-    first-documents : map documentOf (take k (ranked p)) ≡ map (λ r. r .document) (take k reference)
+    first-documents : map documentOf (take k (ranked (rowLive m) p)) ≡ map (λ r. r .document) (take k reference)
     first-documents =
         let rows = take k reference in
-        sym (map-map (λ n. n % 2 ^ 32) hitRank (take k (ranked p))) ∙ ap (map (λ n. n % 2 ^ 32)) first-ranks
+        sym (map-map (λ n. n % 2 ^ 32) hitRank (take k (ranked (rowLive m) p))) ∙ ap (map (λ n. n % 2 ^ 32)) first-ranks
         ∙ map-map (λ n. n % 2 ^ 32) (rowRank question) rows
         ∙ map-on (λ r. rowRank question r % 2 ^ 32) (λ r. r .document) rows (λ r n. rank-document question r (first-low r n))
 
-    first-distances : map distanceOf (take k (ranked p)) ≡ map (rowDistance question) (take k reference)
+    first-distances : map distanceOf (take k (ranked (rowLive m) p)) ≡ map (rowDistance question) (take k reference)
     first-distances =
         let rows = take k reference in
-        let hits = take k (ranked p) in
+        let hits = take k (ranked (rowLive m) p) in
         map-on distanceOf (λ h. ofKey (hitRank h / 2 ^ 32)) hits (λ h n. hit-distance h)
         ∙ sym (map-map (λ n. ofKey (n / 2 ^ 32)) hitRank hits) ∙ ap (map (λ n. ofKey (n / 2 ^ 32))) first-ranks
         ∙ map-map (λ n. ofKey (n / 2 ^ 32)) (rowRank question) rows
         ∙ map-on (λ r. ofKey (rowRank question r / 2 ^ 32)) (rowDistance question) rows (λ r n. rank-distance question r (first-low r n))
 
-    pub first-of : (ids : List ℕ) (distances : List Float) (reply : Reply) → Listed k ids distances p reply → k ≤ length ids → k ≤ length distances
+    pub first-of : (ids : List ℕ) (distances : List Float) (reply : Reply) → Listed (rowLive m) k ids distances p reply → k ≤ length ids → k ≤ length distances
         → FirstOf question k reference reply
     first-of ids distances reply l ids-room distances-room =
-        let hs = take k (ranked p) in
+        let hs = take k (ranked (rowLive m) p) in
         let n : length hs ≡ length (take k reference) =
         sym (length-map hs hitRank) ∙ ap length first-ranks ∙ length-map (take k reference) (rowRank question) in
-        let most = length-take k (ranked p) in
+        let most = length-take k (ranked (rowLive m) p) in
         let i : length (map documentOf hs) ≡ length hs = length-map hs documentOf in
         let j : length (map distanceOf hs) ≡ length hs = length-map hs distanceOf in
         record {
@@ -136,7 +136,7 @@ module _ (s : Setting) (a : Allowed s) (m : Model) (w : Within s m) where
   call-whole d small (change fronts work c) end h = tt
   call-whole d small (search fronts work call) end h = λ reply g e reference ref.
       (let x : Finds s m fronts work call reply = answered-finds s m fronts work call end reply h g in
-      let l = reply-listed call (x .progress) reply (x .is) in
+      let l = reply-listed (rowLive m) call (x .progress) reply (x .is) in
       let room : SearchRoom s m fronts call = search-room s m fronts (length work) call (x .check) in
       first-of s m a w d small (call .question) reference ref (s .params .«ef_search») (x .progress) (sym (walk-is s m (call .question)) ∙ x .walked)
       (sym (l .whole-is) ∙ e) (call .k) (call .ids) (call .distances) reply l (room .ids) (room .distances))
@@ -148,6 +148,6 @@ module _ (s : Setting) (a : Allowed s) (m : Model) (w : Within s m) where
       (let x : Finds s m fronts work call reply = answered-finds s m fronts work call end reply h g in
       let query = normalized (call .question .query) in
       let wanted = wantedOf (call .question .asked) in
-      reply-listed call (x .progress) reply (x .is) .whole-is
+      reply-listed (rowLive m) call (x .progress) reply (x .is) .whole-is
       ∙ sound-enough (searchView s m (call .question)) (dueBelow s m query wanted) (sizeAt s m) (IsNode s m) (sound-tree s m a w query wanted) (s .params .«ef_search») (x .progress)
       (subst (λ (n : ℕ). n ≤ s .params .«ef_search») (sym (root-size s m a w)) enough) (sym (walk-is s m (call .question)) ∙ x .walked))

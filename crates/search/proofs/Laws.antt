@@ -16,7 +16,7 @@ use Rattle.walk.specs.declared.Searched.{Searched}
 use Rattle.walk.specs.Wanted.{Sought}
 use Rattle.walk.specs.Contracts.{Works, SearchEnds, SearchGives}
 use Rattle.best_first_search.specs.Ranks.{SearchLent}
-use Rattle.walk.specs.StoreView.{storeView}
+use Rattle.walk.specs.StoreView.{liveIn, storeView}
 use Rattle.walk.specs.Walk.{State, damaged, going, walk}
 use Rattle.settings.specs.declared.Check.{Check}
 use Rattle.settings.specs.declared.Check.the-variants.{Fine}
@@ -92,13 +92,13 @@ searches-by index store work call end check e h = subst (λ (c : Check). Searche
 pub freed : (s : Shape) (work work′ : List ℕ) → workSize s ≤ length work → Works s work work′ → Freed (workPart s ∷ []) work work′
 freed s work work′ room w = alike-freed (workPart s) work work′ (omega (arith, room)) (w .size) (w .alike)
 
-pub walked-to : (state : State) (index : CuratorIndex) (work : List ℕ) (call : SearchCall) (searched : Searched) (end : SearchEnd)
+pub walked-to : (state : State) (test : ℕ → Bool) (index : CuratorIndex) (work : List ℕ) (call : SearchCall) (searched : Searched) (end : SearchEnd)
     → end .answer ≡ foundOf searched → Freed (workPart (indexShape index) ∷ []) work (end .work)
-    → SearchEnds state (call .k) searched (call .ids) (end .ids) (call .distances) (end .distances) → WalkedTo state index work call end
+    → SearchEnds state test (call .k) searched (call .ids) (end .ids) (call .distances) (end .distances) → WalkedTo state test index work call end
 unfolding WalkedTo
-walked-to damaged index work call searched end a f h =
+walked-to damaged test index work call searched end a f h =
     record { answer = is-search-refused _ _ (a ∙ ap foundOf (h .is)); work = f; ids = h .ids-kept; distances = h .distances-kept }
-walked-to (going p) index work call searched end a f h =
+walked-to (going p) test index work call searched end a f h =
     record { answer = is-found _ _ _ _ (a ∙ ap foundOf (h .is)); work = f; ids = h .ids-are; distances = h .distances-are }
 
 -- ---- a search that is ready
@@ -133,7 +133,8 @@ walked-of index store work call end s squares query stored wanted searched es eq
       query = stored;
       normalized = subst (λ (f : Float). Normalized f (call .question .query) stored) ed normal;
       walked =
-          walked-to (viewed (indexShape index) stored (wantedOf (call .question .asked))) index work call searched end answers
+          walked-to (viewed (indexShape index) stored (wantedOf (call .question .asked))) (liveIn (indexShape index) (index .counts) store) index work call searched end answers
           (freed (indexShape index) work (end .work) room (subst (λ (s : Shape). Works s work (end .work)) es (h .works)))
-          (subst (λ (t : State). SearchEnds t (call .k) searched (call .ids) (end .ids) (call .distances) (end .distances)) same (h .ends));
+          (subst (λ (t : State). SearchEnds t (liveIn (indexShape index) (index .counts) store) (call .k) searched (call .ids) (end .ids) (call .distances) (end .distances)) same
+          (subst (λ (s′ : Shape). SearchEnds (viewed s query wanted) (liveIn s′ (index .counts) store) (call .k) searched (call .ids) (end .ids) (call .distances) (end .distances)) es (h .ends)));
     }

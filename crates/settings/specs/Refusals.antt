@@ -9,7 +9,7 @@ use Rattle.settings.specs.declared.refusal.SettingsRefusal.the-variants.
 use Rattle.settings.specs.declared.refusal.StateRefusal.{StateRefusal}
 use Rattle.settings.specs.declared.refusal.StateRefusal.the-variants.{InvalidState, AlreadyBuilt, NotBuilt, EmptyIndex, NoVectorHeld}
 use Rattle.settings.specs.declared.refusal.InputRefusal.{InputRefusal}
-use Rattle.settings.specs.declared.refusal.InputRefusal.the-variants.{DimensionMismatch, NonFiniteInput, LabelLengths, AnswerTooShort, BadRecord, SettingsOrder, FileTooLong}
+use Rattle.settings.specs.declared.refusal.InputRefusal.the-variants.{DimensionMismatch, NonFiniteInput, LabelLengths, AnswerTooShort, BadRecord, SettingsOrder, FileTooLong, UnknownDocument}
 use Rattle.settings.specs.declared.refusal.StoreRefusal.{StoreRefusal}
 use Rattle.settings.specs.declared.refusal.StoreRefusal.the-variants.{ListTooShort, VectorsFull, EntriesFull, NodesFull, Damaged, TextFull}
 
@@ -32,6 +32,7 @@ inputNumber AnswerTooShort = 14
 inputNumber BadRecord = 16
 inputNumber SettingsOrder = 17
 inputNumber FileTooLong = 18
+inputNumber UnknownDocument = 24
 
 abbrev pub storeNumber : StoreRefusal → ℕ
 storeNumber ListTooShort = 3

@@ -48,6 +48,7 @@ pub enum InputRefusal {
     BadRecord,
     SettingsOrder,
     FileTooLong,
+    UnknownDocument,
 }
 
 impl InputRefusal {
@@ -62,6 +63,7 @@ impl InputRefusal {
             InputRefusal::BadRecord => 16,
             InputRefusal::SettingsOrder => 17,
             InputRefusal::FileTooLong => 18,
+            InputRefusal::UnknownDocument => 24,
         }
     }
 }

@@ -48,8 +48,8 @@ abbrev pub floatsSize : Shape → ℕ
 floatsSize s = s .dimension * (s .vectors + s .nodes + s .branching)
 
 -- 'Numbers (u32): 2V + 2E + 7M: document ids, entry owners, leaf order of vectors, six per node (start and count of children, vectors, entries),
--- child links, leaf order of entries'; and 'an entry also has its start, the bytes held before it, and its length, two lists of E at the end of the
--- numbers' (02, K4).
+-- child links, leaf order of entries'; 'an entry also has its start, the bytes held before it, and its length, two lists of E at the end of the
+-- numbers' (02, K4); and 'Each vector gets a live mark, V numbers after all others' (02, K10).
 abbrev pub ownersAt : Shape → ℕ
 ownersAt s = s .vectors
 
@@ -71,8 +71,11 @@ startsAt s = 2 * s .vectors + 2 * s .entries + 7 * s .nodes
 abbrev pub lengthsAt : Shape → ℕ
 lengthsAt s = 2 * s .vectors + 3 * s .entries + 7 * s .nodes
 
+abbrev pub liveAt : Shape → ℕ
+liveAt s = 2 * s .vectors + 4 * s .entries + 7 * s .nodes
+
 abbrev pub numbersSize : Shape → ℕ
-numbersSize s = 2 * s .vectors + 4 * s .entries + 7 * s .nodes
+numbersSize s = 3 * s .vectors + 4 * s .entries + 7 * s .nodes
 
 -- 'Hashes (u64): E + 4M: entry hashes, filters.'
 abbrev pub filtersAt : Shape → ℕ
@@ -139,3 +142,7 @@ entryLength s numbers entry = getD numbers (lengthsAt s + entry) 0
 
 abbrev pub entryName : Shape → List ℕ → List ℕ → ℕ → List ℕ
 entryName s numbers text entry = part (entryStart s numbers entry) (entryLength s numbers entry) text
+
+-- the live marks of so many vectors
+abbrev pub liveMarks : Shape → ℕ → List ℕ → List ℕ
+liveMarks s vectors numbers = part (liveAt s) vectors numbers

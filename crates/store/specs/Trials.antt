@@ -3,14 +3,15 @@ use Prim.Native.Nat.{ℕ}
 use mathlib.Core.List.{List, [], _∷_}
 use mathlib.Core.Path.{_≡_, refl}
 use Rattle.store.specs.declared.Shape.{Shape}
-use Rattle.store.specs.Store.{nodeField, childLinks, nodeFilter, entryName}
+use Rattle.store.specs.Store.{nodeField, childLinks, nodeFilter, entryName, liveMarks}
 
 small : Shape
 small = record { dimension = 1; branching = 1; vectors = 1; entries = 1; nodes = 3; text = 9 }
 
--- document id, owner, leaf order; the six of the root, of its child and of none; links; leaf order of entries; start and length of the entry's text
+-- document id, owner, leaf order; the six of the root, of its child and of none; links; leaf order of entries; start and length of the entry's text; live
+-- mark
 numbers : List ℕ
-numbers = 7 ∷ 0 ∷ 0 ∷ 0 ∷ 1 ∷ 0 ∷ 0 ∷ 0 ∷ 0 ∷ 0 ∷ 0 ∷ 0 ∷ 1 ∷ 0 ∷ 1 ∷ 9 ∷ 9 ∷ 9 ∷ 9 ∷ 9 ∷ 9 ∷ 1 ∷ 9 ∷ 9 ∷ 0 ∷ 2 ∷ 4 ∷ []
+numbers = 7 ∷ 0 ∷ 0 ∷ 0 ∷ 1 ∷ 0 ∷ 0 ∷ 0 ∷ 0 ∷ 0 ∷ 0 ∷ 0 ∷ 1 ∷ 0 ∷ 1 ∷ 9 ∷ 9 ∷ 9 ∷ 9 ∷ 9 ∷ 9 ∷ 1 ∷ 9 ∷ 9 ∷ 0 ∷ 2 ∷ 4 ∷ 6 ∷ []
 
 -- the entry's hash; the filters of the root, of its child and of none
 hashes : List ℕ
@@ -45,3 +46,8 @@ filter-of-child = refl
 name-of-entry : entryName small numbers (1 ∷ 2 ∷ 115 ∷ 105 ∷ 108 ∷ 116 ∷ 3 ∷ 4 ∷ 5 ∷ []) 0 ≡ 115 ∷ 105 ∷ 108 ∷ 116 ∷ []
 unfolding small numbers
 name-of-entry = refl
+
+-- the mark of the vector stands last
+marks : liveMarks small 1 numbers ≡ 6 ∷ []
+unfolding small numbers
+marks = refl

@@ -3,7 +3,7 @@
 ghost use mathlib.Core.Path.{_≡_};
 ghost use Prim.Native.Nat.{_^_, _<_};
 ghost use Rattle.store.specs.Lent.{storeShort, listsShort};
-ghost use Rattle.store.specs.Store.{Limits, centroidsAt, centresAt, floatsSize, ownersAt, orderAt, nodesAt, linksAt, entryOrderAt, startsAt, lengthsAt, numbersSize, filtersAt, hashesSize, marksAt, hitsAt, workSize};
+ghost use Rattle.store.specs.Store.{Limits, centroidsAt, centresAt, floatsSize, ownersAt, orderAt, nodesAt, linksAt, entryOrderAt, startsAt, lengthsAt, liveAt, numbersSize, filtersAt, hashesSize, marksAt, hitsAt, workSize};
 
 // What fixes the sizes of a store: the dimension D, the branching factor B, and the capacities V, E and M and that of label text.
 pub struct Shape {
@@ -109,11 +109,18 @@ impl Shape {
         2 * self.vectors + 3 * self.entries + 7 * self.nodes
     }
 
+    pub fn live_at(self) -> usize
+        requires { ⌜ Limits self ⌝ }
+        ensures { λ r. ⌜ r ≡ liveAt self ⌝ }
+    {
+        2 * self.vectors + 4 * self.entries + 7 * self.nodes
+    }
+
     pub fn numbers_size(self) -> usize
         requires { ⌜ Limits self ⌝ }
         ensures { λ r. ⌜ r ≡ numbersSize self ⌝ }
     {
-        2 * self.vectors + 4 * self.entries + 7 * self.nodes
+        3 * self.vectors + 4 * self.entries + 7 * self.nodes
     }
 
     pub fn filters_at(self) -> usize

@@ -343,7 +343,7 @@ fn run_case(s: &[u8], at: usize) -> usize {
         return s.len();
     };
     let mut floats = [0.0f32; 9824];
-    let mut numbers = [0u32; 8340];
+    let mut numbers = [0u32; 8404];
     let mut hashes = [0u64; 4528];
     let mut text = [0u8; 384];
     let mut work = [0u32; 3684];

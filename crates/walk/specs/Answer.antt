@@ -1,10 +1,10 @@
--- Document 01, 'Search': 'Hits are sorted, adjacent equal document ids lose the later, the first k stay.'
+-- Document 01, 'Search': 'Hits are sorted, adjacent equal document ids lose the later, the first k stay.' 02, K10: 'Every search .. gives only live vectors'.
 use Prim.Native.Nat.{ℕ, _+_, _*_, _/_, _%_, _^_}
-use mathlib.Core.Bool.{Bool, true, cond}
+use mathlib.Core.Bool.{Bool, not, cond}
 use mathlib.Core.List.{List, [], _∷_, map}
 use lib.Dec.{eqb}
 use lib.Ieee.{Float}
-use lib.ListN.{length, take}
+use lib.ListN.{length, getD, take}
 use Rattle.lists.specs.Lists.{keep}
 use Rattle.record_queue.specs.Sorted.{sort}
 use Rattle.total_order.specs.TotalOrder.{keyOf, ofKey}
@@ -16,6 +16,9 @@ hitOf distance document vector = keyOf distance * 2 ^ 64 + (document * 2 ^ 32 + 
 
 abbrev pub documentOf : ℕ → ℕ
 documentOf hit = hit / 2 ^ 32 % 2 ^ 32
+
+abbrev pub vectorOf : ℕ → ℕ
+vectorOf hit = hit % 2 ^ 32
 
 unfoldable pub distanceOf : ℕ → Float
 unfolding ofKey
@@ -35,14 +38,15 @@ unfolding dropAfter
 dropRepeats [] = []
 dropRepeats (hit ∷ rest) = hit ∷ dropAfter (documentOf hit) rest
 
--- The hits of a search as they are listed: 'sorted, adjacent equal document ids lose the later', and of what is left those that pass a test.
+-- 02, K10: '0 is withdrawn, anything else live'. Whether a hit's vector is live, by the live marks of the vectors held
+unfoldable pub isLive : List ℕ → ℕ → Bool
+isLive marks hit = not (eqb (getD marks (vectorOf hit) 0) 0)
+
+-- The hits of a search as they are listed: 'sorted, adjacent equal document ids lose the later', and of what is left those that pass a test: 'adjacent
+-- repeats are dropped before withdrawn hits are struck' (02, K10).
 unfoldable pub listed : (ℕ → Bool) → List ℕ → List ℕ
 unfolding sort dropRepeats keep
 listed test found = keep test (dropRepeats (sort found))
-
--- every hit stays
-abbrev pub everyHit : ℕ → Bool
-everyHit hit = true
 
 -- 'The answer carries the hit count, the nodes opened, and whole or cut'; its hits are document ids and distances.
 pub record Answer : Type 0 where
@@ -64,11 +68,11 @@ answerOf hits k opened complete =
       complete = complete;
     }
 
--- the hits and the answer of a walk
-unfoldable pub ranked : Progress → List ℕ
+-- the hits and the answer of a walk, by a test on hits
+unfoldable pub ranked : (ℕ → Bool) → Progress → List ℕ
 unfolding listed
-ranked p = listed everyHit (p .found)
+ranked test p = listed test (p .found)
 
-unfoldable pub answer : ℕ → Progress → Answer
+unfoldable pub answer : (ℕ → Bool) → ℕ → Progress → Answer
 unfolding answerOf ranked none
-answer k p = answerOf (ranked p) k (length (p .opened)) (whole p)
+answer test k p = answerOf (ranked test p) k (length (p .opened)) (whole p)

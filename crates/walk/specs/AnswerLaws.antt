@@ -6,14 +6,14 @@ use mathlib.Core.Bool.{Bool, cond, false≢true}
 use mathlib.Core.List.{List, [], _∷_, _++_, map, map-append}
 use lib.ListN.{length, getD, take}
 use borrow.Author.Tests.{eq-eqb, ne-eqb}
-use Rattle.lists.specs.Lists.{isIn}
-use Rattle.lists.specs.Counting.{isIn-here, keep-all}
+use Rattle.lists.specs.Lists.{isIn, keep}
+use Rattle.lists.specs.Counting.{isIn-here, keep-append}
 use Rattle.lists.specs.Partition.{List·Permᴰ, Permᴰ·map, count, count-append, perm-count, Different}
 use Rattle.record_queue.specs.Sorted.{sort, NoLater}
-use Rattle.record_queue.specs.SortedLaws.{sort-perm, no-later-sort, no-later-take, no-later-at}
+use Rattle.record_queue.specs.SortedLaws.{sort-perm, sort-keep, no-later-sort, no-later-take, no-later-at}
 use Rattle.walk.specs.Walk.{Progress}
 use Rattle.walk.specs.DifferentLaws.{different-head, different-tail}
-use Rattle.walk.specs.Answer.{documentOf, dropAfter, dropRepeats, listed, everyHit, ranked}
+use Rattle.walk.specs.Answer.{documentOf, dropAfter, dropRepeats, listed, ranked}
 
 -- ---- repeats
 
@@ -39,13 +39,9 @@ pub repeats-cons : (hit : ℕ) (rest : List ℕ) → dropRepeats (hit ∷ rest) 
 unfolding dropRepeats
 repeats-cons hit rest = refl
 
-pub listed-every : (found : List ℕ) → listed everyHit found ≡ dropRepeats (sort found)
-unfolding listed
-listed-every found = keep-all everyHit (dropRepeats (sort found)) (λ x m. refl)
-
-pub ranked-is : (p : Progress) → ranked p ≡ dropRepeats (sort (p .found))
+pub ranked-is : (test : ℕ → Bool) (p : Progress) → ranked test p ≡ keep test (dropRepeats (sort (p .found)))
 unfolding ranked
-ranked-is p = listed-every (p .found)
+ranked-is test p = refl
 
 -- With different documents nothing is dropped
 drop-none : (document : ℕ) (l : List ℕ) → Different (document ∷ map documentOf l) → dropAfter document l ≡ l
@@ -70,22 +66,29 @@ pub different-part : (f : ℕ → ℕ) (more xs : List ℕ) → Different (map f
 different-part f more xs d x =
     omega (arith, d x, ap (count x) (map-append f more xs), count-append x (map f more) (map f xs))
 
-pub ranked-all : (p : Progress) → Different (map documentOf (p .found)) → ranked p ≡ sort (p .found)
-ranked-all p d = ranked-is p ∙ repeats-none (sort (p .found)) (different-perm documentOf (p .found) (sort (p .found)) (sort-perm (p .found)) d)
+-- so the hits that pass the test are listed in order
+pub ranked-all : (test : ℕ → Bool) (p : Progress) → Different (map documentOf (p .found)) → ranked test p ≡ sort (keep test (p .found))
+ranked-all test p d =
+    ranked-is test p
+    ∙ ap (keep test) (repeats-none (sort (p .found)) (different-perm documentOf (p .found) (sort (p .found)) (sort-perm (p .found)) d))
+    ∙ sym (sort-keep test (p .found))
 
 -- ---- larger budgets
 
 -- With more found, and no document twice, every place among the first k that was filled is filled by a hit that is not later
-pub never-worse : (p q : Progress) (more : List ℕ) (k : ℕ) → q .found ≡ more ++ p .found → Different (map documentOf (q .found))
-    → NoLater (take k (ranked p)) (take k (ranked q))
-never-worse p q more k e d =
+pub never-worse : (test : ℕ → Bool) (p q : Progress) (more : List ℕ) (k : ℕ) → q .found ≡ more ++ p .found → Different (map documentOf (q .found))
+    → NoLater (take k (ranked test p)) (take k (ranked test q))
+never-worse test p q more k e d =
     let fewer : Different (map documentOf (p .found)) = different-part documentOf more (p .found) (subst (λ (l : List ℕ). Different (map documentOf l)) e d) in
-    let later : NoLater (sort (p .found)) (sort (q .found)) = subst (λ (l : List ℕ). NoLater (sort (p .found)) (sort l)) (sym e) (no-later-sort more (p .found)) in
-    no-later-take k (ranked p) (ranked q) (rw (ranked-all p fewer, ranked-all q d) later)
+    let kept : keep test more ++ keep test (p .found) ≡ keep test (q .found) = sym (keep-append test more (p .found)) ∙ ap (keep test) (sym e) in
+    let later : NoLater (sort (keep test (p .found))) (sort (keep test (q .found))) =
+    subst (λ (l : List ℕ). NoLater (sort (keep test (p .found))) (sort l)) kept (no-later-sort (keep test more) (keep test (p .found))) in
+    no-later-take k (ranked test p) (ranked test q) (rw (ranked-all test p fewer, ranked-all test q d) later)
 
 -- so its distance is not later in total order: its key is not above
-pub never-later : (p q : Progress) (more : List ℕ) (k : ℕ) → q .found ≡ more ++ p .found → Different (map documentOf (q .found))
-    → (i : ℕ) → i < length (take k (ranked p)) → getD (take k (ranked q)) i 0 / 2 ^ 64 ≤ getD (take k (ranked p)) i 0 / 2 ^ 64
-never-later p q more k e d i h =
-    let less : getD (take k (ranked q)) i 0 ≤ getD (take k (ranked p)) i 0 = no-later-at (take k (ranked p)) (take k (ranked q)) i (never-worse p q more k e d) h in
+pub never-later : (test : ℕ → Bool) (p q : Progress) (more : List ℕ) (k : ℕ) → q .found ≡ more ++ p .found → Different (map documentOf (q .found))
+    → (i : ℕ) → i < length (take k (ranked test p)) → getD (take k (ranked test q)) i 0 / 2 ^ 64 ≤ getD (take k (ranked test p)) i 0 / 2 ^ 64
+never-later test p q more k e d i h =
+    let less : getD (take k (ranked test q)) i 0 ≤ getD (take k (ranked test p)) i 0 =
+    no-later-at (take k (ranked test p)) (take k (ranked test q)) i (never-worse test p q more k e d) h in
     omega arith

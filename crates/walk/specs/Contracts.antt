@@ -22,7 +22,7 @@ use Rattle.walk.specs.declared.Searched.the-variants as searched
 use Rattle.walk.specs.Walk.{damage, State, damaged, going, shown, walk}
 use Rattle.walk.specs.Answer.{Answer, answer}
 use Rattle.walk.specs.Wanted.{Sought, sought, denies, listRead, heldIn}
-use Rattle.walk.specs.StoreView.{blockHeld, fieldOf, partOf, childrenShown, listShown, storeView}
+use Rattle.walk.specs.StoreView.{blockHeld, fieldOf, partOf, childrenShown, listShown, liveIn, storeView}
 
 -- ---- what the functions are lent
 
@@ -123,12 +123,12 @@ pub record Leaves (r : Searched) (ids ids′ : List ℕ) (distances distances′
   pub ids-kept : ids′ ≡ ids
   pub distances-kept : distances′ ≡ distances
 
-abbrev pub SearchEnds : State → ℕ → Searched → List ℕ → List ℕ → List Float → List Float → Type 0
-SearchEnds damaged k r ids ids′ distances distances′ = Leaves r ids ids′ distances distances′
-SearchEnds (going p) k r ids ids′ distances distances′ = Answers (answer k p) r ids ids′ distances distances′
+abbrev pub SearchEnds : State → (ℕ → Bool) → ℕ → Searched → List ℕ → List ℕ → List Float → List Float → Type 0
+SearchEnds damaged test k r ids ids′ distances distances′ = Leaves r ids ids′ distances distances′
+SearchEnds (going p) test k r ids ids′ distances distances′ = Answers (answer test k p) r ids ids′ distances distances′
 
--- The search is the walk of the store's view: damaged exactly where that is; otherwise its answer
+-- The search is the walk of the store's view: damaged exactly where that is; otherwise its answer, of live vectors
 pub record SearchGives (s : Shape) (c : Counts) (ef : ℕ) (store : Store) (query : List Float) (wanted : Sought) (k : ℕ)
     (work ids : List ℕ) (distances : List Float) (r : Searched) (work′ ids′ : List ℕ) (distances′ : List Float) : Type 0 where
-  pub ends : SearchEnds (walk (storeView s c store query wanted) ef) k r ids ids′ distances distances′
+  pub ends : SearchEnds (walk (storeView s c store query wanted) ef) (liveIn s c store) k r ids ids′ distances distances′
   pub works : Works s work work′

@@ -11,20 +11,21 @@ use lib.ListN.{getD}
 use Rattle.lists.specs.Lists.{part}
 use Rattle.lists.specs.Parts.{getD-part, part-part}
 use Rattle.store.specs.declared.Shape.{Shape}
-use Rattle.store.specs.Store.{Store, vectorAt, centroidsAt, ownersAt, orderAt, nodesAt, linksAt, entryOrderAt, startsAt, lengthsAt, filtersAt, nodeField, nodeFilter, entryStart, entryLength, entryName}
+use Rattle.store.specs.Store.{Store, vectorAt, centroidsAt, ownersAt, orderAt, nodesAt, linksAt, entryOrderAt, startsAt, lengthsAt, liveMarks, filtersAt, nodeField, nodeFilter, entryStart, entryLength, entryName}
 use Rattle.lists.specs.Tests.{either}
 use Rattle.store.specs.declared.Counts.{Counts}
 use Rattle.walk.specs.Walk.{walk}
+use Rattle.walk.specs.Answer.{isLive}
 use Rattle.walk.specs.SameWalkLaws.{opens-below}
 use Rattle.walk.specs.Wanted.{Sought, LeafList, vector-list, entry-list, listRead, heldIn, denies}
 use Rattle.walk.specs.WantedLaws.{SameNumber, numbers-same}
-use Rattle.walk.specs.StoreView.{blockHeld, fieldOf, partOf, ownerOf, endIn, storeView}
+use Rattle.walk.specs.StoreView.{blockHeld, fieldOf, partOf, ownerOf, endIn, liveIn, storeView}
 use Rattle.walk.specs.StoreViewLaws.{block-within, store-children-below}
 use Rattle.walk.specs.ReadLaws.{readingOf, SameCentroid, SameList, SameVector, SameLeaf, SameNode, SameRead, same-read}
 
--- Two stores agree on what is held: vectors, centroids; document ids, owners, leaf order of vectors, the six of each node, child links, leaf order of
+-- Two stores agree on what their nodes show: vectors, centroids; document ids, owners, leaf order of vectors, the six of each node, child links, leaf order of
 -- entries, starts and lengths of labels; entry hashes, filters; label text; each up to its count
-pub record SameHeld (s : Shape) (c : Counts) (a b : Store) : Type 0 where
+pub record SameShown (s : Shape) (c : Counts) (a b : Store) : Type 0 where
   pub vectors : part 0 (c .vectors * s .dimension) (a .floats) ≡ part 0 (c .vectors * s .dimension) (b .floats)
   pub centroids : part (centroidsAt s) (c .nodes * s .dimension) (a .floats) ≡ part (centroidsAt s) (c .nodes * s .dimension) (b .floats)
   pub documents : part 0 (c .vectors) (a .numbers) ≡ part 0 (c .vectors) (b .numbers)
@@ -39,23 +40,32 @@ pub record SameHeld (s : Shape) (c : Counts) (a b : Store) : Type 0 where
   pub filters : part (filtersAt s) (c .nodes * 4) (a .hashes) ≡ part (filtersAt s) (c .nodes * 4) (b .hashes)
   pub text : part 0 (c .bytes) (a .text) ≡ part 0 (c .bytes) (b .text)
 
+-- and on all that is held: on the live marks too
+pub record SameHeld (s : Shape) (c : Counts) (a b : Store) : Type 0 where
+  pub nodes-show : SameShown s c a b
+  pub live : liveMarks s (c .vectors) (a .numbers) ≡ liveMarks s (c .vectors) (b .numbers)
+
 -- a store with itself
 pub held-itself : (s : Shape) (c : Counts) (a : Store) → SameHeld s c a a
 held-itself s c a =
     record {
-      vectors = refl;
-      centroids = refl;
-      documents = refl;
-      owners = refl;
-      order = refl;
-      nodes = refl;
-      links = refl;
-      entry-order = refl;
-      starts = refl;
-      lengths = refl;
-      hashes = refl;
-      filters = refl;
-      text = refl;
+      nodes-show =
+          record {
+            vectors = refl;
+            centroids = refl;
+            documents = refl;
+            owners = refl;
+            order = refl;
+            nodes = refl;
+            links = refl;
+            entry-order = refl;
+            starts = refl;
+            lengths = refl;
+            hashes = refl;
+            filters = refl;
+            text = refl;
+          };
+      live = refl;
     }
 
 module _ {A : Type 0} where
@@ -79,7 +89,7 @@ module _ {A : Type 0} where
 run-within : (i n width : ℕ) → i < n → i * width + width ≤ n * width
 run-within i n width h = let p : suc i * width ≤ n * width = mul-le-mul-right width h in rw suc-mul at p
 
-module _ (s : Shape) (c : Counts) (a b : Store) (same : SameHeld s c a b) where
+module _ (s : Shape) (c : Counts) (a b : Store) (same : SameShown s c a b) where
   vector-same : (i : ℕ) → i < c .vectors → vectorAt (s .dimension) (a .floats) i ≡ vectorAt (s .dimension) (b .floats) i
   vector-same i h =
       subst (λ (at : ℕ). part at (s .dimension) (a .floats) ≡ part at (s .dimension) (b .floats)) (zero-add (i * s .dimension))
@@ -180,6 +190,10 @@ module _ (s : Shape) (c : Counts) (a b : Store) (same : SameHeld s c a b) where
         (opens-below (storeView s c a query wanted) (c .nodes) fits pos (store-children-below s c a query wanted) ef i o);
   }
 
-  pub same-held : (query : List Float) (wanted : Sought) → 0 < c .nodes → c .nodes ≤ 2 ^ 64 → (ef : ℕ)
+  pub same-shown : (query : List Float) (wanted : Sought) → 0 < c .nodes → c .nodes ≤ 2 ^ 64 → (ef : ℕ)
       → walk (storeView s c a query wanted) ef ≡ walk (storeView s c b query wanted) ef
-  same-held query wanted pos fits ef = same-read s c a b query wanted ef (held-read query wanted pos fits ef)
+  same-shown query wanted pos fits ef = same-read s c a b query wanted ef (held-read query wanted pos fits ef)
+
+-- and where all that is held is the same, they strike the same hits
+pub same-live : (s : Shape) (c : Counts) (a b : Store) → SameHeld s c a b → liveIn s c a ≡ liveIn s c b
+same-live s c a b same = ap isLive (same .live)

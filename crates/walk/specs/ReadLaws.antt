@@ -14,7 +14,7 @@ use Rattle.lists.specs.Maps.{map-on}
 use Rattle.lists.specs.Lists.{part}
 use Rattle.lists.specs.Tests.{which, allPass}
 use Rattle.store.specs.declared.Shape.{Shape}
-use Rattle.store.specs.Store.{Store, vectorAt, linksAt, nodeField, childLinks, nodeFilter}
+use Rattle.store.specs.Store.{Store, vectorAt, linksAt, nodeField, childLinks, nodeFilter, liveMarks}
 use Rattle.distance.specs.Distance.{distance}
 use Rattle.total_order.specs.TotalOrder.{keyOf}
 use Rattle.store.specs.declared.Counts.{Counts}
@@ -22,10 +22,10 @@ use Rattle.walk.specs.declared.Searched.{Searched}
 use Rattle.walk.specs.Walk.{Shown, State, children, hits, damage, damaged, going, shown, walk}
 use Rattle.walk.specs.WalkLaws.{shownChildren}
 use Rattle.walk.specs.SameWalkLaws.{AlikeAt, Opens, same-walk}
-use Rattle.walk.specs.Answer.{hitOf}
+use Rattle.walk.specs.Answer.{hitOf, isLive}
 use Rattle.walk.specs.Wanted.{Sought, listRead, heldIn, denies, passes, given}
 use Rattle.walk.specs.WantedLaws.{Reading, SameNumber, passes-same, given-same, given-read}
-use Rattle.walk.specs.StoreView.{blockHeld, fieldOf, partOf, hitAt, childrenShown, endIn, entryRead, listShown, leafShown, nodeShown, storeView}
+use Rattle.walk.specs.StoreView.{blockHeld, fieldOf, partOf, hitAt, childrenShown, endIn, entryRead, listShown, leafShown, nodeShown, liveIn, storeView}
 use Rattle.walk.specs.StoreViewLaws.{store-shown, store-child}
 use Rattle.walk.specs.Contracts.{SearchEnds, SearchGives}
 
@@ -209,18 +209,21 @@ module _ (s : Shape) (c : Counts) (a b : Store) where
       (λ i o. node-alike query wanted i (same .opened i o))
 
 -- one end of a walk has one answer
-ends-same : (st : State) (k : ℕ) (r r′ : Searched) (ids ids′ ids″ : List ℕ) (distances distances′ distances″ : List Float)
-    → SearchEnds st k r ids ids′ distances distances′ → SearchEnds st k r′ ids ids″ distances distances″ → (r ≡ r′) × (ids′ ≡ ids″) × (distances′ ≡ distances″)
-ends-same damaged k r r′ ids ids′ ids″ distances distances′ distances″ x y =
+ends-same : (st : State) (test : ℕ → Bool) (k : ℕ) (r r′ : Searched) (ids ids′ ids″ : List ℕ) (distances distances′ distances″ : List Float)
+    → SearchEnds st test k r ids ids′ distances distances′ → SearchEnds st test k r′ ids ids″ distances distances″ → (r ≡ r′) × (ids′ ≡ ids″) × (distances′ ≡ distances″)
+ends-same damaged test k r r′ ids ids′ ids″ distances distances′ distances″ x y =
     (x .is ∙ sym (y .is), x .ids-kept ∙ sym (y .ids-kept), x .distances-kept ∙ sym (y .distances-kept))
-ends-same (going p) k r r′ ids ids′ ids″ distances distances′ distances″ x y =
+ends-same (going p) test k r r′ ids ids′ ids″ distances distances′ distances″ x y =
     (x .is ∙ sym (y .is), x .ids-are ∙ sym (y .ids-are), x .distances-are ∙ sym (y .distances-are))
 
--- and the same search, whatever stands in work: the same answer or damage, and the same answer lists
+-- and, with the same live marks, the same search, whatever stands in work: the same answer or damage, and the same answer lists
 pub same-search : (s : Shape) (c : Counts) (store store′ : Store) (query : List Float) (wanted : Sought)
     (ef k : ℕ) (work work₁ work′ work₂ ids ids₁ ids₂ : List ℕ) (distances distances₁ distances₂ : List Float) (r₁ r₂ : Searched)
-    → SameRead s c store store′ query wanted ef → SearchGives s c ef store query wanted k work ids distances r₁ work₁ ids₁ distances₁
+    → SameRead s c store store′ query wanted ef → liveMarks s (c .vectors) (store .numbers) ≡ liveMarks s (c .vectors) (store′ .numbers)
+    → SearchGives s c ef store query wanted k work ids distances r₁ work₁ ids₁ distances₁
     → SearchGives s c ef store′ query wanted k work′ ids distances r₂ work₂ ids₂ distances₂ → (r₁ ≡ r₂) × (ids₁ ≡ ids₂) × (distances₁ ≡ distances₂)
-same-search s c store store′ query wanted ef k work work₁ work′ work₂ ids ids₁ ids₂ distances distances₁ distances₂ r₁ r₂ same x y =
-    ends-same (walk (storeView s c store′ query wanted) ef) k r₁ r₂ ids ids₁ ids₂ distances distances₁ distances₂
-    (subst (λ (st : State). SearchEnds st k r₁ ids ids₁ distances distances₁) (same-read s c store store′ query wanted ef same) (x .ends)) (y .ends)
+same-search s c store store′ query wanted ef k work work₁ work′ work₂ ids ids₁ ids₂ distances distances₁ distances₂ r₁ r₂ same marks x y =
+    ends-same (walk (storeView s c store′ query wanted) ef) (liveIn s c store′) k r₁ r₂ ids ids₁ ids₂ distances distances₁ distances₂
+    (subst (λ (st : State). SearchEnds st (liveIn s c store′) k r₁ ids ids₁ distances distances₁) (same-read s c store store′ query wanted ef same)
+    (subst (λ (test : ℕ → Bool). SearchEnds (walk (storeView s c store query wanted) ef) test k r₁ ids ids₁ distances distances₁) (ap isLive marks) (x .ends)))
+    (y .ends)

@@ -8,12 +8,12 @@ use lib.ListN.{getD}
 use Rattle.lists.specs.Lists.{part}
 use Rattle.lists.specs.Tests.{allPass}
 use Rattle.store.specs.declared.Shape.{Shape}
-use Rattle.store.specs.Store.{Store, vectorAt, ownersAt, orderAt, entryOrderAt, nodeField, childLinks, nodeFilter, entryStart, entryLength, entryName}
+use Rattle.store.specs.Store.{Store, vectorAt, ownersAt, orderAt, entryOrderAt, nodeField, childLinks, nodeFilter, entryStart, entryLength, entryName, liveMarks}
 use Rattle.distance.specs.Distance.{distance}
 use Rattle.total_order.specs.TotalOrder.{keyOf}
 use Rattle.store.specs.declared.Counts.{Counts}
 use Rattle.walk.specs.Walk.{View, Shown, children, hits, damage}
-use Rattle.walk.specs.Answer.{hitOf}
+use Rattle.walk.specs.Answer.{hitOf, isLive}
 use Rattle.walk.specs.Wanted.{Sought, EntryRead, LeafList, vector-list, entry-list, denies, listRead, passes, given, heldIn, most}
 
 -- 'a place outside the list's part', read with 'Parts past the counts held are never read': a block that is not empty ends within what is held
@@ -55,6 +55,10 @@ module _ (s : Shape) (c : Counts) (store : Store) where
   unfoldable pub childrenShown : ℕ → List ℕ → Shown
   unfolding allPass
   childrenShown parent numbers = cond (allPass (λ child. ltb parent child && ltb child (c .nodes)) numbers) (children numbers) damage
+
+  -- whether a hit's vector is live, by the marks that the store has of the vectors held (02, K10)
+  abbrev pub liveIn : ℕ → Bool
+  liveIn = isLive (liveMarks s (c .vectors) (store .numbers))
 
   -- what a store has of an entry
   abbrev pub entryRead : EntryRead

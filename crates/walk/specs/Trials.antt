@@ -3,6 +3,7 @@ use Prim.Native.Nat.{ℕ}
 use mathlib.Core.Bool.{Bool, true, false}
 use mathlib.Core.Path.{_≡_, refl}
 use mathlib.Core.List.{List, [], _∷_, _++_, map}
+use lib.ListN.{set}
 use lib.Ieee.{Float, binary32, ofBits, toBits}
 use Rattle.store.specs.declared.Shape.{Shape}
 use Rattle.store.specs.Store.{Store}
@@ -11,8 +12,8 @@ use Rattle.bloom.specs.Filter.{emptyFilter, insertAll}
 use Rattle.walk.specs.Wanted.{with-label}
 use Rattle.store.specs.declared.Counts.{Counts}
 use Rattle.walk.specs.Walk.{State, damaged, going, walk}
-use Rattle.walk.specs.Answer.{hitOf, documentOf, dropRepeats, answer}
-use Rattle.walk.specs.StoreView.{storeView}
+use Rattle.walk.specs.Answer.{hitOf, documentOf, dropRepeats, isLive, listed, answer}
+use Rattle.walk.specs.StoreView.{liveIn, storeView}
 
 -- D 2 and B 2 of the trial; V 4, E 4, M 8 and 6 bytes leave room behind what is held
 unfoldable pub trialShape : Shape
@@ -39,13 +40,13 @@ trialFloats =
     ∷ 0 ∷ 0 ∷ 0 ∷ 0 ∷ [])
 
 -- document ids, entry owners, leaf order of vectors, the six of each node, child links, leaf order of entries, starts and
--- lengths of labels
+-- lengths of labels, live marks
 unfoldable pub trialNumbers : List ℕ
 trialNumbers =
     (7 ∷ 8 ∷ 9 ∷ 0 ∷ []) ++ (0 ∷ 1 ∷ 2 ∷ 0 ∷ []) ++ (0 ∷ 1 ∷ 2 ∷ 0 ∷ [])
     ++ (0 ∷ 2 ∷ 0 ∷ 0 ∷ 0 ∷ 0 ∷ []) ++ (0 ∷ 0 ∷ 0 ∷ 1 ∷ 0 ∷ 1 ∷ []) ++ (2 ∷ 2 ∷ 0 ∷ 0 ∷ 0 ∷ 0 ∷ []) ++ (0 ∷ 0 ∷ 1 ∷ 1 ∷ 1 ∷ 1 ∷ [])
     ++ (0 ∷ 0 ∷ 2 ∷ 1 ∷ 2 ∷ 1 ∷ []) ++ (0 ∷ 0 ∷ 0 ∷ 0 ∷ 0 ∷ 0 ∷ []) ++ (0 ∷ 0 ∷ 0 ∷ 0 ∷ 0 ∷ 0 ∷ []) ++ (0 ∷ 0 ∷ 0 ∷ 0 ∷ 0 ∷ 0 ∷ [])
-    ++ (1 ∷ 2 ∷ 3 ∷ 4 ∷ 0 ∷ 0 ∷ 0 ∷ 0 ∷ []) ++ (0 ∷ 1 ∷ 2 ∷ 0 ∷ []) ++ (0 ∷ 1 ∷ 2 ∷ 0 ∷ []) ++ (1 ∷ 1 ∷ 1 ∷ 0 ∷ [])
+    ++ (1 ∷ 2 ∷ 3 ∷ 4 ∷ 0 ∷ 0 ∷ 0 ∷ 0 ∷ []) ++ (0 ∷ 1 ∷ 2 ∷ 0 ∷ []) ++ (0 ∷ 1 ∷ 2 ∷ 0 ∷ []) ++ (1 ∷ 1 ∷ 1 ∷ 0 ∷ []) ++ (1 ∷ 1 ∷ 1 ∷ 0 ∷ [])
 
 -- entry hashes; filters, each of the hashes at and below its node
 unfoldable pub trialHashes : List ℕ
@@ -74,18 +75,23 @@ pub data Outcome : Type 0 where
   broken : Outcome
   printed : Printed → Outcome
 
-unfoldable pub outcome : State → Outcome
+unfoldable pub outcome : (ℕ → Bool) → State → Outcome
 unfolding answer
-outcome damaged = broken
-outcome (going p) =
-    let a = answer 4 p in
+outcome test damaged = broken
+outcome test (going p) =
+    let a = answer test 4 p in
     printed (record { ids = a .ids; bits = map (toBits binary32) (a .distances); whole = a .complete; opened = a .opened })
 
--- with so many bytes held, for a label of a hash and bytes
+-- over a store, with so many bytes held, for a label of a hash and bytes
+unfoldable pub storeWalk : Store → ℕ → ℕ → List ℕ → ℕ → Outcome
+unfolding outcome walk storeView isLive trialShape trialCounts
+storeWalk store bytes hash name ef =
+    outcome (liveIn trialShape (trialCounts bytes) store)
+    (walk (storeView trialShape (trialCounts bytes) store (ofBits binary32 0x3F800000 ∷ ofBits binary32 0 ∷ []) (with-label hash name)) ef)
+
 unfoldable pub labelWalk : ℕ → ℕ → List ℕ → ℕ → Outcome
-unfolding outcome walk storeView trialShape trialCounts trialStore
-labelWalk bytes hash name ef =
-    outcome (walk (storeView trialShape (trialCounts bytes) trialStore (ofBits binary32 0x3F800000 ∷ ofBits binary32 0 ∷ []) (with-label hash name)) ef)
+unfolding storeWalk trialStore
+labelWalk bytes hash name ef = storeWalk trialStore bytes hash name ef
 
 unfoldable pub trialWalk : ℕ → Outcome
 unfolding labelWalk hashA
@@ -127,3 +133,29 @@ idsLeft a b c =
 pub repeats : (idsLeft 7 8 7 ≡ 7 ∷ 8 ∷ 7 ∷ []) × (idsLeft 7 7 8 ≡ 7 ∷ 8 ∷ [])
 unfolding idsLeft
 repeats = (refl, refl)
+
+-- 02, K10: the trial store with another live mark of document 7's vector: its place is 2 * 4 + 4 * 4 + 7 * 8
+unfoldable pub markedWalk : ℕ → ℕ → Outcome
+unfolding storeWalk trialFloats trialNumbers trialHashes trialText hashA
+markedWalk mark ef =
+    storeWalk (record { floats = trialFloats; numbers = set trialNumbers 80 mark; hashes = trialHashes; text = trialText }) 3 hashA (97 ∷ []) ef
+
+-- '0 is withdrawn, anything else live'; 'nodes opened are counted as before'
+pub marked : (markedWalk 0 5 ≡ printed (record { ids = 9 ∷ []; bits = 0x3ECCCCCC ∷ []; whole = true; opened = 5 }))
+    × (markedWalk 0 2 ≡ printed (record { ids = []; bits = []; whole = false; opened = 2 }))
+    × (markedWalk 2 5 ≡ trialWalk 5) × (markedWalk 0xFFFFFFFF 5 ≡ trialWalk 5)
+unfolding markedWalk trialWalk
+marked = (refl, refl, refl, refl)
+
+-- 'adjacent repeats are dropped before withdrawn hits are struck': of the ids 7, 7, 8 at rising distances, of vectors 0, 1 and 2, the first withdrawn hides the
+-- second; with the second withdrawn nothing is hidden
+unfoldable pub liveIds : List ℕ → List ℕ
+unfolding listed isLive keyOf ofBits
+liveIds marks =
+    map documentOf
+    (listed (isLive marks)
+    (hitOf (ofBits binary32 0) 7 0 ∷ hitOf (ofBits binary32 0x3E800000) 7 1 ∷ hitOf (ofBits binary32 0x3F000000) 8 2 ∷ []))
+
+pub struck : (liveIds (0 ∷ 1 ∷ 1 ∷ []) ≡ 8 ∷ []) × (liveIds (1 ∷ 0 ∷ 1 ∷ []) ≡ 7 ∷ 8 ∷ []) × (liveIds (1 ∷ 1 ∷ 0 ∷ []) ≡ 7 ∷ [])
+unfolding liveIds
+struck = (refl, refl, refl)

@@ -1,6 +1,7 @@
 // Document 01's worked example: three echoes are added, the index is built, and the nearest are looked up, at budgets below, at and above the node count,
 // with a label that no echo has and with one of 300 bytes. Then the same after numbers of the store were overwritten: each kind of damage at the first and at
-// the last place where it can stand, and garbage that no search reads. Those lines are reasoned from 01's list of damage and 02's K4. Last, names in other parts, and two labels of one hash.
+// the last place where it can stand, and garbage that no search reads. Those lines are reasoned from 01's list of damage and 02's K4. Last, names in other parts,
+// two labels of one hash, and live marks (02's K10).
 use curator::Changed;
 use curator::CuratorIndex;
 use curator::Found;
@@ -64,8 +65,8 @@ struct Damage {
     second_value: u32,
 }
 
-fn overwrite(numbers: &mut [u32; 59], place: usize, value: u32) {
-    if place < 59 {
+fn overwrite(numbers: &mut [u32; 63], place: usize, value: u32) {
+    if place < 63 {
         numbers[place] = value;
     }
 }
@@ -90,7 +91,7 @@ fn fresh_index(ef_search: usize) -> Changed {
 fn added(
     index: CuratorIndex,
     floats: &mut [f32; 22],
-    numbers: &mut [u32; 59],
+    numbers: &mut [u32; 63],
     hashes: &mut [u64; 24],
     text: &mut [u8; 24],
     doc_id: u32,
@@ -124,7 +125,7 @@ enum Echoes {
 fn two_echoes(
     fresh: CuratorIndex,
     floats: &mut [f32; 22],
-    numbers: &mut [u32; 59],
+    numbers: &mut [u32; 63],
     hashes: &mut [u64; 24],
     text: &mut [u8; 24],
     lengths: &[u8],
@@ -160,7 +161,7 @@ fn two_echoes(
 fn example_echoes(
     fresh: CuratorIndex,
     floats: &mut [f32; 22],
-    numbers: &mut [u32; 59],
+    numbers: &mut [u32; 63],
     hashes: &mut [u64; 24],
     text: &mut [u8; 24],
 ) -> CuratorIndex {
@@ -192,7 +193,7 @@ fn example_echoes(
 fn taught(
     fresh: CuratorIndex,
     floats: &mut [f32; 22],
-    numbers: &mut [u32; 59],
+    numbers: &mut [u32; 63],
     hashes: &mut [u64; 24],
     text: &mut [u8; 24],
     echoes: Echoes,
@@ -228,7 +229,7 @@ fn taught(
 fn example_index(
     fresh: CuratorIndex,
     floats: &mut [f32; 22],
-    numbers: &mut [u32; 59],
+    numbers: &mut [u32; 63],
     hashes: &mut [u64; 24],
     text: &mut [u8; 24],
     work: &mut [u32; 27],
@@ -245,7 +246,7 @@ fn example_index(
 fn look_up(
     index: CuratorIndex,
     floats: &[f32; 22],
-    numbers: &[u32; 59],
+    numbers: &[u32; 63],
     hashes: &[u64; 24],
     text: &[u8; 24],
     work: &mut [u32; 27],
@@ -305,7 +306,7 @@ fn example(
         return;
     };
     let mut floats = [0.0f32; 22];
-    let mut numbers = [0u32; 59];
+    let mut numbers = [0u32; 63];
     let mut hashes = [0u64; 24];
     let mut text = [0u8; 24];
     let mut work = [0u32; 27];
@@ -344,7 +345,7 @@ fn one_place_at(ef_search: usize, filtered: bool, place: usize, value: u32) {
         Damage {
             first: place,
             first_value: value,
-            second: 59,
+            second: 63,
             second_value: 0,
         },
     );
@@ -421,9 +422,9 @@ fn other() {
 
 fn undamaged() -> Damage {
     Damage {
-        first: 59,
+        first: 63,
         first_value: 0,
-        second: 59,
+        second: 63,
         second_value: 0,
     }
 }
@@ -490,6 +491,41 @@ fn one_hash() {
     of_one_hash(b"", b"77kepQFQ8Kl");
 }
 
+// A search where two places are other than they were taught.
+fn two_places(filtered: bool, first: usize, first_value: u32, second: usize, second_value: u32) {
+    example(
+        5,
+        Echoes::Three,
+        filtered,
+        b"a",
+        b"",
+        Damage {
+            first,
+            first_value,
+            second,
+            second_value,
+        },
+    );
+}
+
+// The marks of 7, 8 and 9 stand from 59 on, and one that is not held: 0 is withdrawn, any other number live. Then 9 is another echo of 7, with 7's mark 0, which
+// hides it, and with its own.
+fn marks() {
+    one_place(true, 59, 0);
+    one_place(false, 59, 0);
+    one_place(true, 60, 0);
+    one_place(false, 61, 0);
+    one_place(true, 59, 2);
+    one_place(true, 59, 4294967295);
+    one_place(true, 62, 9);
+    one_place_at(2, true, 59, 0);
+    one_place_at(4, true, 59, 0);
+    two_places(true, 59, 0, 61, 0);
+    two_places(true, 2, 7, 59, 0);
+    two_places(false, 2, 7, 59, 0);
+    two_places(true, 2, 7, 61, 0);
+}
+
 fn main() {
     budgets();
     children();
@@ -498,4 +534,5 @@ fn main() {
     parts();
     texts();
     one_hash();
+    marks();
 }

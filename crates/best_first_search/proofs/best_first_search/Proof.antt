@@ -8,7 +8,7 @@ use Rattle.walk.specs.Wanted.{Sought, sought, most}
 use Rattle.walk.specs.LentLaws.{works-trans, works-sets}
 use Rattle.walk.specs.Contracts.{Works}
 use Rattle.store.specs.Lent.{storeOf}
-use Rattle.walk.specs.StoreView.{hitAt, storeView}
+use Rattle.walk.specs.StoreView.{hitAt, liveIn, storeView}
 use Rattle.walk.specs.Walk.{View, walk}
 use Rattle.store.specs.Store.{hitsAt, workSize}
 use Rattle.lists.specs.Parts.{length-part, lent-part, lent-is}
@@ -44,6 +44,10 @@ wants e = sought (e .args .wanted) (e .args .first .now) (e .args .second .now)
 
 abbrev view : tie.Start → View
 view e = storeView (e .args .shape) (e .args .counts) (storeOf (e .args .floats .now) (e .args .numbers .now) (e .args .hashes .now) (e .args .text .now)) (e .args .query .now) (wants e)
+
+-- whether a hit is live
+abbrev test : tie.Start → ℕ → Bool
+test e = liveIn (e .args .shape) (e .args .counts) (storeOf (e .args .floats .now) (e .args .numbers .now) (e .args .hashes .now) (e .args .text .now))
 
 most-is : (e : tie.Start) → view e .most ≡ most (wants e) (e .args .counts)
 unfolding storeView
@@ -189,7 +193,7 @@ returns c =
     let w = after-walk-store c in
     let a = entry w .args in
     record {
-      ends = damaged-search (a .shape) (a .counts) (hit (entry w)) (walk (view (entry w)) (a .ef-search)) (a .k) (work w) (a .ids .now) (a .distances .now) (ends w walked.Damaged (c .enum-told .given .1));
+      ends = damaged-search (a .shape) (a .counts) (hit (entry w)) (walk (view (entry w)) (a .ef-search)) (test (entry w)) (a .k) (work w) (a .ids .now) (a .distances .now) (ends w walked.Damaged (c .enum-told .given .1));
       works = w .walk-store .ensures .works;
     }
 
@@ -211,8 +215,8 @@ returns-2 c =
     let pre = entry w .pre in
     let last = t .first-hits .last in
     record {
-      ends = ended-search (a .shape) (a .counts) (hit (entry w)) (walk (view (entry w)) (a .ef-search)) (a .k) (found h) (opened h) (whole h) (work w) (a .ids .now) _ (a .distances .now) _ (t .first-hits .result) (ended h)
-          (subst (λ (l : List ℕ). Firsts (map (hit (entry w)) l) (a .k) (a .ids .now) (a .distances .now) (t .first-hits .result) (last .1 .1 .1 .1 .1 .1 .1 .1 .1 .0) (last .1 .1 .1 .1 .1 .1 .1 .1 .1 .1 .0))
+      ends = ended-search (a .shape) (a .counts) (hit (entry w)) (walk (view (entry w)) (a .ef-search)) (test (entry w)) (a .k) (found h) (opened h) (whole h) (work w) (a .ids .now) _ (a .distances .now) _ (t .first-hits .result) (ended h)
+          (subst (λ (l : List ℕ). Firsts (test (entry w)) (map (hit (entry w)) l) (a .k) (a .ids .now) (a .distances .now) (t .first-hits .result) (last .1 .1 .1 .1 .1 .1 .1 .1 .1 .0) (last .1 .1 .1 .1 .1 .1 .1 .1 .1 .1 .0))
           (ended-numbers (a .shape) (a .counts) (hit (entry w)) (wants (entry w)) (view (entry w)) (a .ef-search) (a .k) (found h) (opened h) (whole h) (work w) (lentHits w) _ (pre .lent .within .limits)
           (most-is (entry w)) (pre .lent .within .vectors) (pre .lent .within .entries) (size w) (lent-hits w) (from-is w) (ended h))
           (t .first-hits .ensures));

@@ -14,7 +14,7 @@ use Rattle.label.specs.NameLaws.{length-names, fit-even, fit-total}
 use Rattle.store.specs.declared.Shape.{Shape}
 use Rattle.store.specs.declared.Counts.{Counts}
 use Rattle.store.specs.Store.{Limits, startsAt, lengthsAt}
-use Rattle.curator.specs.Changes.{withLabels}
+use Rattle.curator.specs.Changes.{withLabels, withMark}
 use Rattle.curator.specs.Lent.{LabelsRoom}
 use Rattle.curator.proofs.Steps.{place-fits, place-room}
 use Rattle.curator.proofs.add.write_add.Statement.{statement}
@@ -121,6 +121,7 @@ write-labels-requires c κs =
     (record {
       limits = room .limits;
       long = omega (arith, numbered .write-numbers .kept .0, room .long .numbers);
+      vectors = room .vectors;
       entries = omega (arith, many, room .entries);
       text = omega (arith, sum, long, room .text);
     })
@@ -165,17 +166,22 @@ same-length-4 c = search needs
 
 -- what `write_labels` left, by the shape, the lengths and starts of the names, and what it was lent
 labelled : {after : List ℕ} (between numbers : List ℕ) {shape shape′ : Shape} (held : Counts) (lengths bytes : List ℕ)
-    → after ≡ sets (sets between (startsAt shape + held .entries) (startsByLengths (held .bytes) (summedPairs lengths))) (lengthsAt shape + held .entries) (summedPairs lengths)
-    → between ≡ numbers → shape ≡ shape′ → lengthsFit lengths (length bytes) ≡ true → after ≡ withLabels shape′ held (namesOf lengths bytes) numbers
+    → after
+    ≡ withMark shape (held .vectors)
+    (sets (sets between (startsAt shape + held .entries) (startsByLengths (held .bytes) (summedPairs lengths))) (lengthsAt shape + held .entries) (summedPairs lengths))
+    → between ≡ numbers → shape ≡ shape′ → lengthsFit lengths (length bytes) ≡ true
+    → after ≡ withMark shape′ (held .vectors) (withLabels shape′ held (namesOf lengths bytes) numbers)
 unfolding withLabels
 labelled between numbers {shape = shape} held lengths bytes is before same fit =
     is
-    ∙ ap₂ (λ (starts sums : List ℕ). sets (sets between (startsAt shape + held .entries) starts) (lengthsAt shape + held .entries) sums)
+    ∙ ap₂
+    (λ (starts sums : List ℕ). withMark shape (held .vectors) (sets (sets between (startsAt shape + held .entries) starts) (lengthsAt shape + held .entries) sums))
     (starts-of-names (held .bytes) lengths bytes fit)
     (lengths-of-names lengths bytes fit)
     ∙ ap₂
     (λ (l : List ℕ) (s : Shape).
-    sets (sets l (startsAt s + held .entries) (startsFrom (held .bytes) (namesOf lengths bytes))) (lengthsAt s + held .entries) (lengthsOfNames (namesOf lengths bytes)))
+    withMark s (held .vectors)
+    (sets (sets l (startsAt s + held .entries) (startsFrom (held .bytes) (namesOf lengths bytes))) (lengthsAt s + held .entries) (lengthsOfNames (namesOf lengths bytes))))
     before
     same
 

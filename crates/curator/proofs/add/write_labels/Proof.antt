@@ -1,7 +1,8 @@
--- One call writes starts and lengths; where they begin is what the shape says.
+-- One call writes starts and lengths, and the mark is one place; where they begin is what the shape says.
 use Prim.Native.Nat.{ℕ, _+_}
 use mathlib.Core.List.{List}
 use mathlib.Core.Path.{_≡_, ap₂, _∙_}
+use lib.ListN.{set}
 use lib.Seq.{sets}
 use Rattle.label.specs.Names.{summedPairs, startsByLengths}
 use borrow.Author.Needs.{needs}
@@ -9,6 +10,12 @@ use Rattle.curator.proofs.add.write_labels.Statement.{statement}
 use Rattle.curator.proofs.add.write_labels.Tie as tie
 
 -- ---- the places that needs go back to
+
+abbrev marked-at : tie.After-struct-known3 → tie.After-live-at
+marked-at c = c .before
+
+abbrev written-at : tie.After-live-at → tie.After-write-places
+written-at c = c .before .before .before
 
 abbrev lengths-at : tie.After-write-places → tie.After-lengths-at
 lengths-at c = c .before .before
@@ -40,19 +47,34 @@ add-write-places-2 c = search needs
 write-places-requires : tie.Need-write-places-requires
 write-places-requires c κs = search needs
 
+live-at-requires : tie.Need-live-at-requires
+live-at-requires c κs = search needs
+
+add-mark-at : tie.Need-add-mark-at
+add-mark-at c = search needs
+
+mul-numbers : tie.Need-mul-numbers
+mul-numbers c = search needs
+
+slice-write-numbers : tie.Need-slice-write-numbers
+slice-write-numbers c = search needs
+
 same-length : tie.Need-same-length
 same-length c = search needs
 
 returns : tie.Need-returns
 returns c =
-    let written = c .before .before in
+    let marked = marked-at c in
+    let written = written-at marked in
     let sized = lengths-at written in
     let begun = starts-at sized in
     let args = entry begun .args in
     let sums = summedPairs (args .lengths .now) in
-    placed (args .numbers .now) (startsByLengths (args .held .bytes) sums) sums (args .held .entries) (written .write-places .ensures)
+    ap₂ (λ (l : List ℕ) (at : ℕ). set l (at + args .held .vectors) 1)
+    (placed (args .numbers .now) (startsByLengths (args .held .bytes) sums) sums (args .held .entries) (written .write-places .ensures)
     (begun .starts-at .ensures)
-    (sized .lengths-at .ensures)
+    (sized .lengths-at .ensures))
+    (marked .live-at .ensures)
 
 pub write-labels-spec : {M : Type 1} → statement M
 write-labels-spec =
@@ -63,5 +85,9 @@ write-labels-spec =
     lengths-at-requires
     add-write-places-2
     write-places-requires
+    live-at-requires
+    add-mark-at
+    mul-numbers
+    slice-write-numbers
     same-length
     returns)

@@ -1,82 +1,59 @@
--- Row by row: what each test asked is its row's case. `after-k` says that the first k rows pass, so that what is left decides.
-use mathlib.Core.Bool.{not}
-use mathlib.Core.Path.{_≡_, sym, ap, _∙_, subst}
+-- The first two rows are `lent_check`'s; where neither case holds, the third decides.
 use mathlib.Core.List.{List}
+use mathlib.Core.Path.{_≡_, sym, _∙_}
 use borrow.Author.Needs.{needs}
-use borrow.Author.Tests.{not-false}
 use lib.ListN.{drop}
-use Rattle.store.specs.declared.Shape.{Shape}
-use Rattle.store.specs.Store.{Limits}
-use Rattle.store.specs.Lent.{storeShort}
-use Rattle.curator.specs.Lent.{earlyRows}
-use Rattle.curator.specs.Limits.{indexShape}
-use Rattle.curator.specs.RowLaws.{no-rows, row-stops, row-passes}
+use Rattle.settings.specs.declared.Check.{Check}
+use Rattle.settings.specs.declared.Check.the-variants.{Fine, Refused}
+use Rattle.curator.specs.Lent.{lentRows, earlyRows}
+use Rattle.curator.specs.RowLaws.{no-rows, row-stops, row-passes, checkThen, rows-then}
 use Rattle.curator.specs.Rows.{Row, firstOf}
-use Rattle.curator.specs.StateLaws.{Sound, sound-facts}
 use Rattle.curator.proofs.check.unbuilt_check.Statement.{statement}
 use Rattle.curator.proofs.check.unbuilt_check.Tie as tie
 
 -- ---- the places that needs go back to (primed: the same place, from another one)
 
--- the function's entry, from the place after a test
-abbrev start-1 : tie.Else1 → tie.Start
-start-1 c = c .before .before
+-- the function's entry, from the place where the first two rows are known to pass
+abbrev entry : tie.After-enum-told → tie.Start
+entry c = c .before .before .before
 
-abbrev start-2 : tie.Else2 → tie.Start
-start-2 c = start-1 (c .before .before .before)
+abbrev after-enum-told : tie.Then1 → tie.After-enum-told
+after-enum-told c = c .before
 
-abbrev start-3 : tie.Else3 → tie.Start
-start-3 c = start-2 (c .before)
+abbrev after-enum-told′ : tie.Else1 → tie.After-enum-told
+after-enum-told′ c = c .before
 
 abbrev rows : tie.Start → List Row
 rows s = earlyRows (s .args .index) (s .args .lent)
 
-sound : (c : tie.Else1) → Sound (start-1 c .args .index)
-sound c = sound-facts _ (sym (c .before .state-sound .ensures) ∙ not-false _ (c .if1 .left))
+-- what they come to, by what the first two come to
+early : (s : tie.Start) (check : Check) → firstOf (lentRows (s .args .index) (s .args .lent)) ≡ check
+    → firstOf (rows s) ≡ checkThen check (firstOf (drop 2 (rows s)))
+early s check e = rows-then (lentRows (s .args .index) (s .args .lent)) (drop 2 (rows s)) check e
 
--- what the second row asks, by the shape that was made
-short : (c : tie.After-store-short)
-    → c .store-short .result ≡ storeShort (indexShape (start-1 (c .before .before) .args .index)) (start-1 (c .before .before) .args .lent)
-short c = c .store-short .ensures ∙ ap (λ (s : Shape). storeShort s (start-1 (c .before .before) .args .lent)) (c .before .shape-of .ensures)
+passed : (c : tie.After-enum-told) → firstOf (rows (entry c)) ≡ firstOf (drop 2 (rows (entry c)))
+passed c = early (entry c) Fine (sym (c .before .before .lent-check .ensures) ∙ c .enum-told .given .1)
 
-after-1 : (c : tie.Else1) → firstOf (rows (start-1 c)) ≡ firstOf (drop 1 (rows (start-1 c)))
-after-1 c = row-passes _ _ (ap not (sym (c .before .state-sound .ensures)) ∙ c .if1 .left)
+lent-check-requires : tie.Need-lent-check-requires
+lent-check-requires c κs = search needs
 
-after-2 : (c : tie.Else2) → firstOf (rows (start-2 c)) ≡ firstOf (drop 2 (rows (start-2 c)))
-after-2 c = after-1 (c .before .before .before) ∙ row-passes _ _ (sym (short (c .before)) ∙ c .if2 .left)
-
-after-3 : (c : tie.Else3) → firstOf (rows (start-3 c)) ≡ firstOf (drop 3 (rows (start-3 c)))
-after-3 c = after-2 (c .before) ∙ row-passes _ _ (c .if3 .left)
-
-state-sound-requires : tie.Need-state-sound-requires
-state-sound-requires c κs = search needs
+enum-known-refusal : tie.Need-enum-known-refusal
+enum-known-refusal c = search needs
 
 returns : tie.Need-returns
-returns c = sym (row-stops _ _ (ap not (sym (c .before .state-sound .ensures)) ∙ c .if1 .taken))
+returns c =
+    sym (early (c .before .before .before .before) (Refused _) (sym (c .before .before .before .lent-check .ensures) ∙ c .before .refusal .given .1))
 
-shape-of-requires : tie.Need-shape-of-requires
-shape-of-requires c κs = search needs
-
-store-short-requires : tie.Need-store-short-requires
-store-short-requires c κs = subst (λ (s : Shape). Limits s) (sym (c .shape-of .ensures)) (sound (c .before) .limits)
+enum-told : tie.Need-enum-told
+enum-told c = search needs
 
 returns-2 : tie.Need-returns-2
-returns-2 c = sym (after-1 (c .before .before .before) ∙ row-stops _ _ (sym (short (c .before)) ∙ c .if2 .taken))
+returns-2 c = sym (passed (after-enum-told c) ∙ row-stops _ _ (c .if1 .taken))
 
 returns-3 : tie.Need-returns-3
-returns-3 c = sym (after-2 (c .before) ∙ row-stops _ _ (c .if3 .taken))
-
-returns-4 : tie.Need-returns-4
-returns-4 c = sym (after-3 c ∙ no-rows)
+returns-3 c = sym (passed (after-enum-told′ c) ∙ row-passes _ _ (c .if1 .left) ∙ no-rows)
 
 pub unbuilt-check-spec : {M : Type 1} → statement M
 unbuilt-check-spec =
     tie.close
-    (tie.spec
-    state-sound-requires
-    returns
-    shape-of-requires
-    store-short-requires
-    returns-2
-    returns-3
-    returns-4)
+    (tie.spec lent-check-requires enum-known-refusal returns enum-told returns-2 returns-3)
