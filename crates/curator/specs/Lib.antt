@@ -17,6 +17,7 @@ pub mod HeldLaws
 pub mod Parted
 pub mod TakeBackLaws
 pub mod WithdrawLaws
+pub mod Withdrawn
 pub mod SearchHeldLaws
 pub mod BeamLaws
 pub mod Trials
