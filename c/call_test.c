@@ -39,6 +39,7 @@ static void no_state(index_t *x, size_t state_len) {
     CHECK(curator_add(x->state, state_len, STORE(x), 1, query, 2, lengths, 2, label, 1) == CURATOR_INVALID_STATE);
     CHECK(curator_add(x->state, state_len, STORE(x), 1, query, 2, lengths, 1, label, 1) == CURATOR_INVALID_STATE);
     CHECK(curator_take_back(x->state, state_len, STORE(x)) == CURATOR_INVALID_STATE);
+    CHECK(curator_withdraw(x->state, state_len, STORE(x), 7) == CURATOR_INVALID_STATE);
     CHECK(curator_build(x->state, state_len, STORE(x), WORK(x)) == CURATOR_INVALID_STATE);
     CHECK(curator_search_filtered(x->state, state_len, STORE(x), WORK(x), query, 2, label, 1, label, 0, 4, a.ids, HITS, a.distances, HITS, a.answer, 3)
           == CURATOR_INVALID_STATE);

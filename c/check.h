@@ -153,9 +153,10 @@ static inline int floats_kept(const index_t *x, void *before, size_t from, size_
     return kept;
 }
 
-/* where the starts of the entries' labels stand in the numbers, and their lengths */
+/* where the starts of the entries' labels stand in the numbers, their lengths, and the live marks of the vectors */
 static inline size_t starts_at(const index_t *x) { return 2 * x->v + 2 * x->e + 7 * x->m; }
 static inline size_t lengths_at(const index_t *x) { return 2 * x->v + 3 * x->e + 7 * x->m; }
+static inline size_t live_at(const index_t *x) { return 2 * x->v + 4 * x->e + 7 * x->m; }
 
 /* FNV-1a from a start, byte by byte */
 static inline uint64_t hashed(uint64_t start, const uint8_t *bytes, size_t count) {

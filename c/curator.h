@@ -52,7 +52,7 @@ enum {
 
 /* The sizes of the lists of the store, and of the work list, by D, B, V, E and M. The size of the byte list is T. */
 #define CURATOR_FLOATS_SIZE(d, b, v, m) ((d) * ((v) + (m) + (b)))
-#define CURATOR_NUMBERS_SIZE(v, e, m) (2 * (v) + 4 * (e) + 7 * (m))
+#define CURATOR_NUMBERS_SIZE(v, e, m) (3 * (v) + 4 * (e) + 7 * (m))
 #define CURATOR_HASHES_SIZE(e, m) ((e) + 4 * (m))
 #define CURATOR_WORK_SIZE(v, e, m) (3 * (m) + 3 * ((v) < (e) ? (e) : (v)))
 
@@ -60,6 +60,9 @@ enum {
    numbers[CURATOR_LENGTHS_AT(v, e, m) + i] how many bytes it has. */
 #define CURATOR_STARTS_AT(v, e, m) (2 * (v) + 2 * (e) + 7 * (m))
 #define CURATOR_LENGTHS_AT(v, e, m) (2 * (v) + 3 * (e) + 7 * (m))
+
+/* Where a vector's live mark stands: numbers[CURATOR_LIVE_AT(v, e, m) + i] is that of vector i. 0 is withdrawn, any other number live. */
+#define CURATOR_LIVE_AT(v, e, m) (2 * (v) + 4 * (e) + 7 * (m))
 
 /* A filter: the four words of a node stand in the hashes from this place on, in a built index. The root is node 0; its filter has the labels of all that
    is held. Filters go by hash: one does not tell labels of one hash apart. */
@@ -70,8 +73,8 @@ enum {
 #define CURATOR_LABEL_START UINT64_C(0xcbf29ce484222325)
 
 /* What is returned. Where several cases hold, the earliest in the call's order is returned:
-   new 1, 2, 4; add 4, 3, 5, 7, 8, 9, 10, 11, 20; take back 4, 3, 5, 19; build 4, 3, then 0 for a built index, then 12, 15, 13;
-   search 4, 3, 6, 7, 8, 14, 15; pool 3. The numbers 16 to 18 are of the echo file, which no call here reads. */
+   new 1, 2, 4; add 4, 3, 5, 7, 8, 9, 10, 11, 20; take back 4, 3, 5, 19; withdraw 4, 3, 24; build 4, 3, then 0 for a built index, then
+   12, 15, 13; search 4, 3, 6, 7, 8, 14, 15; pool 3. The numbers 16 to 18 are of the echo file, which no call here reads. */
 enum {
     CURATOR_OK = 0,
     CURATOR_INVALID_DIMENSION = 1,
@@ -95,7 +98,8 @@ enum {
                                         searched for whose start plus length is above the bytes held; one hit too many. Other damage is not
                                         noticed. Leaves anything in work. */
     CURATOR_NO_VECTOR_HELD = 19,     /* take back: nothing was added, or all of it is taken back */
-    CURATOR_TEXT_FULL = 20           /* the bytes held and bytes_len are more than T */
+    CURATOR_TEXT_FULL = 20,          /* the bytes held and bytes_len are more than T */
+    CURATOR_UNKNOWN_DOCUMENT = 24    /* withdraw: no vector held has the document id */
 };
 
 /* An index that holds nothing: its state in the first fourteen places of the state list. The lists of the store may hold anything. */
@@ -105,7 +109,7 @@ uint32_t curator_new(size_t dimension, size_t branching_factor, size_t max_leaf_
 
 /* Adds a vector under a document id, with labels. lengths has two bytes a label, the length of its first part and that of its second; bytes has the
    parts one after the other. So a part has at most 255 bytes and a name at most 510. The bytes are written into the text after those held, and for each
-   label its start and its length. */
+   label its start and its length; the vector's live mark becomes 1. */
 uint32_t curator_add(size_t *state, size_t state_len,
                      float *floats, size_t floats_len, uint32_t *numbers, size_t numbers_len, uint64_t *hashes, size_t hashes_len,
                      uint8_t *text, size_t text_len,
@@ -114,18 +118,28 @@ uint32_t curator_add(size_t *state, size_t state_len,
 
 /* Takes the last accepted add back; called again, the one before it. The vectors held fall by one, and the entries held by the longest run at their end
    whose owner is that vector, whatever owners a damaged store has; where there is such an entry, the bytes held fall to the start of the first, if that is
-   lower. No list of the store is written: the places past the counts keep what the add wrote. */
+   lower. No list of the store is written: the places past the counts, the vector's live mark among them, keep what they hold. */
 uint32_t curator_take_back(size_t *state, size_t state_len,
                            const float *floats, size_t floats_len, const uint32_t *numbers, size_t numbers_len,
                            const uint64_t *hashes, size_t hashes_len, const uint8_t *text, size_t text_len);
 
-/* Makes the tree of what is held. A built index succeeds unchanged. The text is lent, and not read. */
+/* Withdraws a document id, before or after the build: 0 becomes the live mark of every vector held that has it. No other place of any list is written, no
+   mark past the vectors held either; the state stays. An id that is withdrawn is still held: called again at once, it succeeds and alters nothing. A vector
+   that is added under the id afterwards is live. No search of the index may run at the same time. */
+uint32_t curator_withdraw(const size_t *state, size_t state_len,
+                          const float *floats, size_t floats_len, uint32_t *numbers, size_t numbers_len,
+                          const uint64_t *hashes, size_t hashes_len, const uint8_t *text, size_t text_len, uint32_t doc_id);
+
+/* Makes the tree of what is held, withdrawn vectors among it. A built index succeeds unchanged. The text is lent, and not read; live marks are neither read
+   nor written. */
 uint32_t curator_build(size_t *state, size_t state_len,
                        float *floats, size_t floats_len, uint32_t *numbers, size_t numbers_len, uint64_t *hashes, size_t hashes_len,
                        const uint8_t *text, size_t text_len, uint32_t *work, size_t work_len);
 
-/* The nearest k documents that have a vector with the label whose name is first, then second, of any length: ids and distances of the hits, nearest first,
-   and the three numbers of the answer. */
+/* The nearest k documents that have a live vector with the label whose name is first, then second, of any length: ids and distances of the hits, nearest
+   first, and the three numbers of the answer. Hits are sorted by distance, document id and vector; of neighbours with one document id the first stays; then
+   those whose vector is withdrawn are struck, and of the rest the first k stay. So a withdrawn vector hides a live one of its document that comes directly
+   behind it. Nodes are opened and counted as if nothing were withdrawn. */
 uint32_t curator_search_filtered(const size_t *state, size_t state_len,
                                  const float *floats, size_t floats_len, const uint32_t *numbers, size_t numbers_len,
                                  const uint64_t *hashes, size_t hashes_len, const uint8_t *text, size_t text_len,
@@ -134,7 +148,7 @@ uint32_t curator_search_filtered(const size_t *state, size_t state_len,
                                  uint32_t *ids, size_t ids_len, float *distances, size_t distances_len,
                                  size_t *answer, size_t answer_len);
 
-/* The nearest k documents. The text is lent, and not read. */
+/* The nearest k documents that have a live vector, listed in the same way. The text is lent, and not read. */
 uint32_t curator_search(const size_t *state, size_t state_len,
                         const float *floats, size_t floats_len, const uint32_t *numbers, size_t numbers_len,
                         const uint64_t *hashes, size_t hashes_len, const uint8_t *text, size_t text_len,

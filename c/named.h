@@ -101,6 +101,7 @@ static inline uint32_t model_add(model_t *m, const echo_t *echo) {
     memcpy(m->lists.floats + n * D, echo->stored, sizeof echo->stored);
     memcpy(m->lists.text + m->bytes, bytes, count);
     m->lists.numbers[n] = echo->id;
+    m->lists.numbers[CURATOR_LIVE_AT(V, E, M) + n] = 1;
     for (size_t j = 0; j < echo->labels; j++) {
         size_t e = m->entries++;
         m->lists.numbers[V + e] = (uint32_t)n;
@@ -147,7 +148,7 @@ static inline model_t random_index(index_t *x, size_t ef) {
     walk(x, &m, below(30), 2 + below(5));
     while (m.vectors == 0) walk(x, &m, 1, 6);
     CHECK(build(x) == 0);
-    CHECK(memcmp(x->numbers + starts_at(x), m.lists.numbers + starts_at(x), (2 * E + SURPLUS) * 4) == 0);
+    CHECK(memcmp(x->numbers + starts_at(x), m.lists.numbers + starts_at(x), (2 * E + V + SURPLUS) * 4) == 0);
     CHECK(memcmp(x->text, m.lists.text, room + SURPLUS) == 0);
     return m;
 }

@@ -124,7 +124,7 @@ static int same(const index_t *x, const index_t *y) {
 /* what an accepted add wrote of ids, owners, hashes and label text: vector n, entries from e on, bytes from t on; returns where the bytes end */
 static size_t check_added(const index_t *x, const echo_t *echo, size_t n, size_t e, size_t t) {
     CHECK(x->state[CURATOR_VECTORS_HELD] == n + 1 && x->state[CURATOR_ENTRIES_HELD] == e + echo->labels);
-    CHECK(x->numbers[n] == echo->id);
+    CHECK(x->numbers[n] == echo->id && x->numbers[live_at(x) + n] == 1);
     for (size_t j = 0; j < echo->labels; j++) {
         const name_t *name = echo->names[j];
         CHECK(x->numbers[V + e + j] == n);

@@ -1,6 +1,6 @@
 /* Taking back the last add: its refusals at their boundaries and in their order, owners of any number, and random adds and takings back against a model
    that keeps the survivors and every place that an add wrote. */
-#include "check.h"
+#include "lent.h"
 
 /* an accepted taking back: one vector and so many entries less, the bytes held no more than the start of the first of these, and every other number of the
    state and every place of every list as before */
@@ -25,57 +25,8 @@ static void stays(index_t *x, size_t state, size_t floats, size_t numbers, size_
     forget(&c);
 }
 
-/* an index that holds nothing, three vectors with one label each, or those in a tree */
-enum { NOTHING, THREE, BUILT, KINDS };
-
-static void some(index_t *x, int kind) {
-    static const float seven[] = {1.0f, 0.0f}, eight[] = {0.0f, 2.0f}, nine[] = {3.0f, 4.0f};
-    CHECK(make(x, 2, 2, 1, 5, 4, 8, 16) == 0);
-    if (kind == NOTHING) return;
-    CHECK(add(x, 7, seven, "a") == 0 && add(x, 8, eight, "b") == 0 && add(x, 9, nine, "a") == 0);
-    if (kind == BUILT) CHECK(build(x) == 0);
-}
-
 /* what a call returns that rows 4 and 3 do not refuse */
 static uint32_t later(int kind) { return kind == NOTHING ? CURATOR_NO_VECTOR_HELD : kind == BUILT ? CURATOR_ALREADY_BUILT : CURATOR_OK; }
-
-/* row 4, with full lists and, since it comes before 3, with short ones */
-static void no_state(index_t *x, size_t state) {
-    stays(x, state, x->floats_len, x->numbers_len, x->hashes_len, x->text_len, CURATOR_INVALID_STATE);
-    stays(x, state, x->floats_len - 1, x->numbers_len - 1, x->hashes_len - 1, x->text_len - 1, CURATOR_INVALID_STATE);
-    stays(x, state, 0, 0, 0, 0, CURATOR_INVALID_STATE);
-}
-
-static void unsound(index_t *x, size_t place, size_t value) {
-    size_t kept = x->state[place];
-    x->state[place] = value;
-    no_state(x, CURATOR_STATE);
-    x->state[place] = kept;
-}
-
-static void test_state(void) {
-    static const struct { size_t place, value; } limits[] = {
-        {0, 0}, {0, 129}, {1, 0}, {1, 65}, {2, 4097}, {3, 65538}, {4, 65536}, {5, 0}, {5, 4097}, {6, 16385}, {7, 0}, {7, 65538}, {8, 5}, {9, 9}, {10, 17},
-        {11, 2}, {11, SIZE_MAX}, {0, SIZE_MAX}, {5, SIZE_MAX}, {8, SIZE_MAX}, {9, SIZE_MAX}, {10, SIZE_MAX}, {12, MOST_TEXT + 1}, {12, SIZE_MAX},
-        {13, 4081}, {13, SIZE_MAX}};
-    for (int kind = 0; kind < KINDS; kind++) {
-        index_t x;
-        some(&x, kind);
-        for (size_t length = 0; length < CURATOR_STATE; length++) no_state(&x, length);
-        for (size_t i = 0; i < sizeof limits / sizeof limits[0]; i++) unsound(&x, limits[i].place, limits[i].value);
-        if (kind != NOTHING) {
-            unsound(&x, CURATOR_VECTORS, 2);
-            unsound(&x, CURATOR_ENTRIES, 2);
-            unsound(&x, CURATOR_TEXT, 2);
-        }
-        /* the other flag; nodes in an unbuilt index; none in a built one, and a built one without vectors, which is 4 and neither 5 nor 19 */
-        unsound(&x, CURATOR_BUILT, kind != BUILT);
-        unsound(&x, CURATOR_NODES_HELD, kind != BUILT);
-        if (kind == BUILT) unsound(&x, CURATOR_VECTORS_HELD, 0);
-        CHECK(surplus_untouched(&x));
-        drop(&x);
-    }
-}
 
 /* settings at their limits are sound */
 static void test_limits(void) {
@@ -89,16 +40,12 @@ static void test_limits(void) {
     }
 }
 
-/* row 3 for each list, which comes before 5 and 19; lists of just their size */
+/* lists of just their size, and longer ones */
 static void test_lists(void) {
     for (int kind = 0; kind < KINDS; kind++) {
         index_t x;
         some(&x, kind);
         size_t f = x.floats_len, n = x.numbers_len, h = x.hashes_len, t = x.text_len;
-        const size_t lengths[][4] = {{f - 1, n, h, t}, {f, n - 1, h, t}, {f, n, h - 1, t}, {f, n, h, t - 1},
-                                     {0, n, h, t},     {f, 0, h, t},     {f, n, 0, t},     {f, n, h, 0},     {0, 0, 0, 0}};
-        for (size_t i = 0; i < sizeof lengths / sizeof lengths[0]; i++)
-            stays(&x, CURATOR_STATE, lengths[i][0], lengths[i][1], lengths[i][2], lengths[i][3], CURATOR_LIST_TOO_SHORT);
         if (later(kind)) {
             stays(&x, CURATOR_STATE, f, n, h, t, later(kind));
             stays(&x, CURATOR_STATE + SURPLUS, f + SURPLUS, n + SURPLUS, h + SURPLUS, t + SURPLUS, later(kind));
@@ -268,6 +215,7 @@ static uint32_t model_add(model_t *m, const echo_t *echo) {
     if (e + echo->labels > E) return CURATOR_ENTRIES_FULL;
     memcpy(m->lists.floats + n * D, echo->stored, sizeof echo->stored);
     m->lists.numbers[n] = echo->id;
+    m->lists.numbers[CURATOR_LIVE_AT(V, E, M) + n] = 1;
     memcpy(m->lists.text + m->bytes, echo->bytes, echo->bytes_len);
     for (size_t j = 0; j < echo->labels; j++) {
         m->lists.numbers[V + e + j] = (uint32_t)n;
@@ -337,6 +285,7 @@ static void check_held(const index_t *x, const index_t *y) {
     CHECK(SAME(x, y, numbers, 2 * V + E + 7 * M, e));
     CHECK(SAME(x, y, numbers, CURATOR_STARTS_AT(V, E, M), e));
     CHECK(SAME(x, y, numbers, CURATOR_LENGTHS_AT(V, E, M), e));
+    CHECK(SAME(x, y, numbers, CURATOR_LIVE_AT(V, E, M), n));
     CHECK(SAME(x, y, hashes, 0, e));
     CHECK(SAME(x, y, hashes, E, 4 * nodes));
     CHECK(SAME(x, y, text, 0, x->state[CURATOR_BYTES_HELD]));
@@ -346,7 +295,7 @@ static void check_held(const index_t *x, const index_t *y) {
 static void check_added(const index_t *x, const copy_t *y) {
     CHECK(SAME(x, y, floats, 0, V * D));
     CHECK(SAME(x, y, numbers, 0, V + E));
-    CHECK(SAME(x, y, numbers, CURATOR_STARTS_AT(V, E, M), 2 * E));
+    CHECK(SAME(x, y, numbers, CURATOR_STARTS_AT(V, E, M), 2 * E + V));
     CHECK(SAME(x, y, hashes, 0, E));
     CHECK(SAME(x, y, text, 0, x->text_len));
 }
@@ -396,8 +345,9 @@ static void test_random(void) {
 }
 
 int main(void) {
-    test_state();
+    check_states(stays);
     test_limits();
+    check_lists(stays);
     test_lists();
     test_example();
     test_owners();

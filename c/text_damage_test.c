@@ -146,7 +146,7 @@ static void test_damaged(void) {
 /* lends closed text in the place of an index's own */
 #define CLOSED(x, t) (x)->floats, (x)->floats_len, (x)->numbers, (x)->numbers_len, (x)->hashes, (x)->hashes_len, (t)->list, (x)->text_len
 
-/* filtered searches read none of the text past the bytes held; unfiltered ones, builds and takings back none at all */
+/* filtered searches read none of the text past the bytes held; unfiltered ones, builds, takings back and withdrawals none at all */
 static void test_unread(void) {
     for (int round = 0; round < 200; round++) {
         index_t x;
@@ -161,6 +161,7 @@ static void test_unread(void) {
         x.state[CURATOR_VECTORS_HELD] = m.lists.state[CURATOR_VECTORS_HELD];
         x.state[CURATOR_ENTRIES_HELD] = m.lists.state[CURATOR_ENTRIES_HELD];
         x.state[CURATOR_BYTES_HELD] = held;
+        CHECK(curator_withdraw(STATE(&x), CLOSED(&x, &none), x.numbers[0]) == 0);
         CHECK(curator_build(STATE(&x), CLOSED(&x, &none), WORK(&x)) == 0);
         CHECK(search(&x, &a, query, V) == 0);
         mark(&b);

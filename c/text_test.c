@@ -69,8 +69,8 @@ static void test_capacity(void) {
     }
 }
 
-/* the numbers that the five calls return, with so many bytes of text lent; each call is made on the same index, which is put back in between */
-enum { ADD, TAKE_BACK, BUILD, FILTERED, UNFILTERED, CALLS };
+/* the numbers that the six calls return, with so many bytes of text lent; each call is made on the same index, which is put back in between */
+enum { ADD, TAKE_BACK, WITHDRAW, BUILD, FILTERED, UNFILTERED, CALLS };
 
 static uint32_t call(index_t *x, int kind, size_t text, answer_t *a) {
     static const uint8_t lengths[] = {1, 0}, label[] = {'a'};
@@ -78,6 +78,7 @@ static uint32_t call(index_t *x, int kind, size_t text, answer_t *a) {
     switch (kind) {
         case ADD: return curator_add(STATE(x), LENT, 1, query, D, lengths, 2, label, 1);
         case TAKE_BACK: return curator_take_back(STATE(x), LENT);
+        case WITHDRAW: return curator_withdraw(STATE(x), LENT, 7);
         case BUILD: return curator_build(STATE(x), LENT, WORK(x));
         case FILTERED:
             return curator_search_filtered(STATE(x), LENT, WORK(x), query, D, label, 1, label, 0, 4, a->ids, HITS, a->distances, HITS, a->answer, 3);
@@ -117,7 +118,8 @@ static void fill_two(index_t *x) {
 static void fill_built(index_t *x) { fill_two(x); CHECK(build(x) == 0); }
 
 static void test_short(void) {
-    static const uint32_t nothing[CALLS] = {0, 19, 12, 6, 6}, none[CALLS] = {20, 19, 12, 6, 6}, two[CALLS] = {0, 0, 0, 6, 6}, built[CALLS] = {5, 5, 0, 0, 0};
+    static const uint32_t nothing[CALLS] = {0, 19, 24, 12, 6, 6}, none[CALLS] = {20, 19, 24, 12, 6, 6};
+    static const uint32_t two[CALLS] = {0, 0, 0, 0, 6, 6}, built[CALLS] = {5, 5, 0, 0, 0, 0};
     check_short(fill_nothing, nothing);
     check_short(fill_none, none);
     check_short(fill_two, two);
@@ -182,7 +184,7 @@ static void test_order(void) {
 
 /* ---- what is written, by hand */
 
-/* starts and lengths after the entries held, bytes after those held, and no other place of these */
+/* starts and lengths after the entries held, bytes after those held, a live mark for each vector, and no other place of these */
 static void test_written(void) {
     static const uint8_t first[] = {1, 2, 0, 0}, second[] = {0, 2, 3, 0, 1, 1};
     index_t x;
@@ -193,19 +195,21 @@ static void test_written(void) {
     CHECK(x.state[CURATOR_BYTES_HELD] == 3);
     CHECK(curator_add(STATE(&x), STORE(&x), 9, query, D, second, 6, (const uint8_t *)"dexyzfg", 7) == 0);
     CHECK(x.state[CURATOR_BYTES_HELD] == 10 && x.state[CURATOR_TEXT] == 12);
-    static const uint32_t starts[] = {0, 3, 3, 5, 8}, lengths[] = {3, 0, 2, 3, 2};
-    CHECK(x.numbers_len == 2 * 4 + 4 * 6 + 7 * 16);
+    static const uint32_t starts[] = {0, 3, 3, 5, 8}, lengths[] = {3, 0, 2, 3, 2}, live[] = {1, 1, 1};
+    CHECK(x.numbers_len == 3 * 4 + 4 * 6 + 7 * 16);
     CHECK(memcmp(x.numbers + starts_at(&x), starts, sizeof starts) == 0);
     CHECK(is_marked(x.numbers, starts_at(&x) + 5, starts_at(&x) + 6, 4));
     CHECK(memcmp(x.numbers + lengths_at(&x), lengths, sizeof lengths) == 0);
-    CHECK(is_marked(x.numbers, lengths_at(&x) + 5, x.numbers_len + SURPLUS, 4));
+    CHECK(is_marked(x.numbers, lengths_at(&x) + 5, lengths_at(&x) + 6, 4));
+    CHECK(memcmp(x.numbers + live_at(&x), live, sizeof live) == 0);
+    CHECK(is_marked(x.numbers, live_at(&x) + 3, x.numbers_len + SURPLUS, 4));
     CHECK(memcmp(x.text, "abcdexyzfg", 10) == 0);
     CHECK(is_marked(x.text, 10, 12 + SURPLUS, 1));
     CHECK(is_marked(x.numbers, 2 * x.v + x.e, starts_at(&x), 4));
     drop(&x);
 }
 
-/* what a build leaves of starts, lengths and text: all, answered and refused with 13 or 15 */
+/* what a build leaves of starts, lengths, live marks and text: all, answered and refused with 13 or 15 */
 static void test_built(void) {
     for (int kind = 0; kind < 3; kind++) {
         index_t x;
@@ -215,7 +219,7 @@ static void test_built(void) {
         if (kind == 2) x.numbers[x.v + 1] = 2;
         copy_t c = copy(&x);
         CHECK(build(&x) == (kind == 0 ? CURATOR_OK : kind == 1 ? CURATOR_NODES_FULL : CURATOR_DAMAGED));
-        CHECK(memcmp(x.numbers + starts_at(&x), c.numbers + starts_at(&x), (2 * x.e + SURPLUS) * 4) == 0);
+        CHECK(memcmp(x.numbers + starts_at(&x), c.numbers + starts_at(&x), (2 * x.e + x.v + SURPLUS) * 4) == 0);
         CHECK(memcmp(x.text, c.text, x.text_len + SURPLUS) == 0);
         CHECK(x.state[CURATOR_TEXT] == 64 && x.state[CURATOR_BYTES_HELD] == 32);
         forget(&c);

@@ -40,6 +40,8 @@ pub enum RetrieveError {
     NoVectorHeld,
     /// 20: the index has no room for that many bytes of label text more.
     TextFull,
+    /// 24: no vector held has the document id, so it cannot be withdrawn.
+    UnknownDocument,
     /// A label's name has more than 510 bytes. Refused here, before any call: it has no number.
     LabelTooLong,
 }
@@ -65,6 +67,7 @@ const NUMBERED: &[(u32, RetrieveError)] = &[
     (15, Damaged),
     (19, NoVectorHeld),
     (20, TextFull),
+    (24, UnknownDocument),
 ];
 
 impl RetrieveError {
@@ -106,6 +109,7 @@ impl fmt::Display for RetrieveError {
             Damaged => "the store is damaged",
             NoVectorHeld => "no vector is held",
             TextFull => "no room for the label text",
+            UnknownDocument => "no vector held has the document id",
             LabelTooLong => "a label's name has more than 510 bytes",
         })
     }
@@ -120,7 +124,7 @@ mod tests {
     #[test]
     fn numbers_and_back() {
         assert_eq!(RetrieveError::check(0), Ok(()));
-        for n in (1..=15).chain([19, 20]) {
+        for n in (1..=15).chain([19, 20, 24]) {
             let error = RetrieveError::check(n).unwrap_err();
             assert_eq!(error.number(), Some(n));
             assert!(!error.to_string().is_empty());
@@ -129,7 +133,8 @@ mod tests {
         assert_eq!(EmptyIndex.number(), Some(12));
         assert_eq!(NoVectorHeld.number(), Some(19));
         assert_eq!(TextFull.number(), Some(20));
-        for n in [16, 17, 18, 21, u32::MAX] {
+        assert_eq!(UnknownDocument.number(), Some(24));
+        for n in [16, 17, 18, 21, 22, 23, 25, u32::MAX] {
             assert_eq!(RetrieveError::check(n), Err(InvalidState));
         }
     }

@@ -125,7 +125,7 @@ impl CuratorIndex {
         Ok(Self {
             state,
             floats: vec![0.0; dimension * (vectors + nodes + params.branching_factor)],
-            numbers: vec![0; 2 * vectors + 4 * entries + 7 * nodes],
+            numbers: vec![0; 3 * vectors + 4 * entries + 7 * nodes],
             hashes: vec![0; entries + 4 * nodes],
             text: vec![0; text],
         })
@@ -225,6 +225,44 @@ impl CuratorIndex {
         RetrieveError::check(number)
     }
 
+    /// Withdraws a document id, before or after the build: no search gives a vector that has it now. A vector that is added under
+    /// the id afterwards is found; a withdrawn vector still hides one of its document that comes directly behind it. Withdrawing
+    /// again changes nothing.
+    ///
+    /// ```
+    /// # use curator::{CuratorIndex, CuratorParams, RetrieveError};
+    /// # fn main() -> Result<(), RetrieveError> {
+    /// let mut index = CuratorIndex::new(2, CuratorParams::default())?;
+    /// index.add(1, &[1.0, 0.0], &["silt"])?;
+    /// index.add(2, &[0.0, 1.0], &["silt"])?;
+    /// index.build()?;
+    /// index.withdraw(1)?; // the drain was rebuilt
+    /// assert_eq!(index.search(&[1.0, 0.0], 5)?, [(2, 1.0)]);
+    /// assert_eq!(index.withdraw(3), Err(RetrieveError::UnknownDocument));
+    /// # Ok(())
+    /// # }
+    /// ```
+    pub fn withdraw(&mut self, doc_id: u32) -> Result<(), RetrieveError> {
+        // SAFETY: each pointer and count are those of one list. The numbers, which are written, are a field of `self`, which is
+        // borrowed mutably; the others are only read.
+        let number = unsafe {
+            sys::curator_withdraw(
+                self.state.as_ptr(),
+                self.state.len(),
+                self.floats.as_ptr(),
+                self.floats.len(),
+                self.numbers.as_mut_ptr(),
+                self.numbers.len(),
+                self.hashes.as_ptr(),
+                self.hashes.len(),
+                self.text.as_ptr(),
+                self.text.len(),
+                doc_id,
+            )
+        };
+        RetrieveError::check(number)
+    }
+
     /// Makes the tree of what is held. A built index stays as it is.
     pub fn build(&mut self) -> Result<(), RetrieveError> {
         let number = with_work(self.work_size(), |work| {
@@ -250,9 +288,9 @@ impl CuratorIndex {
         RetrieveError::check(number)
     }
 
-    /// The nearest k documents that have a vector with the label: document ids and distances, nearest first. The label's name is
-    /// given whole, `"kerb-7/silt"`, or in two parts, `("kerb-7/", "silt")`. Labels are told apart by their bytes, also where their
-    /// hashes are the same.
+    /// The nearest k documents that have a live vector with the label, one that is not withdrawn: document ids and distances, nearest
+    /// first. The label's name is given whole, `"kerb-7/silt"`, or in two parts, `("kerb-7/", "silt")`. Labels are told apart by
+    /// their bytes, also where their hashes are the same.
     pub fn search_filtered<'a>(
         &self,
         query: &[f32],
@@ -262,7 +300,7 @@ impl CuratorIndex {
         self.find_filtered(query, k, label).map(Found::pairs)
     }
 
-    /// The nearest k documents: document ids and distances, nearest first.
+    /// The nearest k documents that have a live vector: document ids and distances, nearest first.
     pub fn search(&self, query: &[f32], k: usize) -> Result<Vec<(u32, f32)>, RetrieveError> {
         self.find(query, k).map(Found::pairs)
     }
@@ -343,7 +381,7 @@ impl CuratorIndex {
         })
     }
 
-    /// How many vectors the index holds.
+    /// How many vectors the index holds, withdrawn ones among them.
     pub fn len(&self) -> usize {
         self.state[VECTORS_HELD]
     }

@@ -54,6 +54,20 @@ extern "C" {
         text_len: usize,
     ) -> u32;
 
+    pub fn curator_withdraw(
+        state: *const usize,
+        state_len: usize,
+        floats: *const f32,
+        floats_len: usize,
+        numbers: *mut u32,
+        numbers_len: usize,
+        hashes: *const u64,
+        hashes_len: usize,
+        text: *const u8,
+        text_len: usize,
+        doc_id: u32,
+    ) -> u32;
+
     pub fn curator_build(
         state: *mut usize,
         state_len: usize,

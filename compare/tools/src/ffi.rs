@@ -101,6 +101,25 @@ pub fn take_back(state: &mut [usize], store: Store) -> u32 {
     }
 }
 
+/// Of the store only the numbers are written.
+pub fn withdraw(state: &[usize], store: StoreMut, id: u32) -> u32 {
+    unsafe {
+        c::curator_withdraw(
+            state.as_ptr(),
+            state.len(),
+            store.floats.as_ptr(),
+            store.floats.len(),
+            store.numbers.as_mut_ptr(),
+            store.numbers.len(),
+            store.hashes.as_ptr(),
+            store.hashes.len(),
+            store.text.as_ptr(),
+            store.text.len(),
+            id,
+        )
+    }
+}
+
 pub fn build(state: &mut [usize], store: StoreMut, work: &mut [u32]) -> u32 {
     unsafe {
         c::curator_build(

@@ -26,7 +26,7 @@ impl Shape {
     }
 
     pub fn numbers(&self) -> usize {
-        2 * self.vectors + 4 * self.entries + 7 * self.nodes
+        self.live() + self.vectors
     }
 
     /// Where the starts of the entries' labels stand in the numbers, and their lengths.
@@ -36,6 +36,11 @@ impl Shape {
 
     pub fn lengths(&self) -> usize {
         self.starts() + self.entries
+    }
+
+    /// Where the live marks of the vectors stand.
+    pub fn live(&self) -> usize {
+        self.lengths() + self.entries
     }
 
     pub fn hashes(&self) -> usize {
@@ -122,6 +127,11 @@ impl Ours {
     /// Takes the last add back.
     pub fn take_back(&mut self) -> Result<(), u32> {
         done(ffi::take_back(&mut self.state, self.lists.lend()))
+    }
+
+    /// Withdraws a document id.
+    pub fn withdraw(&mut self, id: u32) -> Result<(), u32> {
+        done(ffi::withdraw(&self.state, self.lists.lend_mut().0, id))
     }
 
     pub fn build(&mut self) -> Result<(), u32> {

@@ -23,17 +23,17 @@ pub fn sample(random: &mut Random) -> Option<(Case, Tree)> {
     let plain = case.plain();
     case.queries.retain(|query| query.k <= PLACES && domain::of(&walk(&tree, query), plain) == Domain::Whole);
     let fits = tree.nodes.len() <= NODES && echo::file(&case).len() <= LONGEST;
-    let tells = case.queries.iter().any(|query| answer(&walk(&tree, query), query.k).hits.len() > 1);
+    let tells = case.queries.iter().any(|query| answer(&walk(&tree, query), query.k, |_| true).hits.len() > 1);
     (fits && tells).then_some((case, tree))
 }
 
-/// What is printed, from the original's hits and the model's count.
+/// What is printed (an echo file withdraws nothing), from the original's hits and the model's count.
 pub fn printed(case: &Case, tree: &Tree) -> String {
     let theirs = theirs::built(case);
     let mut text = String::new();
     for query in &case.queries {
         let hits = theirs::search(&theirs, query);
-        let model = answer(&walk(tree, query), query.k);
+        let model = answer(&walk(tree, query), query.k, |_| true);
         assert!(same_hits(&hits, &model.hits), "the original and the model differ");
         echo::print(&mut text, &hits, model.opened, model.whole);
     }

@@ -1,6 +1,6 @@
 //! Times of both sides in one process. The sides take turns, a block of calls each; a row has the median of each block.
 use super::inputs::K;
-use crate::case::{Case, Label, Query};
+use crate::case::{Case, Doc, Label, Query};
 use crate::check::search::{same_hits, search};
 use crate::ffi::{self, Added, Asked, Filled};
 use crate::ours::{Lists, Ours};
@@ -181,32 +181,57 @@ fn search_ours(ours: &mut Ours, query: &[f32], label: Option<&Label>) -> f64 {
     time
 }
 
-fn search_theirs(theirs: &CuratorIndex, query: &[f32], label: Option<&Label>) -> f64 {
-    let label = label.map(|label| label.text().expect("text"));
-    microseconds(|| {
+/// The original with nothing withdrawn, or with some ids: then it is asked with an unlimited k, these are struck, and the first k stay (K10 of document 02).
+struct Theirs {
+    index: CuratorIndex,
+    /// By id; empty where nothing is withdrawn.
+    gone: Vec<bool>,
+}
+
+impl Theirs {
+    fn hits(&self, query: &[f32], label: Option<&str>) -> Vec<(u32, f32)> {
+        let k = if self.gone.is_empty() { K } else { usize::MAX };
         let hits = match label {
-            Some(label) => theirs.search_filtered(query, K, label),
-            None => theirs.search(query, K),
+            Some(label) => self.index.search_filtered(query, k, label),
+            None => self.index.search(query, k),
         };
-        drop(black_box(hits.expect("search")));
-    })
+        let hits = hits.expect("search");
+        if self.gone.is_empty() {
+            return hits;
+        }
+        hits.into_iter().filter(|hit| !self.gone[hit.0 as usize]).take(K).collect()
+    }
+}
+
+fn search_theirs(theirs: &Theirs, query: &[f32], label: Option<&Label>) -> f64 {
+    let label = label.map(|label| label.text().expect("text"));
+    microseconds(|| drop(black_box(theirs.hits(query, label))))
 }
 
 /// Both sides must answer every query alike.
-fn compare_answers(case: &Case, call: Call, ours: &mut Ours, theirs: &CuratorIndex) {
+fn compare_answers(case: &Case, call: Call, ours: &mut Ours, theirs: &Theirs) {
     for query in &case.queries {
         let label = query.label.clone().filter(|_| call == Call::Filtered);
         let query = Query { label, ..query.clone() };
         let found = search(ours, &query, query.half()).expect("search");
-        assert!(same_hits(&found.hits, &theirs::search(theirs, &query)), "the answers differ");
+        let label = query.label.as_ref().map(|label| label.text().expect("text"));
+        assert!(same_hits(&found.hits, &theirs.hits(&query.vector, label)), "the answers differ");
     }
 }
 
-/// Searches: `rounds` blocks; in each every query is searched once.
-pub fn searches(case: &Case, call: Call, rounds: usize) -> Times {
+/// Both sides built, with these ids withdrawn after it.
+fn built(case: &Case, gone: Vec<bool>) -> (Ours, Theirs) {
     let mut ours = filled(case);
     ours.build().expect("build");
-    let theirs = theirs::built(case);
+    for (id, _) in gone.iter().enumerate().filter(|(_, &gone)| gone) {
+        ours.withdraw(id as u32).expect("withdraw");
+    }
+    (ours, Theirs { index: theirs::built(case), gone })
+}
+
+/// Searches: `rounds` blocks; in each every query is searched once.
+fn searches(case: &Case, call: Call, rounds: usize, gone: Vec<bool>) -> Times {
+    let (mut ours, theirs) = built(case, gone);
     compare_answers(case, call, &mut ours, &theirs);
     let label = |i: usize| case.queries[i].label.as_ref().filter(|_| call == Call::Filtered);
     let each = || case.queries.iter().enumerate().map(|(i, query)| (&query.vector[..], label(i)));
@@ -218,11 +243,26 @@ pub fn searches(case: &Case, call: Call, rounds: usize) -> Times {
     times
 }
 
+/// Searches with every third id withdrawn.
+pub fn searches_of_the_rest(case: &Case, call: Call, rounds: usize) -> Times {
+    searches(case, call, rounds, (0..case.docs.len()).map(|id| id % 3 == 0).collect())
+}
+
+/// One withdrawal of ours: `rounds` blocks of every id once; the original has none.
+pub fn withdrawal(case: &Case, rounds: usize) -> f64 {
+    let (mut ours, _) = built(case, Vec::new());
+    let mut block = || {
+        let time = |doc: &Doc| microseconds(|| ours.withdraw(doc.id).expect("withdraw"));
+        median(case.docs.iter().map(time).collect())
+    };
+    median((0..rounds).map(|_| block()).collect())
+}
+
 pub fn measure(case: &Case, call: Call, rounds: usize) -> Times {
     let size = if case.docs.len() > 1000 { 3 } else { 15 };
     match call {
         Call::Add => adds(case, rounds, size),
         Call::Build => builds(case, rounds, size),
-        _ => searches(case, call, rounds),
+        _ => searches(case, call, rounds, Vec::new()),
     }
 }

@@ -9,7 +9,7 @@ pub struct Row {
 }
 
 /// A time in microseconds, with three digits.
-fn time(x: f64) -> String {
+pub fn time(x: f64) -> String {
     match x {
         x if x < 1.0 => format!("{x:.3}"),
         x if x < 10.0 => format!("{x:.2}"),

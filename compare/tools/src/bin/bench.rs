@@ -1,7 +1,7 @@
 //! bench ROUNDS SVG: prints the tables in Markdown and writes the plot.
 use tools::bench::inputs::case;
-use tools::bench::measure::{measure, median, Call, Times};
-use tools::bench::page::{table, Row};
+use tools::bench::measure::{measure, median, searches_of_the_rest, withdrawal, Call, Times};
+use tools::bench::page::{table, time, Row};
 use tools::bench::plot::{svg, Diagram, Line};
 
 const USUAL_EF: usize = 256;
@@ -24,6 +24,21 @@ fn main_rows(rounds: usize) -> Vec<Row> {
         times: measure(&case(n, each, ef), call, rounds),
     };
     rows.into_iter().map(row).collect()
+}
+
+/// Searches with a third of the ids withdrawn, and the time of a withdrawal.
+fn print_withdrawn(rounds: usize) {
+    let sizes = [4096, 256];
+    let calls = sizes.iter().flat_map(|&n| CALLS[2..].iter().map(move |&call| (call, n)));
+    let row = |(call, n): (Call, usize)| Row {
+        words: vec![call.name().into(), n.to_string(), "1".into(), USUAL_EF.to_string()],
+        times: searches_of_the_rest(&case(n, 1, USUAL_EF), call, rounds),
+    };
+    let rows: Vec<Row> = calls.map(row).collect();
+    println!("Every third id withdrawn after the build; the Rust is asked with an unlimited k, what is withdrawn is struck, and the first k stay:\n");
+    println!("{}", table(&["call", "n", "labels a vector", "ef_search"], &rows));
+    let [large, small] = sizes.map(|n| time(withdrawal(&case(n, 1, USUAL_EF), rounds)));
+    println!("A withdrawal takes {large} µs at n 4,096 and {small} µs at n 256; the Rust has none.\n");
 }
 
 /// One call at each of some sizes.
@@ -71,6 +86,7 @@ fn main() {
     let rounds: usize = words.get(1).map_or(21, |word| word.parse().expect("a number of rounds"));
     let path = words.get(2).map_or("benchmarks.svg", |word| word);
     println!("## Times\n\n{}", table(&["call", "n", "labels a vector", "ef_search"], &main_rows(rounds)));
+    print_withdrawn(rounds);
     let sizes = [64, 128, 256, 512, 1024, 2048, 4096];
     let (by_n, first) = grown(&CALLS[1..], rounds / 2 + 1, &sizes, |n| (n, USUAL_EF), "n");
     println!("## How cost grows\n\n![Times by n and by ef_search](benchmarks.svg)\n");

@@ -21,12 +21,31 @@ fn summary(tally: &Tally) {
     println!("  ids and distances equal to the original's: {}", tally.whole_domain);
     println!("  distances, and ids at unshared distances: {}", tally.distances);
     println!("  outside the domain of equality: {}", tally.outside);
-    println!("  without the original, by a label of which another has the hash, or beside labels that are no text: {}", tally.no_reference);
-    println!("  equal to the brute-force first k: {}, {} of these without the original", tally.brute, tally.brute_alone);
-    println!("adds taken back: {}", tally.taken_back);
-    println!("adds refused for want of label text: {}", tally.text_full);
-    println!("names parted twice: {} in adds, {} in searches", tally.parted_adds, tally.parted_searches);
+    println!(
+        "  without the original, by a label of which another has the hash, beside labels that are no text, or with an id taught again: {}",
+        tally.no_reference
+    );
+    println!("  equal to the brute-force first k: {}, {} of these without the original", tally.whole, tally.brute_alone);
+    println!("adds taken back: {}", tally.taught.taken_back);
+    println!("adds refused for want of label text: {}", tally.taught.text_full);
+    println!("names parted twice: {} in adds, {} in searches", tally.taught.parted, tally.parted_searches);
     println!("builds refused for want of nodes: {}", tally.too_many);
+    withdrawals(tally);
+}
+
+fn withdrawals(tally: &Tally) {
+    let (taught, counts) = (&tally.taught, &tally.withdrawals);
+    println!(
+        "withdrawals: {} before a build, {} of no document; {} after it, {} of no document",
+        taught.withdrawn, taught.unknown, counts.accepted, counts.unknown
+    );
+    println!(
+        "searches with withdrawn vectors: {}, {} of these in the domain by the original with an unlimited k",
+        counts.searches, counts.by_original
+    );
+    println!("  with another answer for it: {}, {} of these with at least 16 k hits found", counts.other, counts.of_many);
+    println!("  with an id taught again after its withdrawal: {}, {} of these confirmed by brute force", counts.again, counts.again_brute);
+    println!("  with a live vector behind a withdrawn one of its document, and another answer for it: {}", counts.hiding);
 }
 
 fn main() {

@@ -8,6 +8,7 @@ use tools::damage::pool::pool;
 use tools::damage::random_calls::{added, cut_twice, damaged, parted_otherwise, vector};
 use tools::damage::short::{short_answer, short_state};
 use tools::damage::take_back::take_back;
+use tools::damage::withdraw::withdraw_and_search;
 use tools::ffi::Asked;
 use tools::ours::{Ours, STATE};
 use tools::random::Random;
@@ -33,7 +34,7 @@ fn calls(random: &mut Random, ours: &Ours, labels: &[Label], codes: &mut Codes) 
     note("label_hash", label_hash(random)?);
     for _ in 0..4 {
         let query = vector(random, dimension);
-        let k = random.below(70);
+        let k = if random.one_in(2) { random.below(4) } else { random.below(70) };
         let places = if random.one_in(20) { random.below(k + 1) } else { k + random.below(3) };
         let all = Asked { query: &query, label: None, k };
         note("search", check::search(ours, all, places)?);
@@ -41,6 +42,7 @@ fn calls(random: &mut Random, ours: &Ours, labels: &[Label], codes: &mut Codes) 
         let [label, other] = cut_twice(random, label);
         note("search_filtered", check::search(ours, Asked { label, ..all }, places)?);
         note("search_filtered, parted otherwise", check::search(ours, Asked { label: other, ..all }, places)?);
+        withdraw_and_search(random, ours, Asked { label, ..all }, &mut note)?;
     }
     take_back(ours, 1, &mut note)?;
     take_back(&to_take_back(random, ours), random.from(1, 4), &mut note)?;

@@ -2,9 +2,10 @@
 //! of what is not held, and of what lies outside a list.
 use tools::case::Label;
 use tools::damage::bare::{Bare, BareLists};
-use tools::damage::check::{search_result, take_back_result};
+use tools::damage::check::{search_result, take_back_result, withdraw_result};
 use tools::damage::make::to_take_back;
 use tools::damage::random_calls::{added, cut_twice, damaged, vector};
+use tools::damage::withdraw::id;
 use tools::ffi::{self, Asked, Filled, Store, StoreMut};
 use tools::model::refusal::State;
 use tools::ours::Ours;
@@ -39,9 +40,20 @@ fn take_back(ours: &Ours) -> bool {
     (code, state) == take_back_result(ours)
 }
 
-/// All calls; the built store is read by nobody here. Add and build read no starts, lengths and bytes.
+/// A withdrawal in lists that hold the ids alone, no mark either; whether it ends as the model says.
+fn withdraw(ours: &Ours, id: u32) -> bool {
+    let state = State::of(&ours.state);
+    let mut lists = BareLists::ids(&state, &ours.lists);
+    let code = ffi::withdraw(&ours.state, store_mut(&mut lists).0, id);
+    let (expected, numbers) = withdraw_result(ours, id);
+    let written = |vector: &usize| numbers[*vector] == id;
+    let zero = |vector: usize| lists.numbers.get()[state.shape.live() + vector] == 0;
+    code == expected && (code != 0 || (0..state.vectors).filter(written).all(zero))
+}
+
+/// All calls; the built store is read by nobody here. Add and build read no starts, lengths and bytes, and no live marks.
 fn calls(random: &mut Random, ours: &Ours, labels: &[Label]) -> bool {
-    let held = || BareLists::no_labels(&State::of(&ours.state), &ours.lists);
+    let held = || BareLists::no_marks(&State::of(&ours.state), &ours.lists);
     let mut state = ours.state;
     ffi::add(&mut state, store_mut(&mut held()).0, &added(random, ours.state[0]));
     let (mut state, mut lists) = (ours.state, held());
@@ -52,7 +64,8 @@ fn calls(random: &mut Random, ours: &Ours, labels: &[Label]) -> bool {
     let label = random.of(labels);
     let [label, _] = cut_twice(random, label);
     let other = to_take_back(random, ours);
-    take_back(ours) && take_back(&other) && search(ours, all) && search(ours, Asked { label, ..all })
+    let id = id(random, ours);
+    take_back(ours) && take_back(&other) && withdraw(ours, id) && search(ours, all) && search(ours, Asked { label, ..all })
 }
 
 fn main() {

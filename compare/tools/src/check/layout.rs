@@ -28,11 +28,13 @@ fn narrow(list: &[usize]) -> impl Iterator<Item = u32> + '_ {
     list.iter().map(|&x| x as u32)
 }
 
-/// What one add writes, which is accepted in a state: label text and, for each label, its start and length behind those held (K4 of document 02).
+/// What one add writes, which is accepted in a state: label text and, for each label, its start and length behind those held (K4 of document 02), and 1 as
+/// the vector's live mark (K10).
 pub fn put_one(state: &State, lists: &mut Lists, added: &Added) {
     let s = &state.shape;
     put(&mut lists.floats, state.vectors * s.dimension, normalized(&added.vector));
     lists.numbers[state.vectors] = added.id;
+    lists.numbers[s.live() + state.vectors] = 1;
     let mut from = 0;
     for (i, parts) in added.lengths.chunks_exact(2).enumerate() {
         let end = from + usize::from(parts[0]) + usize::from(parts[1]);
@@ -45,7 +47,12 @@ pub fn put_one(state: &State, lists: &mut Lists, added: &Added) {
     put(&mut lists.text, state.bytes, added.bytes.iter().copied());
 }
 
-/// What all adds write.
+/// The live marks of the vectors held: 1, or 0 where one is withdrawn.
+pub fn put_marks(shape: &Shape, lists: &mut Lists, live: &[bool]) {
+    put(&mut lists.numbers, shape.live(), live.iter().map(|&live| u32::from(live)));
+}
+
+/// What all adds write but for the live marks, which a withdrawal may have written since.
 fn put_added(tree: &Tree, shape: &Shape, lists: &mut Lists) {
     put(&mut lists.floats, 0, tree.vectors.concat());
     put(&mut lists.numbers, 0, tree.ids.iter().copied());

@@ -1,4 +1,4 @@
-//! The checks of one case: the store after adds and takings back and after a build, each search against the model, the original and brute force.
+//! The checks of one case: the store after adds, takings back and withdrawals and after a build, each search against the model, the original and brute force.
 pub mod case;
 pub mod domain;
 pub mod layout;
@@ -7,3 +7,4 @@ pub mod pool;
 pub mod search;
 pub mod shrink;
 pub mod teach;
+pub mod withdraw;

@@ -32,12 +32,17 @@ pub fn spoilt(random: &mut Random, given: &Added) -> Added {
     given
 }
 
-/// Two places at which a search's name is cut, derived from the search alone.
-pub fn cuts(query: &Query) -> [usize; 2] {
+/// The seed of random numbers that a search decides.
+pub fn seed(query: &Query) -> u64 {
     let mut bytes: Vec<u8> = query.vector.iter().flat_map(|x| x.to_bits().to_le_bytes()).collect();
     bytes.extend(query.k.to_le_bytes());
+    hash_bytes(&bytes)
+}
+
+/// Two places at which a search's name is cut, derived from the search alone.
+pub fn cuts(query: &Query) -> [usize; 2] {
     let length = query.label.as_ref().map_or(0, |label| label.len());
-    places(&mut Random::new(hash_bytes(&bytes)), length, length)
+    places(&mut Random::new(seed(query)), length, length)
 }
 
 /// Whether the library's hash of the first part, carried on through the second, is that of the name.

@@ -51,9 +51,19 @@ impl BareLists {
         BareLists::with(state, from, BareLists::put_held)
     }
 
-    /// Of what is held all but the labels' starts, lengths and bytes, which no build reads, and no search that is not filtered.
+    /// Of what is held all but the labels' starts, lengths and bytes, which no search reads that is not filtered.
     pub fn no_labels(state: &State, from: &Lists) -> BareLists {
         BareLists::with(state, from, BareLists::put_unlabelled)
+    }
+
+    /// Of what is held all but those and the live marks, which no add or build reads.
+    pub fn no_marks(state: &State, from: &Lists) -> BareLists {
+        BareLists::with(state, from, BareLists::put_unmarked)
+    }
+
+    /// The document ids of what is held, which is all that a withdrawal may read.
+    pub fn ids(state: &State, from: &Lists) -> BareLists {
+        BareLists::with(state, from, BareLists::put_ids)
     }
 
     /// Of what is held the owners and the start of the first entry that goes, which is all that a taking back may read.
@@ -77,6 +87,10 @@ impl BareLists {
         lists
     }
 
+    fn put_ids(&mut self, state: &State, from: &Lists) {
+        self.numbers.put(&from.numbers, 0, state.vectors);
+    }
+
     fn put_owners(&mut self, state: &State, from: &Lists) {
         self.numbers.put(&from.numbers, state.shape.vectors, state.entries);
     }
@@ -97,12 +111,17 @@ impl BareLists {
     }
 
     fn put_unlabelled(&mut self, state: &State, from: &Lists) {
+        self.put_unmarked(state, from);
+        self.numbers.put(&from.numbers, state.shape.live(), state.vectors);
+    }
+
+    fn put_unmarked(&mut self, state: &State, from: &Lists) {
         let s = &state.shape;
         let (n, e, nodes) = (state.vectors, state.entries, state.nodes);
         let order = s.vectors + s.entries;
         let table = order + s.vectors;
         self.floats.put(&from.floats, 0, n * s.dimension);
-        self.numbers.put(&from.numbers, 0, n);
+        self.put_ids(state, from);
         self.put_owners(state, from);
         self.hashes.put(&from.hashes, 0, e);
         if state.built == 1 {

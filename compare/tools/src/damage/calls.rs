@@ -99,6 +99,14 @@ pub fn take_back(ours: &Ours) -> Result<Left, String> {
     lent.left(code)
 }
 
+pub fn withdraw(ours: &Ours, id: u32) -> Result<Left, String> {
+    let mut lent = Lent::new(ours, 0);
+    let state = Guarded::new(&ours.state);
+    let code = ffi::withdraw(state.get(), lent.store_mut(), id);
+    lent.state = state;
+    lent.left(code)
+}
+
 pub fn build(ours: &Ours) -> Result<Left, String> {
     let mut lent = Lent::new(ours, 0);
     let mut state = ours.state;

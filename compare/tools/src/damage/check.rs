@@ -40,8 +40,9 @@ pub fn search_result(ours: &Ours, asked: Asked, places: usize) -> (u32, Option<A
     }
     let store = ours.lists.lend();
     let label = asked.label.map(|name| name.joined());
-    match (View { state, store }).walk(asked.query, label.as_deref()) {
-        Ok(walk) => (0, Some(answer(&walk, asked.k))),
+    let view = View { state, store };
+    match view.walk(asked.query, label.as_deref()) {
+        Ok(walk) => (0, Some(answer(&walk, asked.k, |vector| view.live(vector)))),
         Err(_) => (15, None),
     }
 }
@@ -154,6 +155,32 @@ pub fn take_back_result(ours: &Ours) -> (u32, [usize; STATE]) {
         numbers[13] = view.bytes_left();
     }
     (refused.unwrap_or(0), numbers)
+}
+
+/// The number that document 02 defines for a withdrawal, and the numbers of the store after it.
+pub fn withdraw_result(ours: &Ours, id: u32) -> (u32, Vec<u32>) {
+    let state = State::of(&ours.state);
+    let view = View { state, store: ours.lists.lend() };
+    let refused = refusal::withdraw(&state, Lent::of(&ours.lists), || !view.with_id(id).is_empty());
+    let mut numbers = ours.lists.numbers.clone();
+    if refused.is_none() {
+        view.with_id(id).into_iter().for_each(|vector| numbers[state.shape.live() + vector] = 0);
+    }
+    (refused.unwrap_or(0), numbers)
+}
+
+/// A withdrawal, and what it left.
+pub fn withdraw(ours: &Ours, id: u32) -> Result<(Ended, Ours), String> {
+    let left = calls::withdraw(ours, id)?;
+    let (code, numbers) = withdraw_result(ours, id);
+    let lists = Lists { numbers, ..ours.lists.clone() };
+    if left.code != code || left.ours.state != ours.state {
+        return Err(format!("withdraw {id}: {}, not {code}, or the state", left.code));
+    }
+    if !same_lists(&lists, &left.ours.lists) || lists.work != left.ours.lists.work {
+        return Err(format!("withdraw {id}, {code}: a list differs from the model"));
+    }
+    Ok((ended(code)?, left.ours))
 }
 
 /// A taking back, and what it left.

@@ -47,7 +47,7 @@ fn damage_numbers(random: &mut Random, ours: &mut Ours) {
     let s = ours.shape();
     let order = s.vectors + s.entries;
     let table = order + s.vectors;
-    let cuts = [0, s.vectors, order, table, table + 6 * s.nodes, table + 7 * s.nodes, s.starts(), s.lengths()];
+    let cuts = [0, s.vectors, order, table, table + 6 * s.nodes, table + 7 * s.nodes, s.starts(), s.lengths(), s.live()];
     let (start, end) = part(random, &cuts, s.numbers());
     for _ in 0..times(random, end - start) {
         let near = *random.of(&[ours.state[8], ours.state[9], ours.state[10], ours.state[13], 2]);
@@ -104,6 +104,19 @@ fn damage_text(random: &mut Random, ours: &mut Ours) {
     }
 }
 
+/// Live marks, held or not: 0, 1 or any number. Ids become each other's, so that a document has several vectors, some of them live and some not.
+fn damage_marks(random: &mut Random, ours: &mut Ours) {
+    let s = ours.shape();
+    for _ in 0..times(random, s.vectors) {
+        let at = s.live() + random.below(s.vectors);
+        ours.lists.numbers[at] = if random.one_in(2) { 0 } else { number(random, 2) };
+    }
+    for _ in 0..if random.one_in(2) { times(random, s.vectors) } else { 0 } {
+        let (at, from) = (random.below(s.vectors), random.below(s.vectors));
+        ours.lists.numbers[at] = ours.lists.numbers[from];
+    }
+}
+
 /// One or two numbers of the state: any, near a limit of document 01 or 02, or near what they were.
 fn damage_state(random: &mut Random, state: &mut [usize; STATE]) {
     let limits = [128, 64, 4096, 65537, 65535, 4096, 16384, 65537, 4096, 16384, 65537, 1, MOST_TEXT, MOST_TEXT];
@@ -141,6 +154,9 @@ pub fn damaged(random: &mut Random, case: &Case) -> Ours {
     }
     if random.one_in(3) {
         damage_text(random, &mut ours);
+    }
+    if random.one_in(2) {
+        damage_marks(random, &mut ours);
     }
     if random.one_in(4) {
         damage_state(random, &mut ours.state);

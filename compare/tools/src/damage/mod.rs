@@ -9,3 +9,4 @@ pub mod pool;
 pub mod random_calls;
 pub mod short;
 pub mod take_back;
+pub mod withdraw;

@@ -25,10 +25,11 @@ pub fn short_state(ours: &Ours, added: &Added, asked: Asked, places: usize) -> R
     let mut state = Guarded::new(&ours.state[..places]);
     let add = ffi::add(state.get_mut(), copy.lists.lend_mut().0, added);
     let take_back = ffi::take_back(state.get_mut(), copy.lists.lend());
+    let withdraw = ffi::withdraw(state.get(), copy.lists.lend_mut().0, added.id);
     let mut work = ours.lists.work.clone();
     let build = ffi::build(state.get_mut(), copy.lists.lend_mut().0, &mut work);
-    let codes = [add, take_back, build, search(ours, asked, asked.k, places, 3)?];
-    if codes == [4; 4] && state.get() == &ours.state[..places] && state.intact() {
+    let codes = [add, take_back, withdraw, build, search(ours, asked, asked.k, places, 3)?];
+    if codes == [4; 5] && state.get() == &ours.state[..places] && state.intact() {
         return Ok(());
     }
     Err(format!("a state of {places} places: {codes:?}"))

@@ -1,4 +1,4 @@
-//! A model of add, taking back, build and search, written from the text of documents 01 and 02 and from neither program.
+//! A model of add, taking back, withdrawing, build and search, written from the text of documents 01 and 02 and from neither program.
 pub mod label;
 pub mod number;
 pub mod refusal;

@@ -1,4 +1,4 @@
-//! 'Refusals and what they leave' of document 01, with rows 9, 19 and 20 of document 02 (K7, K3, K4): the rows of each call, in their order.
+//! 'Refusals and what they leave' of document 01, with rows 9, 19, 20 and 24 of document 02 (K7, K3, K4, K10): the rows of each call, in their order.
 use crate::ffi::{Added, Asked};
 use crate::ours::{Lists, Shape};
 
@@ -40,7 +40,7 @@ impl State {
     }
 }
 
-/// The lengths of the lists that are lent; an add or a taking back is lent no work list.
+/// The lengths of the lists that are lent; an add, a taking back or a withdrawal is lent no work list.
 #[derive(Clone, Copy)]
 pub struct Lent {
     pub floats: usize,
@@ -94,6 +94,16 @@ pub fn take_back(state: &State, lent: Lent) -> Option<u32> {
         short(&state.shape, lent, false) => 3,
         state.built == 1 => 5,
         state.vectors == 0 => 19,
+    }
+    None
+}
+
+/// Whether a vector held has the id is only asked where neither 4 nor 3 holds.
+pub fn withdraw(state: &State, lent: Lent, held: impl FnOnce() -> bool) -> Option<u32> {
+    first! {
+        !state.sound() => 4,
+        short(&state.shape, lent, false) => 3,
+        !held() => 24,
     }
     None
 }

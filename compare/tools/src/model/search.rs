@@ -1,4 +1,4 @@
-//! 'Search' of document 01; a label is its bytes (K4 of document 02).
+//! 'Search' of document 01; a label is its bytes, and withdrawn hits are struck (K4 and K10 of document 02).
 use super::label::hash_bytes;
 use super::number::{distance, normalized};
 use super::tree::Tree;
@@ -77,22 +77,51 @@ pub fn walk(tree: &Tree, query: &Query) -> Walk {
     walk
 }
 
-/// Hits are sorted, adjacent equal document ids lose the later, the first k stay.
-pub fn answer(walk: &Walk, k: usize) -> Answer {
-    let mut hits = walk.raw.clone();
+/// Raw hits sorted by distance, document id and vector number.
+fn sorted(raw: &[(u32, f32, usize)]) -> Vec<(u32, f32, usize)> {
+    let mut hits = raw.to_vec();
     hits.sort_by(|a, b| a.1.total_cmp(&b.1).then(a.0.cmp(&b.0)).then(a.2.cmp(&b.2)));
-    hits.dedup_by_key(|hit| hit.0);
-    hits.truncate(k);
-    Answer { hits: hits.into_iter().map(|(id, distance, _)| (id, distance)).collect(), opened: walk.opened, whole: walk.whole }
+    hits
 }
 
-/// Without any tree, store or hash: the first k of all vectors, or of those with a label of the same bytes, for ids that are all different and labels that
-/// are not repeated.
-pub fn brute_force(case: &Case, query: &Query) -> Vec<(u32, f32)> {
-    let q = normalized(&query.vector);
-    let chosen = case.docs.iter().filter(|doc| query.label.as_ref().is_none_or(|label| doc.labels.contains(label)));
-    let mut hits: Vec<(u32, f32)> = chosen.map(|doc| (doc.id, distance(&q, &normalized(&doc.vector)))).collect();
-    hits.sort_by(|a, b| a.1.total_cmp(&b.1).then(a.0.cmp(&b.0)));
-    hits.truncate(query.k);
+/// Hits are sorted, adjacent equal document ids lose the later; what is left.
+pub fn heads(walk: &Walk) -> Vec<(u32, f32, usize)> {
+    let mut hits = sorted(&walk.raw);
+    hits.dedup_by_key(|hit| hit.0);
     hits
+}
+
+/// The answer of a walk with these hits, of which the first k stay.
+fn first(hits: Vec<(u32, f32, usize)>, walk: &Walk, k: usize) -> Answer {
+    let hits = hits.into_iter().take(k).map(|(id, distance, _)| (id, distance)).collect();
+    Answer { hits, opened: walk.opened, whole: walk.whole }
+}
+
+/// 'Adjacent repeats are dropped before withdrawn hits are struck'; then the first k stay. `live` goes by vector number.
+pub fn answer(walk: &Walk, k: usize, live: impl Fn(usize) -> bool) -> Answer {
+    let mut hits = heads(walk);
+    hits.retain(|hit| live(hit.2));
+    first(hits, walk, k)
+}
+
+/// What the wrong order, striking first, would answer.
+pub fn struck_first(walk: &Walk, k: usize, live: impl Fn(usize) -> bool) -> Answer {
+    let mut hits = sorted(&walk.raw);
+    hits.retain(|hit| live(hit.2));
+    hits.dedup_by_key(|hit| hit.0);
+    first(hits, walk, k)
+}
+
+/// Without any tree, store or hash: all vectors, or those with a label of the same bytes, by distance, document id and number; one behind another of its
+/// id goes, then those that are not live, and the first k stay.
+pub fn brute_force(case: &Case, query: &Query, live: &[bool]) -> Vec<(u32, f32)> {
+    let q = normalized(&query.vector);
+    let has = |i: &usize| query.label.as_ref().is_none_or(|label| case.docs[*i].labels.contains(label));
+    let mut ranked: Vec<usize> = (0..case.docs.len()).filter(has).collect();
+    let distances: Vec<f32> = case.docs.iter().map(|doc| distance(&q, &normalized(&doc.vector))).collect();
+    ranked.sort_by(|&i, &j| distances[i].total_cmp(&distances[j]).then(case.docs[i].id.cmp(&case.docs[j].id)).then(i.cmp(&j)));
+    let id = |place: usize| case.docs[ranked[place]].id;
+    let stays = |&place: &usize| (place == 0 || id(place - 1) != id(place)) && live[ranked[place]];
+    let given = (0..ranked.len()).filter(stays).take(query.k);
+    given.map(|place| (id(place), distances[ranked[place]])).collect()
 }

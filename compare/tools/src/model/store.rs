@@ -1,5 +1,5 @@
-//! Calls over the numbers of a store, whatever they are: a search ('Search' and 'Search's 15' of document 01; labels by their bytes, K4 of document 02), and
-//! how many entries a taking back takes, and how many bytes it leaves (K3, K4).
+//! Calls over the numbers of a store, whatever they are: a search ('Search' and 'Search's 15' of document 01; labels by their bytes, live marks, K4 and K10 of
+//! document 02), how many entries a taking back takes, and how many bytes it leaves (K3, K4), and which vectors a withdrawal reaches (K10).
 use super::label::Filter;
 use super::number::{distance, normalized};
 use super::refusal::State;
@@ -107,6 +107,16 @@ impl View<'_> {
             waiting.push(self.near(query, child));
         }
         Ok(())
+    }
+
+    /// '0 is withdrawn, anything else live'.
+    pub fn live(&self, vector: usize) -> bool {
+        self.number(self.state.shape.live() + vector) != 0
+    }
+
+    /// The vectors held that have a document id.
+    pub fn with_id(&self, id: u32) -> Vec<usize> {
+        (0..self.state.vectors).filter(|&vector| self.store.numbers[vector] == id).collect()
     }
 
     /// The owners of the entries held.
