@@ -216,7 +216,7 @@ fn tell(found: Found, answer: &mut [usize]) -> u32
     }
 }
 
-// The nearest k documents that have a vector with a label: a name in two parts.
+// The nearest k documents that have a live vector with a label: a name in two parts.
 #[no_mangle]
 pub extern "C" fn curator_search_filtered(
     state: &[usize],
@@ -263,7 +263,7 @@ pub extern "C" fn curator_search_filtered(
     }
 }
 
-// The nearest k documents.
+// The nearest k documents that have a live vector.
 #[no_mangle]
 pub extern "C" fn curator_search(
     state: &[usize],

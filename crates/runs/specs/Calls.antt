@@ -23,7 +23,7 @@ pub data Call : Type 0 where
 
 -- ---- the types of arguments
 
--- a document id is a u32
+-- the document id of an add is a u32; of a withdrawal nothing is asked
 abbrev pub Typed : Change → Type 0
 Typed (add call) = call .document < 2 ^ 32
 Typed take-back = Unit {0}

@@ -172,7 +172,7 @@ fn search_wanted(
     }
 }
 
-// The nearest k documents that have a vector with a label: a name in two parts, which are any bytes.
+// The nearest k documents that have a live vector with a label: a name in two parts, which are any bytes.
 pub fn search_filtered(
     index: CuratorIndex,
     floats: &[f32],
@@ -209,7 +209,7 @@ pub fn search_filtered(
     )
 }
 
-// The nearest k documents.
+// The nearest k documents that have a live vector.
 pub fn search(
     index: CuratorIndex,
     floats: &[f32],
