@@ -15,9 +15,9 @@ import sys
 ROOT = pathlib.Path(__file__).resolve().parent.parent
 
 # Where a reader starts: the contracts of functions (None: every public one of the crate's lib.rt), and the statements of theorems.
-ENTRY_POINTS = {"vector": ["scan"], "bloom": ["unite"], "label": ["hash_label", "hash_name"], "curator": ["new", "add", "take_back", "withdraw"], "build": ["build"], "search": ["search_filtered", "search"], "load": ["load_record"],
+ENTRY_POINTS = {"vector": ["scan"], "bloom": ["unite"], "label": ["hash_label", "hash_name"], "curator": ["new", "add", "take_back", "withdraw"], "build": ["build"], "search": ["search_filtered", "search_both", "search"], "load": ["load_record"],
                 "printer": None, "curator_c": None, "hit_records": None}
-THEOREMS = {"bloom": ["pooling"], "label": ["carries-on"], "curator": ["names-alike", "adds-parted", "withdraws-only", "withdraws-again", "withdraws-walk"], "search": ["filtered-parted", "searches-parted"], "build": ["build-pools"], "runs": ["demand3", "add-undone", "same-model"], "load": ["prints"], "trial_table": ["table"]}
+THEOREMS = {"bloom": ["pooling"], "label": ["carries-on"], "curator": ["names-alike", "adds-parted", "withdraws-only", "withdraws-again", "withdraws-walk", "searches-once", "searches-twice", "answers-twice"], "walk": ["twice-walk"], "search": ["filtered-parted", "both-parted", "searches-parted"], "build": ["build-pools"], "runs": ["demand3", "add-undone", "same-model", "whole-swapped", "same-swapped"], "load": ["prints"], "trial_table": ["table"]}
 
 SECTION = "## Files to be believed"
 # words of the two languages, names that need no `use` line, and levels of universes

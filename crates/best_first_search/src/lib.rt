@@ -12,6 +12,7 @@ use walk::Wanted;
 use whole_walk::whole_walk;
 ghost use Rattle.store.specs.Lent.{lent};
 ghost use Rattle.walk.specs.Contracts.{StoreLent, SearchGives};
+ghost use mathlib.Core.List.{_++_};
 ghost use Rattle.walk.specs.Wanted.{sought};
 ghost use Rattle.best_first_walk.specs.Walks.{Walks};
 ghost use Rattle.best_first_search.specs.Ranks.{SearchLent};
@@ -30,9 +31,11 @@ fn walk_store(
     wanted: Wanted,
     first: &[u8],
     second: &[u8],
+    other_first: &[u8],
+    other_second: &[u8],
 ) -> Walked
     requires { ⌜ StoreLent shape counts (lent floats numbers hashes text) (now work) ⌝ }
-    ensures { λ r. ⌜ Walks shape counts «ef_search» (lent (floats .entry) (numbers .entry) (hashes .entry) (text .entry)) (now (query .entry)) (sought wanted (now (first .entry)) (now (second .entry))) (now (work .entry)) r (now (work .exit)) ⌝ }
+    ensures { λ r. ⌜ Walks shape counts «ef_search» (lent (floats .entry) (numbers .entry) (hashes .entry) (text .entry)) (now (query .entry)) (sought wanted (now (first .entry) ++ now (second .entry)) (now («other_first» .entry) ++ now («other_second» .entry))) (now (work .entry)) r (now (work .exit)) ⌝ }
 {
     if counts.nodes <= ef_search {
         return whole_walk(
@@ -45,6 +48,8 @@ fn walk_store(
             wanted,
             first,
             second,
+            other_first,
+            other_second,
         );
     }
     best_first_walk(
@@ -60,6 +65,8 @@ fn walk_store(
         wanted,
         first,
         second,
+        other_first,
+        other_second,
     )
 }
 
@@ -77,12 +84,14 @@ pub fn best_first_search(
     wanted: Wanted,
     first: &[u8],
     second: &[u8],
+    other_first: &[u8],
+    other_second: &[u8],
     k: usize,
     ids: &mut [u32],
     distances: &mut [f32],
 ) -> Searched
     requires { ⌜ SearchLent shape counts (lent floats numbers hashes text) (now work) k (now ids) (now distances) ⌝ }
-    ensures { λ r. ⌜ SearchGives shape counts «ef_search» (lent (floats .entry) (numbers .entry) (hashes .entry) (text .entry)) (now (query .entry)) (sought wanted (now (first .entry)) (now (second .entry))) k (now (work .entry)) (now (ids .entry)) (now (distances .entry)) r (now (work .exit)) (now (ids .exit)) (now (distances .exit)) ⌝ }
+    ensures { λ r. ⌜ SearchGives shape counts «ef_search» (lent (floats .entry) (numbers .entry) (hashes .entry) (text .entry)) (now (query .entry)) (sought wanted (now (first .entry) ++ now (second .entry)) (now («other_first» .entry) ++ now («other_second» .entry))) k (now (work .entry)) (now (ids .entry)) (now (distances .entry)) r (now (work .exit)) (now (ids .exit)) (now (distances .exit)) ⌝ }
 {
     let hits_at = shape.hits_at();
     let hits_end = shape.work_size();
@@ -100,6 +109,8 @@ pub fn best_first_search(
         wanted,
         first,
         second,
+        other_first,
+        other_second,
     );
     match walked {
         Walked::Damaged => Searched::Damaged,

@@ -7,7 +7,7 @@ use mathlib.Core.Bool.{true}
 use lib.Dec.{ltb}
 use mathlib.Core.List.{List, [], _∷_, _++_, map}
 use lib.Ieee.{Float}
-use lib.ListN.{length, take, set, replicate, length-set}
+use lib.ListN.{length, take, drop, set, replicate, length-set}
 use lib.Seq.{take-set-le, sets, length-sets}
 use Rattle.lists.specs.Parts.{take-sets, getD-behind, part-behind}
 use Rattle.lists.specs.Partition.{count, hit, hit-same, count-cons, count-Memᴰ}
@@ -18,7 +18,7 @@ use Rattle.record_queue.specs.Records.{value, records, Heap}
 use Rattle.record_queue.specs.RecordsLaws.{value-is, records-zero, records-same, length-records, heap-none}
 use Rattle.record_queue.specs.Queue.{Popped}
 use Rattle.store.specs.declared.Shape.{Shape}
-use Rattle.store.specs.Store.{Limits, vectorAt, marksAt, workSize}
+use Rattle.store.specs.Store.{Limits, vectorAt, marksAt, hitsAt, workSize}
 use Rattle.distance.specs.Distance.{distance}
 use Rattle.total_order.specs.TotalOrder.{keyOf}
 use Rattle.walk.specs.StoreView.{storeView}
@@ -33,7 +33,7 @@ use Rattle.walk.specs.Contracts.{Works}
 use Rattle.waiting_nodes.specs.Contracts.{insertEach, PushedNodes}
 use Rattle.waiting_nodes.specs.PushLaws.{insertEach-one}
 use Rattle.best_first_walk.specs.MarkLaws.{marked-one, marked-none, found-unmarked, works-root, finds-same, marked-found, finds-more}
-use Rattle.best_first_walk.specs.Walks.{foundAt, foundPart, Represents, BeginsWalk}
+use Rattle.best_first_walk.specs.Walks.{foundIn, foundAt, foundPart, Represents, BeginsWalk}
 use Rattle.walk.specs.LentLaws.{works-trans, works-front}
 
 -- ---- a node is marked, and nodes are pushed
@@ -107,17 +107,17 @@ least-below p n least rest o e =
 
 -- ---- vectors are found
 
--- the work list with other numbers of vectors
+-- the work list with another hits' part
 module _ (s : Shape) (c : Counts) (hit : ℕ → ℕ) (p : Progress) (work ys : List ℕ) (waiting found : ℕ) (r : Represents s c hit p work waiting found)
-    (limits : Limits s) (long : length ys ≡ max (s .vectors) (s .entries) + 1) where
+    (limits : Limits s) (long : length ys ≡ 3 * max (s .vectors) (s .entries)) where
   pub represents-hits : (new : List ℕ) (total : ℕ) → c .nodes ≤ s .nodes → waiting ≤ s .nodes → allPass (λ x. ltb x (c .vectors)) new ≡ true
-      → total ≡ length new + found → take total ys ≡ take found (foundPart s work) ++ new
-      → Represents s c hit (addedHits (map hit new) p) (sets work (foundAt s) ys) waiting total
+      → total ≡ length new + found → take total (drop (foundIn s) ys) ≡ take found (foundPart s work) ++ new
+      → Represents s c hit (addedHits (map hit new) p) (sets work (hitsAt s) ys) waiting total
   represents-hits new total nodes few held count is =
-      let front : records 2 waiting (sets work (foundAt s) ys) ≡ records 2 waiting work =
-      records-same 2 waiting (sets work (foundAt s) ys) work (le-refl 2) (take-sets (waiting * 2) work (foundAt s) ys (let t : waiting * 2 ≤ foundAt s = omega arith in t)) in
+      let front : records 2 waiting (sets work (hitsAt s) ys) ≡ records 2 waiting work =
+      records-same 2 waiting (sets work (hitsAt s) ys) work (le-refl 2) (take-sets (waiting * 2) work (hitsAt s) ys (let t : waiting * 2 ≤ hitsAt s = omega arith in t)) in
       record {
-        size = omega (arith, length-sets work (foundAt s) ys, r .size);
+        size = omega (arith, length-sets work (hitsAt s) ys, r .size);
         queue = subst Heap (sym front) (r .queue);
         waits = ap sort front ∙ r .waits;
         marks = marked-found s c hit work ys limits (r .size) long nodes (p .pushed) (r .marks);

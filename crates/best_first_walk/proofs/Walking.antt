@@ -1,12 +1,12 @@
 -- The walk's loop: what holds of the work list and the walk's state at each turn, what a leaf does to them, and how each way out ends. Assumes nothing.
-use Prim.Native.Nat.{ℕ, suc, _+_, _-_, _^_, _≤_, _<_, max}
+use Prim.Native.Nat.{ℕ, suc, _+_, _-_, _*_, _^_, _≤_, _<_, max}
 use native.Mathlib.Numerals.{add-one}
 use native.Mathlib.Omega.{arith}
 use mathlib.Core.Path.{_≡_, refl, sym, ap, _∙_, subst}
 use mathlib.Core.Bool.{Bool, true, false, cond}
 use mathlib.Core.List.{List, [], _∷_, map}
 use lib.Dec.{ltb}
-use lib.ListN.{length, length-append}
+use lib.ListN.{length, drop, length-append}
 use lib.Arith.{lt-of-le-ne}
 use lib.Seq.{sets}
 use Rattle.lists.specs.Tests.{allPass}
@@ -15,7 +15,7 @@ use Rattle.record_queue.specs.Sorted.{sort}
 use Rattle.record_queue.specs.Records.{value, records}
 use Rattle.record_queue.specs.Queue.{Popped}
 use Rattle.store.specs.declared.Shape.{Shape}
-use Rattle.store.specs.Store.{Limits}
+use Rattle.store.specs.Store.{Limits, hitsAt}
 use Rattle.store.specs.declared.Counts.{Counts}
 use Rattle.walk.specs.Walk.{View, Progress, State, damaged, going, walk, walkFrom, Shown, shown, give, hits, damage, none, whole}
 use Rattle.walk.specs.WalkLaws.{openedOne, addedHits, startProgress, walk-is, walk-suc, walk-zero, step-open, some-waiting, nil-waiting, give-damage}
@@ -23,7 +23,7 @@ use Rattle.walk.specs.BudgetLaws.{none-stays, damaged-stays}
 use Rattle.walk.specs.DifferentLaws.{Once, ChildrenBelow, once-kept, once-start, different-below}
 use Rattle.walk.specs.Contracts.{Works}
 use Rattle.leaf_hits.specs.Contracts.{Gathered, GatherDamage}
-use Rattle.best_first_walk.specs.Walks.{foundAt, foundPart, Represents, BeginsWalk, WalkEnds}
+use Rattle.best_first_walk.specs.Walks.{foundIn, foundPart, Represents, BeginsWalk, WalkEnds}
 use Rattle.walk.specs.KeysLaws.{waiting-length}
 use Rattle.best_first_walk.specs.MarkLaws.{works-found}
 use Rattle.best_first_walk.specs.GatherLaws.{gather-damages, gather-room, gather-adds}
@@ -134,11 +134,11 @@ module _ (s : Shape) (c : Counts) (hit : ℕ → ℕ) (view : View) (ef : ℕ) (
   pub leaf-hits : (node : ℕ) (work ys : List ℕ) (waiting found opened total : ℕ) (sound : Bool) (vectors : List ℕ) → waiting ≤ s .nodes
       → (sound ≡ true → allPass (λ x. ltb x (c .vectors)) vectors ≡ true)
       → Opens s c hit view ef work₀ node work waiting found opened → shown view node ≡ cond sound (hits (map hit vectors)) damage
-      → length ys ≡ max (s .vectors) (s .entries) + 1 → Gathered sound vectors (view .most) found (foundPart s work) total ys
-      → Waits s c hit view ef work₀ (sets work (foundAt s) ys) waiting total opened
+      → length ys ≡ 3 * max (s .vectors) (s .entries) → Gathered sound vectors (view .most) found (foundPart s work) total (drop (foundIn s) ys)
+      → Waits s c hit view ef work₀ (sets work (hitsAt s) ys) waiting total opened
   leaf-hits node work ys waiting found opened total sound vectors few held (p, w, e) sh long g =
       let new : List ℕ = map hit vectors in
-      let room : length new + length (p .found) ≤ view .most = gather-room view hit p sound vectors found (w .holds .finds .count) (foundPart s work) total ys g in (
+      let room : length new + length (p .found) ≤ view .most = gather-room view hit p sound vectors found (w .holds .finds .count) (foundPart s work) total (drop (foundIn s) ys) g in (
         addedHits new p,
         record {
           holds = represents-hits s c hit p work ys waiting found (w .holds) limits long vectors total within few (held (g .pass)) (g .count) (g .vectors);
@@ -146,10 +146,10 @@ module _ (s : Shape) (c : Counts) (hit : ℕ → ℕ) (view : View) (ef : ℕ) (
           few = omega (arith, length-append new (p .found), room);
           nodes = w .nodes;
           budget = w .budget;
-          works = works-trans s work₀ work (sets work (foundAt s) ys) (w .works) (works-found s c hit work ys limits (w .holds .size) long);
+          works = works-trans s work₀ work (sets work (hitsAt s) ys) (w .works) (works-found s c hit work ys limits (w .holds .size) long);
         },
         e ∙ ap (walkFrom view (ef - opened))
-            (ap (λ (x : Shown). give view x p) sh ∙ gather-adds view hit p sound vectors found (w .holds .finds .count) (foundPart s work) total ys g),
+            (ap (λ (x : Shown). give view x p) sh ∙ gather-adds view hit p sound vectors found (w .holds .finds .count) (foundPart s work) total (drop (foundIn s) ys) g),
       )
 
   -- ---- how the walk ends

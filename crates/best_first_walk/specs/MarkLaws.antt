@@ -1,5 +1,5 @@
 -- The work list of a walk, part by part: the marks of the nodes pushed, and the numbers of the vectors found. Assumes nothing.
-use Prim.Native.Nat.{ℕ, _+_, _-_, _≤_, _<_, max}
+use Prim.Native.Nat.{ℕ, _+_, _-_, _*_, _≤_, _<_, max}
 use native.Mathlib.Omega.{arith}
 use mathlib.Core.Path.{_≡_, refl, sym, ap, ap₂, _∙_, subst}
 use mathlib.Core.Logic.{_⊎_, inl, inr, _≢_}
@@ -7,21 +7,21 @@ use mathlib.Core.Bool.{Bool, true, false, not, _&&_, cond}
 use mathlib.Core.List.{List, [], _∷_, _++_, map, map-append}
 use lib.Dec.{ltb, eqb}
 use lib.ListN.{length, getD, take, drop, set, replicate, length-append, length-replicate, getD-replicate, length-map}
-use lib.Seq.{getD-set-same, getD-set-other, sets, length-sets}
+use lib.Seq.{getD-set-same, getD-set-other, sets, length-sets, drop-drop}
 use borrow.Author.Tests.{eqb-true, eqb-false}
 use Rattle.lists.specs.Lists.{part, isIn}
 use Rattle.lists.specs.Counting.{isIn-nil, isIn-here, isIn-later}
-use Rattle.lists.specs.Parts.{length-part, getD-sets-before, getD-sets-in, part-sets-same, part-set-before, lent-part, lent-is}
+use Rattle.lists.specs.Parts.{length-part, drop-take, getD-sets-before, getD-sets-in, part-written, part-set-before, lent-part, lent-is}
 use Rattle.lists.specs.Tests.{which, allPass, allPass-append}
 use Rattle.record_queue.specs.Sorted.{sort}
 use Rattle.record_queue.specs.SortedLaws.{sort-append-comm, sort-append-cong}
 use Rattle.record_queue.specs.RecordsLaws.{same-or-not}
 use Rattle.store.specs.declared.Shape.{Shape}
 use Rattle.store.specs.declared.Counts.{Counts}
-use Rattle.store.specs.Store.{Limits, marksAt, workSize}
+use Rattle.store.specs.Store.{Limits, marksAt, hitsAt, workSize}
 use Rattle.walk.specs.Contracts.{Works}
 use Rattle.walk.specs.LentLaws.{works-trans, works-sets}
-use Rattle.best_first_walk.specs.Walks.{foundAt, foundPart, FindsVectors}
+use Rattle.best_first_walk.specs.Walks.{hitsPart, foundIn, foundAt, foundPart, FindsVectors}
 
 -- ---- the marks
 
@@ -125,26 +125,33 @@ finds-same s c hit new work work′ found e f = record {
   are = ap (λ (l : List ℕ). sort (map hit (take found l))) e ∙ f .are;
 }
 
--- others are written behind them
-module _ (s : Shape) (c : Counts) (hit : ℕ → ℕ) (work ys : List ℕ) (limits : Limits s) (size : workSize s ≤ length work) (long : length ys ≡ max (s .vectors) (s .entries) + 1) where
-  found-in : foundPart s (sets work (foundAt s) ys) ≡ ys
+-- they are the last of the hits' part
+pub found-of : (s : Shape) (work : List ℕ) → Limits s → drop (foundIn s) (hitsPart s work) ≡ foundPart s work
+found-of s work limits =
+    let rest : 3 * max (s .vectors) (s .entries) - foundIn s ≡ max (s .vectors) (s .entries) + 1 = omega (arith, limits .vectors-low) in
+    drop-take (foundIn s) (3 * max (s .vectors) (s .entries)) (drop (hitsAt s) work)
+    ∙ ap₂ (λ (n : ℕ) (l : List ℕ). take n l) rest (drop-drop (foundIn s) (hitsAt s) work)
+
+-- the hits' part is written: what stands in front of it stays, and others are found behind those before
+module _ (s : Shape) (c : Counts) (hit : ℕ → ℕ) (work ys : List ℕ) (limits : Limits s) (size : workSize s ≤ length work) (long : length ys ≡ 3 * max (s .vectors) (s .entries)) where
+  found-in : foundPart s (sets work (hitsAt s) ys) ≡ drop (foundIn s) ys
   found-in =
-      ap (λ (n : ℕ). part (foundAt s) n (sets work (foundAt s) ys)) (sym long)
-      ∙ part-sets-same work (foundAt s) ys (omega (arith, size, long, limits .vectors-low))
+      sym (found-of s (sets work (hitsAt s) ys) limits)
+      ∙ ap (drop (foundIn s)) (part-written work (hitsAt s) (3 * max (s .vectors) (s .entries)) ys long size)
 
-  pub marked-found : c .nodes ≤ s .nodes → (pushed : List ℕ) → Marked s c pushed work → Marked s c pushed (sets work (foundAt s) ys)
+  pub marked-found : c .nodes ≤ s .nodes → (pushed : List ℕ) → Marked s c pushed work → Marked s c pushed (sets work (hitsAt s) ys)
   marked-found nodes pushed marks i h =
-      getD-sets-before work (foundAt s) ys (marksAt s + i) 0 (let t : marksAt s + i < foundAt s = omega arith in t) ∙ marks i h
+      getD-sets-before work (hitsAt s) ys (marksAt s + i) 0 (let t : marksAt s + i < hitsAt s = omega arith in t) ∙ marks i h
 
-  pub works-found : Works s work (sets work (foundAt s) ys)
-  works-found = works-sets s work ys (foundAt s) (omega (arith, long, limits .vectors-low))
+  pub works-found : Works s work (sets work (hitsAt s) ys)
+  works-found = works-sets s work ys (hitsAt s) (omega (arith, long))
 
   pub finds-more : (hits new : List ℕ) (found total : ℕ) → allPass (λ x. ltb x (c .vectors)) new ≡ true → total ≡ length new + found
-      → take total ys ≡ take found (foundPart s work) ++ new → FindsVectors s c hit hits work found
-      → FindsVectors s c hit (map hit new ++ hits) (sets work (foundAt s) ys) total
+      → take total (drop (foundIn s) ys) ≡ take found (foundPart s work) ++ new → FindsVectors s c hit hits work found
+      → FindsVectors s c hit (map hit new ++ hits) (sets work (hitsAt s) ys) total
   finds-more hits new found total held count is f =
       let old : List ℕ = take found (foundPart s work) in
-      let all : take total (foundPart s (sets work (foundAt s) ys)) ≡ old ++ new = ap (take total) found-in ∙ is in
+      let all : take total (foundPart s (sets work (hitsAt s) ys)) ≡ old ++ new = ap (take total) found-in ∙ is in
       record {
         count = omega (arith, count, f .count, length-append (map hit new) hits, length-map new hit);
         held = ap (allPass (λ x. ltb x (c .vectors))) all ∙ allPass-append (λ x. ltb x (c .vectors)) old new ∙ ap₂ _&&_ (f .held) held;
@@ -152,13 +159,14 @@ module _ (s : Shape) (c : Counts) (hit : ℕ → ℕ) (work ys : List ℕ) (limi
             ∙ sort-append-comm (map hit old) (map hit new) ∙ sort-append-cong (map hit new) (map hit new) (map hit old) hits refl (f .are);
       }
 
--- their part as it is lent, and the work list once it came back
-module _ (s : Shape) (work : List ℕ) (a e : ℕ) (limits : Limits s) (from : a ≡ foundAt s) (to : e ≡ workSize s) where
-  pub found-lent : take (e - a) (drop a work) ≡ foundPart s work
-  found-lent = lent-is work a e (foundAt s) (max (s .vectors) (s .entries) + 1) from (omega (arith, limits .vectors-low))
+-- the hits' part as it is lent, the vectors found in it, and the work list once it came back
+module _ (s : Shape) (work : List ℕ) (a e : ℕ) (limits : Limits s) (begins : a ≡ hitsAt s) (ends : e ≡ workSize s) where
+  pub hits-lent : take (e - a) (drop a work) ≡ hitsPart s work
+  hits-lent = lent-is work a e (hitsAt s) (3 * max (s .vectors) (s .entries)) begins ends
 
-  pub found-back : (ys : List ℕ) → workSize s ≤ length work → length ys ≡ max (s .vectors) (s .entries) + 1
-      → take a work ++ (ys ++ drop (e - a) (drop a work)) ≡ sets work (foundAt s) ys
-  found-back ys size long =
-      lent-part work a e ys (omega (arith, limits .vectors-low)) (omega arith) (omega (arith, limits .vectors-low))
-      ∙ ap (λ (at : ℕ). sets work at ys) from
+  pub found-lent : (from : ℕ) → from ≡ foundIn s → drop from (take (e - a) (drop a work)) ≡ foundPart s work
+  found-lent from is = ap₂ (λ (n : ℕ) (l : List ℕ). drop n l) is hits-lent ∙ found-of s work limits
+
+  pub hits-back : (ys : List ℕ) → workSize s ≤ length work → length ys ≡ 3 * max (s .vectors) (s .entries)
+      → take a work ++ (ys ++ drop (e - a) (drop a work)) ≡ sets work (hitsAt s) ys
+  hits-back ys size long = lent-part work a e ys (omega arith) (omega arith) (omega arith) ∙ ap (λ (at : ℕ). sets work at ys) begins

@@ -1,6 +1,5 @@
 // The best-first walk over a lent store, whatever numbers stand in it (document 01, 'Search').
 use leaf_hits::Added;
-use leaf_hits::add_hits;
 use record_queue::pop;
 use store::Counts;
 use store::Shape;
@@ -11,6 +10,7 @@ use waiting_nodes::push_node;
 use walk::Wanted;
 use walk::look::Look;
 use walk::look::look_at;
+use wanted_hits::add_hits;
 ghost use mathlib.Core.Path.{_≡_};
 ghost use mathlib.Core.Bool.{_&&_};
 ghost use Prim.Native.Nat.{_+_, _≤_};
@@ -19,6 +19,7 @@ ghost use lib.ListN.{length, getD, replicate};
 ghost use Rattle.store.specs.Store.{Limits};
 ghost use Rattle.store.specs.Lent.{lent};
 ghost use Rattle.walk.specs.Contracts.{StoreLent};
+ghost use mathlib.Core.List.{_++_};
 ghost use Rattle.walk.specs.Wanted.{sought};
 ghost use Rattle.best_first_walk.specs.Walks.{foundAt, rootMarked, RootLent, BeginLent, BeginsAny, Walks};
 
@@ -102,14 +103,17 @@ pub fn best_first_walk(
     wanted: Wanted,
     first: &[u8],
     second: &[u8],
+    other_first: &[u8],
+    other_second: &[u8],
 ) -> Walked
     requires { ⌜ StoreLent shape counts (lent floats numbers hashes text) (now work) ⌝ }
-    ensures { λ r. ⌜ Walks shape counts «ef_search» (lent (floats .entry) (numbers .entry) (hashes .entry) (text .entry)) (now (query .entry)) (sought wanted (now (first .entry)) (now (second .entry))) (now (work .entry)) r (now (work .exit)) ⌝ }
+    ensures { λ r. ⌜ Walks shape counts «ef_search» (lent (floats .entry) (numbers .entry) (hashes .entry) (text .entry)) (now (query .entry)) (sought wanted (now (first .entry) ++ now (second .entry)) (now («other_first» .entry) ++ now («other_second» .entry))) (now (work .entry)) r (now (work .exit)) ⌝ }
 {
     let nodes = counts.nodes;
     let marks_at = shape.marks_at();
-    let found_at = found_at(shape);
-    let found_end = shape.work_size();
+    let hits_at = shape.hits_at();
+    let hits_end = shape.work_size();
+    let from = found_at(shape) - hits_at;
     begin(shape, counts, floats, work, query);
     let mut waiting = 1;
     let mut opened = 0;
@@ -149,11 +153,14 @@ pub fn best_first_walk(
                     numbers,
                     hashes,
                     text,
-                    &mut work[found_at..found_end],
+                    &mut work[hits_at..hits_end],
+                    from,
                     hits,
                     wanted,
                     first,
                     second,
+                    other_first,
+                    other_second,
                     list,
                 );
                 match added {

@@ -18,10 +18,11 @@ abbrev pub addOf : ℕ → List Float → List ℕ → List ℕ → AddCall
 addOf document vector lengths bytes =
     record { document = document; vector = vector; lengths-fit = lengthsFit lengths (length bytes); names = namesOf lengths bytes }
 
--- what a search asks for: every vector, or those with a label, which is any bytes, joined from its two parts
+-- what a search asks for: every vector, those with a label, which is any bytes, joined from its two parts, or those with each of two labels (02, K1)
 pub data Asked : Type 0 where
   everything : Asked
   labelled : List ℕ → Asked
+  labelled-both : List ℕ → List ℕ → Asked
 
 -- a question: the query, and what is asked for
 pub record Question : Type 0 where

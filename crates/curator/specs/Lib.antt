@@ -19,5 +19,6 @@ pub mod TakeBackLaws
 pub mod WithdrawLaws
 pub mod Withdrawn
 pub mod SearchHeldLaws
+pub mod Twice
 pub mod BeamLaws
 pub mod Trials

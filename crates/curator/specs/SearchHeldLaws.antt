@@ -1,4 +1,4 @@
--- 'Parts past the counts held are never read', of both searches: stores that agree on what is held, whatever else stands in them and in the work
+-- 'Parts past the counts held are never read', of every search: stores that agree on what is held, whatever else stands in them and in the work
 -- lists, give the same answer and the same answer lists. The walk over them is the same (crates/walk, HeldLaws).
 use Prim.Native.Nat.{ℕ, _^_, _≤_, _<_}
 use mathlib.Core.Bool.{Bool, true, not, _||_}
@@ -27,17 +27,11 @@ use Rattle.settings.specs.Limits.{builtAllowed}
 use Rattle.curator.specs.RowLaws.{fine-none}
 use Rattle.curator.specs.Rows.{row, firstOf, stateRow, searchRows}
 use Rattle.curator.specs.SearchRowLaws.{walkFor, walkOf, earlySearchRows, search-check-rows}
-use Rattle.curator.specs.Searches.{SearchEnd, wantedOf, searchCheck, SearchWalked, WalkedTo, SearchesBy, Searches}
+use Rattle.curator.specs.Searches.{SearchEnd, SameEnd, wantedOf, searchCheck, SearchWalked, WalkedTo, SearchesBy, Searches}
 use Rattle.curator.specs.Arguments.{SearchCall}
 use Rattle.curator.specs.StateLaws.{sound-facts}
 use Rattle.lists.specs.Tests.{and-both}
 use Rattle.curator.specs.OutcomeLaws.{search-refused-is, found-is}
-
--- two ends of a search with the same answer and the same answer lists; the work lists are free
-pub record SameEnd (a b : SearchEnd) : Type 0 where
-  pub answer : a .answer ≡ b .answer
-  pub ids : a .ids ≡ b .ids
-  pub distances : a .distances ≡ b .distances
 
 -- ---- the rows
 

@@ -1,4 +1,4 @@
--- The result of both searches in full: the answer and every place of the work and answer lists. The store is lent to be read only.
+-- The result of every search in full: the answer and every place of the work and answer lists. The store is lent to be read only.
 use Prim.Native.Nat.{ℕ}
 use mathlib.Core.Bool.{Bool}
 use mathlib.Core.List.{List, [], _∷_}
@@ -9,7 +9,7 @@ use lib.Seq.{sets}
 use Rattle.vector.specs.Vector.{dot, Normalized}
 use Rattle.label.specs.Fnv.{fnv}
 use Rattle.store.specs.Store.{Store, workPart}
-use Rattle.walk.specs.Wanted.{Sought, all-vectors, with-label}
+use Rattle.walk.specs.Wanted.{Sought, all-vectors, with-label, with-both}
 use Rattle.walk.specs.Walk.{State, damaged, going, walk}
 use Rattle.walk.specs.Answer.{Answer, answer}
 use Rattle.walk.specs.StoreView.{liveIn, storeView}
@@ -22,7 +22,7 @@ use Rattle.settings.specs.declared.refusal.Refusal.the-variants as Refusal′
 use Rattle.settings.specs.declared.refusal.StoreRefusal.the-variants as StoreRefusal′
 use Rattle.curator.specs.Outcome.{SearchFound, SearchRefused}
 use Rattle.curator.specs.Limits.{stateSound, indexShape}
-use Rattle.curator.specs.Arguments.{Asked, everything, labelled, SearchCall, askingOf}
+use Rattle.curator.specs.Arguments.{Asked, everything, labelled, labelled-both, SearchCall, askingOf}
 use Rattle.curator.specs.Rows.{firstOf, stateRow, searchRows}
 use Rattle.curator.specs.Calls.{factsOf}
 use Rattle.store.specs.Lent.{lengthsOf}
@@ -33,6 +33,7 @@ unfoldable pub wantedOf : Asked → Sought
 unfolding fnv
 wantedOf everything = all-vectors
 wantedOf (labelled bytes) = with-label (fnv bytes) bytes
+wantedOf (labelled-both bytes others) = with-both (fnv bytes) bytes (fnv others) others
 
 -- what a search leaves: its answer, the work list and the two answer lists
 pub record SearchEnd : Type 0 where
@@ -40,6 +41,12 @@ pub record SearchEnd : Type 0 where
   pub work : List ℕ
   pub ids : List ℕ
   pub distances : List Float
+
+-- two ends of a search with the same answer and the same answer lists; the work lists are free
+pub record SameEnd (a b : SearchEnd) : Type 0 where
+  pub answer : a .answer ≡ b .answer
+  pub ids : a .ids ≡ b .ids
+  pub distances : a .distances ≡ b .distances
 
 unfoldable pub searchCheck : CuratorIndex → Store → List ℕ → SearchCall → Check
 unfolding firstOf stateSound searchRows

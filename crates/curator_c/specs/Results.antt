@@ -128,7 +128,7 @@ SearchesIn (State index) store work call end = Searches index store work call en
 abbrev pub ended : Found → List ℕ → List ℕ → List Float → SearchEnd
 ended found work ids distances = record { answer = found; work = work; ids = ids; distances = distances }
 
--- The whole result of both searches: state list, store, work, call and answer list at entry; what is returned, and work, ids, distances and answer
+-- The whole result of a search: state list, store, work, call and answer list at entry; what is returned, and work, ids, distances and answer
 -- list, at exit. A refused call has no values, so it leaves the answer list.
 pub record SearchResult (state : List ℕ) (store : Store) (lent : List ℕ) (call : SearchCall) (answer : List ℕ) (returned : ℕ) (lent′ ids′ : List ℕ) (distances′ : List Float) (answer′ : List ℕ) : Type 0 where
   pub found : Found

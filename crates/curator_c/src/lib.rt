@@ -8,7 +8,7 @@ ghost use Rattle.curator.specs.Lent.{adding};
 ghost use Rattle.label.specs.Fnv.{fnvFrom};
 ghost use Rattle.store.specs.Lent.{lent};
 ghost use Rattle.curator.specs.Outcome.{changedNumber, foundNumber, foundValues};
-ghost use Rattle.search.specs.Lent.{filtered, unfiltered};
+ghost use Rattle.search.specs.Lent.{filtered, both, unfiltered};
 ghost use Rattle.settings.specs.Given.{paramsOf, capacitiesOf};
 ghost use Rattle.curator_c.specs.Results.{storable, Returns, hitsAsked};
 ghost use Rattle.curator_c.specs.Results.{NewResult, AddResult, TakeBackResult, WithdrawResult, BuildResult, SearchResult, PoolResult};
@@ -253,6 +253,57 @@ pub extern "C" fn curator_search_filtered(
                     query,
                     first,
                     second,
+                    hits,
+                    ids,
+                    distances,
+                ),
+                answer,
+            )
+        }
+    }
+}
+
+// The nearest k documents that have a live vector with each of two labels: names in two parts.
+#[no_mangle]
+pub extern "C" fn curator_search_both(
+    state: &[usize],
+    floats: &[f32],
+    numbers: &[u32],
+    hashes: &[u64],
+    text: &[u8],
+    work: &mut [u32],
+    query: &[f32],
+    first: &[u8],
+    second: &[u8],
+    other_first: &[u8],
+    other_second: &[u8],
+    k: usize,
+    ids: &mut [u32],
+    distances: &mut [f32],
+    answer: &mut [usize],
+) -> u32
+    ensures { λ r. ⌜ SearchResult (now (state .entry)) (lent (floats .entry) (numbers .entry) (hashes .entry) (text .entry)) (now (work .entry))
+        (both (query .entry) (first .entry) (second .entry) («other_first» .entry) («other_second» .entry) k (ids .entry) (distances .entry)) (now (answer .entry))
+        r
+        (now (work .exit)) (now (ids .exit)) (now (distances .exit)) (now (answer .exit)) ⌝ }
+{
+    match state::state_in(state) {
+        StateRead::Nothing => INVALID_STATE,
+        StateRead::State(index) => {
+            let hits = hits_asked(answer.len(), ids.len(), k);
+            tell(
+                search::search_both(
+                    index,
+                    floats,
+                    numbers,
+                    hashes,
+                    text,
+                    work,
+                    query,
+                    first,
+                    second,
+                    other_first,
+                    other_second,
                     hits,
                     ids,
                     distances,

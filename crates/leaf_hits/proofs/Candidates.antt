@@ -12,27 +12,20 @@ use lib.Seq.{take-at, drop-at, take-take, length-take-le}
 use Rattle.lists.specs.Lists.{part, keep, sameList}
 use Rattle.lists.specs.Parts.{drop-take}
 use Rattle.lists.specs.Counting.{keep-nil, keep-pass, keep-fail, length-keep-le, Memᴰ-keep}
-use Rattle.lists.specs.Tests.{which, and-left, and-false, allPass, allPass-nil, allPass-cons, all-pass, allPass-Memᴰ}
+use Rattle.lists.specs.Tests.{which, and-left, and-false, allPass, allPass-nil, allPass-cons, all-pass, allPass-Memᴰ, allPass-and}
 use Rattle.store.specs.declared.Shape.{Shape}
 use Rattle.store.specs.declared.Counts.{Counts}
 use Rattle.store.specs.Store.{ownersAt, entryName}
-use Rattle.walk.specs.Wanted.{with-label, passes, isLabels}
+use Rattle.walk.specs.Wanted.{with-label, numberHeld, textHeld, passes, isLabels}
 use Rattle.walk.specs.StoreView.{entriesIn, endIn}
 use Rattle.leaf_hits.specs.declared.Added.{Added}
 use Rattle.leaf_hits.specs.declared.Added.the-variants as added
 use Rattle.leaf_hits.specs.Contracts.{Gathered, GatheredBy, GatherDamageBy, KeepsNamed, AddedEntries}
+use Rattle.leaf_hits.specs.Gathering.{kept-twice}
 
 -- ---- two tests, one after the other
 
-and-shuffle : (a b o p q : Bool) → ((a && (b && o)) && (p && q)) ≡ (((a && b) && p) && (o && q))
-and-shuffle false b o p q = refl
-and-shuffle true false o p q = refl
-and-shuffle true true true true q = refl
-and-shuffle true true true false q = refl
-and-shuffle true true false true q = refl
-and-shuffle true true false false q = refl
-
-module _ (low owned hashed ends : ℕ → Bool) where
+module _ (test hashed ends : ℕ → Bool) where
   -- the ends of those that have the hash
   ends-cons : (x : ℕ) (xs : List ℕ) → allPass ends (keep hashed (x ∷ xs)) ≡ ((not (hashed x) || ends x) && allPass ends (keep hashed xs))
   ends-cons x xs = go (which (hashed x))
@@ -43,33 +36,13 @@ module _ (low owned hashed ends : ℕ → Bool) where
           ∙ sym (ap (λ (b : Bool). (not b || ends x) && allPass ends (keep hashed xs)) t)
       go (inr f) = ap (allPass ends) (keep-fail hashed x xs f) ∙ sym (ap (λ (b : Bool). (not b || ends x) && allPass ends (keep hashed xs)) f)
 
-  pub passes-twice : (l : List ℕ) → allPass (λ x. low x && (owned x && (not (hashed x) || ends x))) l
-      ≡ (allPass (λ x. low x && owned x) l && allPass ends (keep hashed l))
-  passes-twice [] =
-      allPass-nil (λ x. low x && (owned x && (not (hashed x) || ends x)))
-      ∙ sym (ap₂ _&&_ (allPass-nil (λ x. low x && owned x)) (ap (allPass ends) (keep-nil hashed) ∙ allPass-nil ends))
-  passes-twice (x ∷ xs) =
-      allPass-cons (λ x. low x && (owned x && (not (hashed x) || ends x))) x xs
-      ∙ ap (λ (t : Bool). (low x && (owned x && (not (hashed x) || ends x))) && t) (passes-twice xs)
-      ∙ and-shuffle (low x) (owned x) (not (hashed x) || ends x) (allPass (λ x. low x && owned x) xs) (allPass ends (keep hashed xs))
-      ∙ sym (ap₂ _&&_ (allPass-cons (λ x. low x && owned x) x xs) (ends-cons x xs))
+  ends-kept : (l : List ℕ) → allPass (λ x. not (hashed x) || ends x) l ≡ allPass ends (keep hashed l)
+  ends-kept [] = allPass-nil (λ x. not (hashed x) || ends x) ∙ sym (ap (allPass ends) (keep-nil hashed) ∙ allPass-nil ends)
+  ends-kept (x ∷ xs) =
+      allPass-cons (λ x. not (hashed x) || ends x) x xs ∙ ap (λ (t : Bool). (not (hashed x) || ends x) && t) (ends-kept xs) ∙ sym (ends-cons x xs)
 
--- those of the hash and the name
-module _ (hashed named : ℕ → Bool) where
-  kept-cons : (x : ℕ) (xs : List ℕ) → (hashed x ≡ true) ⊎ (hashed x ≡ false) → (named x ≡ true) ⊎ (named x ≡ false)
-      → keep (λ x. hashed x && named x) xs ≡ keep named (keep hashed xs) → keep (λ x. hashed x && named x) (x ∷ xs) ≡ keep named (keep hashed (x ∷ xs))
-  kept-cons x xs (inl h) (inl n) later =
-      keep-pass (λ x. hashed x && named x) x xs (ap₂ _&&_ h n) ∙ ap (λ (l : List ℕ). x ∷ l) later
-      ∙ sym (ap (keep named) (keep-pass hashed x xs h) ∙ keep-pass named x (keep hashed xs) n)
-  kept-cons x xs (inl h) (inr n) later =
-      keep-fail (λ x. hashed x && named x) x xs (ap₂ _&&_ h n) ∙ later
-      ∙ sym (ap (keep named) (keep-pass hashed x xs h) ∙ keep-fail named x (keep hashed xs) n)
-  kept-cons x xs (inr h) n later =
-      keep-fail (λ x. hashed x && named x) x xs (ap (λ (b : Bool). b && named x) h) ∙ later ∙ sym (ap (keep named) (keep-fail hashed x xs h))
-
-  pub kept-twice : (l : List ℕ) → keep (λ x. hashed x && named x) l ≡ keep named (keep hashed l)
-  kept-twice [] = keep-nil (λ x. hashed x && named x) ∙ sym (ap (keep named) (keep-nil hashed) ∙ keep-nil named)
-  kept-twice (x ∷ xs) = kept-cons x xs (which (hashed x)) (which (named x)) (kept-twice xs)
+  pub passes-twice : (l : List ℕ) → allPass (λ x. test x && (not (hashed x) || ends x)) l ≡ (allPass test l && allPass ends (keep hashed l))
+  passes-twice l = allPass-and test (λ x. not (hashed x) || ends x) l ∙ ap (λ (b : Bool). allPass test l && b) (ends-kept l)
 
 -- ---- where the entries of the hash stand
 
@@ -109,8 +82,8 @@ module _ (s : Shape) (c : Counts) (numbers hashes text : List ℕ) (hash : ℕ) 
   labels = isLabels (entriesIn s numbers hashes text) hash name
 
   all-whole : (l : List ℕ) → allPass whole l ≡ (allPass test l && allPass ends (keep hashed l))
-  unfolding passes
-  all-whole l = passes-twice (λ x. ltb x (c .entries)) (λ x. ltb (owner x) (c .vectors)) hashed ends l
+  unfolding passes numberHeld textHeld
+  all-whole l = passes-twice test hashed ends l
 
   all-labels : (l : List ℕ) → keep labels l ≡ keep named (keep hashed l)
   unfolding isLabels

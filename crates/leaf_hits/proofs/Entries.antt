@@ -9,7 +9,7 @@ use borrow.Author.Tests.{ltb-true, not-true, not-false}
 use Rattle.lists.specs.Parts.{four-mapped}
 use Rattle.lists.specs.Lists.{part}
 use Rattle.lists.specs.Tests.{allPass, and-left, and-right, allPass-nil, allPass-cons}
-use Rattle.leaf_hits.proofs.LeafLists.{allPass-one}
+use Rattle.leaf_hits.specs.Gathering.{allPass-one}
 use Rattle.lists.specs.Tests.{and-false}
 
 -- as `all_below` joins them

@@ -20,13 +20,13 @@ use Rattle.leaf_hits.specs.declared.Added.the-variants as added
 abbrev pub newVectors : (ℕ → Bool) → (ℕ → ℕ) → List ℕ → List ℕ
 newVectors wants vector l = map vector (keep wants l)
 
--- `add_hits` wants a block within the numbers, and room for one number more than there can be hits
+-- `add_vectors` wants a block within the numbers, and room for one number more than there can be hits
 pub record AddHits (numbers found : List ℕ) (before most start count : ℕ) : Type 0 where
   pub block : start + count ≤ length numbers
   pub few : before ≤ most
   pub room : most < length found
 
--- `add_hits` wants a store's numbers, hashes and label text
+-- `add_entries` wants a store's numbers, hashes and label text
 pub record AddLent (s : Shape) (c : Counts) (numbers hashes text found : List ℕ) (wanted : Sought) (before start count : ℕ) : Type 0 where
   pub within : CountsWithin s c
   pub numbers-size : numbersSize s ≤ length numbers

@@ -1,9 +1,7 @@
-// The vectors that a leaf's list is about are added to those found (documents 01, 'Search', and 02, K4).
+// The vectors of a leaf's list, or the owners of a label's entries in it, are added to those found (documents 01, 'Search', and 02, K4).
 use store::Counts;
 use store::Shape;
 use store::wide;
-use walk::Wanted;
-use walk::look::Block;
 ghost use mathlib.Core.Path.{_≡_};
 ghost use Prim.Native.Nat.{_+_, _-_, _^_, _<_, _≤_, min};
 ghost use lib.ListN.{length, getD, set, drop};
@@ -11,8 +9,8 @@ ghost use Rattle.lists.specs.Lists.{part, sameList};
 ghost use lib.Dec.{eqb, ltb};
 ghost use mathlib.Core.Bool.{_&&_, cond};
 ghost use mathlib.Core.List.{_++_};
-ghost use Rattle.walk.specs.Wanted.{sought, with-label};
-ghost use Rattle.leaf_hits.specs.Contracts.{AddHits, AddLent, GatherLent, KeepLent, ChunkLent, AddedVectors, GathersHash, KeepsNamed, AddedEntries, AddedHits};
+ghost use Rattle.walk.specs.Wanted.{with-label};
+ghost use Rattle.leaf_hits.specs.Contracts.{AddHits, AddLent, GatherLent, KeepLent, ChunkLent, AddedVectors, GathersHash, KeepsNamed, AddedEntries};
 
 // The vectors found after those of a leaf, or damage.
 pub enum Added {
@@ -31,7 +29,7 @@ fn same(a: u64, b: u64) -> usize
 }
 
 // Adds the vectors of a leaf's list to those found. Every number of the list is checked.
-fn add_vectors(
+pub fn add_vectors(
     counts: Counts,
     numbers: &[u32],
     found: &mut [u32],
@@ -274,7 +272,7 @@ fn same_bytes(text: &[u8], start: usize, name: &[u8]) -> bool
 }
 
 // 1 if the bytes of a part of the text are a name, which is given in two parts, otherwise 0.
-fn named(text: &[u8], start: usize, size: usize, first: &[u8], second: &[u8]) -> usize
+pub fn named(text: &[u8], start: usize, size: usize, first: &[u8], second: &[u8]) -> usize
     requires { ⌜ start + size ≤ length (now text) ⌝ }
     ensures { λ r. ⌜ (r ≡ cond (sameList (part start size (now (text .entry))) (now (first .entry) ++ now (second .entry))) 1 0) × (r ≤ 1) ⌝ }
 {
@@ -385,7 +383,7 @@ fn add_chunk(
 }
 
 // The same for any list, in as many chunks as the room asks for: one, unless the list has more entries than there can be hits.
-fn add_entries(
+pub fn add_entries(
     shape: Shape,
     counts: Counts,
     numbers: &[u32],
@@ -437,43 +435,4 @@ fn add_entries(
         }
     }
     end
-}
-
-// Adds the vectors that a leaf's list is about, and that have what is wanted, to those found. A label's bytes are given in two parts. A number that does
-// not pass, or one hit too many, is damage.
-pub fn add_hits(
-    shape: Shape,
-    counts: Counts,
-    numbers: &[u32],
-    hashes: &[u64],
-    text: &[u8],
-    found: &mut [u32],
-    before: usize,
-    wanted: Wanted,
-    first: &[u8],
-    second: &[u8],
-    block: Block,
-) -> Added
-    requires { ⌜ AddLent shape counts (now numbers) (now hashes) (now text) (now found) (sought wanted (now first) (now second)) before (block .start) (block .count) ⌝ }
-    ensures { λ r. ⌜ AddedHits shape counts (now (numbers .entry)) (now (hashes .entry)) (now (text .entry)) (sought wanted (now (first .entry)) (now (second .entry))) (part (block .start) (block .count) (now (numbers .entry))) before (now (found .entry)) r (now (found .exit)) ⌝ }
-{
-    let start = block.start;
-    let count = block.count;
-    match wanted {
-        Wanted::Everything => add_vectors(counts, numbers, found, before, start, count),
-        Wanted::Label(hash) => add_entries(
-            shape,
-            counts,
-            numbers,
-            hashes,
-            text,
-            found,
-            before,
-            hash,
-            first,
-            second,
-            start,
-            count,
-        ),
-    }
 }

@@ -89,6 +89,19 @@ allPass-congr t u (x ∷ xs) h =
 pub allPass-weaken : (t u : ℕ → Bool) (l : List ℕ) → ((x : ℕ) → t x ≡ true → u x ≡ true) → allPass t l ≡ true → allPass u l ≡ true
 allPass-weaken t u l weaker h = all-pass u l (λ x m. weaker x (allPass-Memᴰ t l h x m))
 
+-- two tests at once
+and-apart : (a b c d : Bool) → ((a && b) && (c && d)) ≡ ((a && c) && (b && d))
+and-apart true true c d = refl
+and-apart true false true d = refl
+and-apart true false false d = refl
+and-apart false b c d = refl
+
+pub allPass-and : (t u : ℕ → Bool) (l : List ℕ) → allPass (λ x. t x && u x) l ≡ (allPass t l && allPass u l)
+allPass-and t u [] = allPass-nil (λ x. t x && u x) ∙ sym (ap₂ _&&_ (allPass-nil t) (allPass-nil u))
+allPass-and t u (x ∷ xs) =
+    allPass-cons (λ x. t x && u x) x xs ∙ ap (λ (b : Bool). (t x && u x) && b) (allPass-and t u xs)
+    ∙ and-apart (t x) (u x) (allPass t xs) (allPass u xs) ∙ sym (ap₂ _&&_ (allPass-cons t x xs) (allPass-cons u x xs))
+
 pub allPass-append : (t : ℕ → Bool) (xs ys : List ℕ) → allPass t (xs ++ ys) ≡ (allPass t xs && allPass t ys)
 allPass-append t [] ys = rw (allPass-nil t)
 allPass-append t (x ∷ xs) ys = rw (allPass-cons t x (xs ++ ys), allPass-cons t x xs, allPass-append t xs ys) (go (t x))

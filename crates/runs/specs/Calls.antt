@@ -13,10 +13,10 @@ pub data Change : Type 0 where
   withdraw : ℕ → Change
   build : Change
 
--- 'Its calls are add, build, filtered search and search'; 'Taking back may stand among demand 3's calls' (02, K3), and so may withdrawing (02, K10). Each comes
--- with the fronts and the work list that it is lent. 'A call may be lent only the front of a list': how much of each list of the store is lent. 'Work and answer
--- lists may be others at each call, of any length and content.' An add, a taking back or a withdrawal is lent no work list: nothing looks at the one that stands
--- here.
+-- 'Its calls are add, build, filtered search and search'; 'Taking back may stand among demand 3's calls' (02, K3), and so may withdrawing (02, K10) and a search
+-- with two labels (02, K1). Each comes with the fronts and the work list that it is lent. 'A call may be lent only the front of a list': how much of each list of
+-- the store is lent. 'Work and answer lists may be others at each call, of any length and content.' An add, a taking back or a withdrawal is lent no work list:
+-- nothing looks at the one that stands here.
 pub data Call : Type 0 where
   change : Lengths → List ℕ → Change → Call
   search : Lengths → List ℕ → SearchCall → Call

@@ -30,7 +30,7 @@ use Rattle.curator.specs.Calls.{splittingOf}
 use Rattle.runs.specs.Model.{Setting, Model, rowHashes, rowVectors, rowEntries, nodeCount, modelNodes, modelCounts, rowHit, rowRead, nodeList, leafHits, nodeGives, treeView}
 use Rattle.runs.specs.State.{Allowed, Within, limits, some-nodes}
 use Rattle.runs.specs.Held.{length-vectors}
-use Rattle.runs.specs.WantedLaws.{listOver, given-joined, given-perm, given-fewer, denied-gives, entries-all}
+use Rattle.runs.specs.WantedLaws.{listOver, given-parts, given-fewer, denied-gives, entries-all}
 use Rattle.runs.specs.Views.{tree-shown, gives-none, gives-some}
 
 -- the hits due for the rows with some numbers
@@ -83,10 +83,9 @@ pub due-parts : (m : Model) (query : List Float) (wanted : Sought) (ids : List �
     → List·Permᴰ (joined (due m query wanted) l) (due m query wanted ids)
 unfolding due
 due-parts m query wanted ids l p h =
-    let list = listOver (listRead wanted) m in
-    let all : joined (λ x. map (rowHit m query) (given wanted (rowRead m) (list x))) l ≡ map (rowHit m query) (given wanted (rowRead m) (joined list l)) =
-    sym (map-joined (rowHit m query) (λ x. given wanted (rowRead m) (list x)) l) ∙ ap (map (rowHit m query)) (sym (given-joined wanted (rowRead m) list l)) in
-    List·Permᴰ·trans (perm-of-eq all) (Permᴰ·map (rowHit m query) (given-perm wanted (rowRead m) (lists-parts (listRead wanted) m ids l p h)))
+    let mine : List ℕ → List ℕ = λ x. given wanted (rowRead m) (listOver (listRead wanted) m x) in
+    List·Permᴰ·trans (perm-of-eq (sym (map-joined (rowHit m query) mine l)))
+    (Permᴰ·map (rowHit m query) (given-parts wanted m ids l (lists-parts (listRead wanted) m ids l p h)))
 
 -- ---- the tree
 

@@ -1,6 +1,6 @@
 -- Runs of 01's worked example, computed: 'D 2, B 2, leaf size 1, ef 5, beam 4; 7: (1, 0) `a`; 8: (0, 2) `b`; 9: (3, 4) `a`; search k 4, `a`, (1, 0)', with
 -- refused calls in between; V 4, E 4, M 5; and M 4, where the build is refused; with takings back; with withdrawals; with names in two parts;
--- with two labels of one hash. The premise holds of it, and it has runs.
+-- with two labels of one hash; with two labels searched for together. The premise holds of it, and it has runs.
 use Prim.Native.Nat.{ℕ}
 use native.Mathlib.Omega.{arith}
 use mathlib.Core.Bool.{Bool, true}
@@ -15,7 +15,7 @@ use Rattle.store.specs.declared.Lengths.{Lengths}
 use Rattle.store.specs.Lent.{sizesOf}
 use Rattle.curator.specs.Calls.{fresh}
 use Rattle.curator.specs.Changes.{created}
-use Rattle.curator.specs.Arguments.{addOf, Asked, everything, labelled}
+use Rattle.curator.specs.Arguments.{addOf, Asked, everything, labelled, labelled-both}
 use Rattle.runs.specs.Calls.{add, take-back, withdraw, build, Call, change, search, AllTyped, Alike, AllAlike}
 use Rattle.runs.specs.Model.{Setting, settingShape, Model, emptyModel, Expected, returns, answers, expected, after, modelFrom}
 use Rattle.runs.specs.Run.{Ended, Run}
@@ -268,6 +268,58 @@ premise-text = test-premise (sample 5 5) callsText tested-text
 -- it has a run
 pub text-run : (ends : List Ended) × Run (sample 5 5) callsText ends
 text-run = run-of callsText (omega arith, (omega arith, (omega arith, (omega arith, (tt, (tt, (tt, (tt, tt))))))))
+
+-- ---- two labels searched for together
+
+-- `silt`, and `kerb-7` taught as `kerb` and `-7`
+abbrev pub silt : List ℕ
+silt = 115 ∷ 105 ∷ 108 ∷ 116 ∷ []
+
+abbrev pub kerb-7 : List ℕ
+kerb-7 = 107 ∷ 101 ∷ 114 ∷ 98 ∷ 45 ∷ 55 ∷ []
+
+-- 7 has both, 8 the first, 9 the second; the two are asked for in both orders, each with itself, and with one that no vector has; then 7 is withdrawn
+abbrev pub callsBoth : List Call
+callsBoth =
+    teaches 7 (0x3F800000 ∷ 0 ∷ []) (4 ∷ 0 ∷ 4 ∷ 2 ∷ []) (silt ++ kerb-7) ∷ teaches 8 (0 ∷ 0x40000000 ∷ []) (4 ∷ 0 ∷ []) silt
+    ∷ teaches 9 (0x40400000 ∷ 0x40800000 ∷ []) (4 ∷ 2 ∷ []) kerb-7
+    ∷ searches 0 nan 4 (labelled-both silt kerb-7)
+    ∷ change fronts (replicate 30 0) build
+    ∷ searches 0 nan 4 (labelled-both silt kerb-7)
+    ∷ searches 0 nan 4 (labelled-both kerb-7 silt)
+    ∷ searches 0 nan 4 (labelled-both silt silt)
+    ∷ searches 0 nan 4 (labelled-both kerb-7 kerb-7)
+    ∷ searches 0 nan 4 (labelled-both silt (97 ∷ []))
+    ∷ searches 0 nan 5 (labelled-both silt kerb-7)
+    ∷ withdraws 7
+    ∷ searches 0 nan 4 (labelled-both silt kerb-7)
+    ∷ []
+
+-- all are whole: a leaf that is denied is opened all the same, and where the root is, since no vector has the label, nothing waits after it
+pub expects-both : expectations (sample 5 5) emptyModel callsBoth
+    ≡ returns 0 ∷ returns 0 ∷ returns 0 ∷ returns 6 ∷ returns 0
+    ∷ hits (7 ∷ []) (0 ∷ []) 5 true
+    ∷ hits (7 ∷ []) (0 ∷ []) 5 true
+    ∷ hits (7 ∷ 8 ∷ []) (0 ∷ 0x3F800000 ∷ []) 5 true
+    ∷ hits (7 ∷ 9 ∷ []) (0 ∷ 0x3ecccccc ∷ []) 5 true
+    ∷ hits [] [] 1 true
+    ∷ returns 14
+    ∷ returns 0
+    ∷ hits [] [] 5 true
+    ∷ []
+unfolding expectations ofBits fnvFrom fnvStep distance namesOf lengthsFit
+expects-both = refl
+
+tested-both : premiseTest (sample 5 5) emptyModel callsBoth ≡ true
+unfolding premiseTest ofBits fnvFrom fnvStep distance namesOf lengthsFit
+tested-both = refl
+
+pub premise-both : Premise (sample 5 5) callsBoth
+premise-both = test-premise (sample 5 5) callsBoth tested-both
+
+-- it has a run
+pub both-run : (ends : List Ended) × Run (sample 5 5) callsBoth ends
+both-run = run-of callsBoth (omega arith, (omega arith, (omega arith, (tt, (tt, (tt, (tt, (tt, (tt, (tt, (tt, (tt, (tt, tt)))))))))))))
 
 -- ---- the premise, the types and a run
 

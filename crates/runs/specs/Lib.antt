@@ -35,8 +35,11 @@ pub mod Hits
 pub mod Larger
 pub mod Whole
 pub mod Demand
--- not empty: outcomes, runs and reference lists exist; an example
+-- not empty: outcomes, runs and reference lists exist
 pub mod Exists
 pub mod Reference
+-- of two labels the order makes no difference to a whole answer
+pub mod Swapped
+-- an example
 pub mod Places
 pub mod Example

@@ -2,7 +2,7 @@
 -- a list of calls (Run.antt). It is proved in Demand.antt. Words in quotation marks are document 01's, 'Runs' and 'The book'; (a) and (b) are the two
 -- parts of the demand.
 use Prim.Native.Nat.{ℕ, _≤_, _<_}
-use mathlib.Core.Bool.{Bool, true, false, _||_}
+use mathlib.Core.Bool.{Bool, true, false, _&&_, _||_}
 use mathlib.Core.List.{List, [], _∷_, map, List·Memᴰ, List·Permᴰ}
 use mathlib.Core.Path.{_≡_}
 use lib.Ieee.{Float, nan}
@@ -16,7 +16,7 @@ use Rattle.walk.specs.Answer.{Answer}
 use Rattle.curator.specs.Outcome.{changedNumber, foundNumber, SearchFound}
 use Rattle.settings.specs.Refusals.{checkNumber}
 use Rattle.curator.specs.Searches.{SearchEnd}
-use Rattle.curator.specs.Arguments.{Asked, everything, labelled, Question, SearchCall}
+use Rattle.curator.specs.Arguments.{Asked, everything, labelled, labelled-both, Question, SearchCall}
 use Rattle.runs.specs.Calls.{Call, change, search, AllAlike}
 use Rattle.runs.specs.Model.{Setting, Model, ModelRow, emptyModel, nodeCount, modelCheck, Expected, returns, answers, nothing, expected, after, modelFrom}
 use Rattle.runs.specs.Run.{Ended, changed, found, Run}
@@ -111,11 +111,12 @@ unfolding sameLabel
 hasLabel name [] = false
 hasLabel name (label ∷ labels) = sameLabel name label || hasLabel name labels
 
--- 'Whole answers are about vectors carrying the label's bytes' (02, K4); unfiltered, about all
+-- 'Whole answers are about vectors carrying the label's bytes' (02, K4); with two labels, about those carrying both (02, K1); unfiltered, about all
 unfoldable pub carries : Asked → ModelRow → Bool
 unfolding hasLabel
 carries everything r = true
 carries (labelled name) r = hasLabel name (r .names)
+carries (labelled-both name other) r = hasLabel name (r .names) && hasLabel other (r .names)
 
 -- the rows that carry what is searched for
 unfoldable pub carrying : Question → Model → List ModelRow

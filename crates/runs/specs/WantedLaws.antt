@@ -1,35 +1,36 @@
 -- What each case of what is wanted owes of the rows, beside the laws of any store (WantedLaws.antt of crates/walk). What is given is additive over leaves
 -- up to order, and no more than what is listed; numbers that are held pass; a denied node gives nothing; over all rows those are given that carry what is
 -- wanted, each once. Of an entry's hash: a filter denies no hash below it; and a row that carries the label has one such entry, since it has no label twice.
+-- Of two labels: an owner's entries all stand in the list that has one of them, so to have an entry of the second there is to have one at all.
 -- Rows are told here by hash and bytes, as entries are; that is by bytes alone, since a hash is that of the bytes (`carried-is`).
 use Prim.Native.Nat.{ℕ, suc, _≤_, _<_}
 use native.Mathlib.Nat.{le-refl}
 use native.Mathlib.Omega.{arith}
-use mathlib.Core.Bool.{Bool, true, false, cond, _&&_, _||_, false≢true}
+use mathlib.Core.Bool.{Bool, true, false, cond, not, _&&_, _||_, false≢true}
 use mathlib.Core.Logic.{_⊎_, inl, inr}
-use mathlib.Core.List.{List, [], _∷_, _++_, map, map-map, map-append, List·Memᴰ, List·Memᴰ·head, List·Memᴰ·tail}
-use mathlib.Core.Path.{_≡_, refl, sym, ap, ap₂, _∙_}
+use mathlib.Core.List.{List, [], _∷_, _++_, map, map-map, map-append, List·Memᴰ, List·Memᴰ·head, List·Memᴰ·tail, List·Memᴰ·not-nil, List·Memᴰ·cases-cons, Memᴰ·map}
+use mathlib.Core.Path.{_≡_, refl, sym, ap, ap₂, _∙_, subst}
 use borrow.Author.Tests.{eq-eqb, lt-ltb, not-true}
 use lib.Dec.{eqb}
 use lib.ListN.{length, getD, replicate, length-map}
-use Rattle.lists.specs.Lists.{joined, keep, countFrom, sameList}
+use Rattle.lists.specs.Lists.{joined, keep, countFrom, isIn, sameList}
 use Rattle.lists.specs.Same.{same-equal, equal-same, differ-same}
-use Rattle.lists.specs.Maps.{countFrom-suc, getD-map}
+use Rattle.lists.specs.Maps.{countFrom-suc, getD-map, Memᴰ-map}
 use Rattle.lists.specs.Tests.{which, either, and-right, and-false, allPass, all-pass}
-use Rattle.lists.specs.Counting.{Memᴰ-countFrom, keep-congr, keep-map, keep-pass, keep-fail, keep-nil, keep-none, length-keep-le, map-joined, keep-joined}
-use Rattle.lists.specs.Partition.{List·Permᴰ, Permᴰ·map, perm-keep}
+use Rattle.lists.specs.Counting.{isIn-nil, isIn-here, isIn-later, isIn-Memᴰ, Memᴰ-isIn, isIn-ext, Memᴰ-countFrom, keep-congr, keep-map, keep-pass, keep-fail, keep-nil, keep-none, length-keep-le, Memᴰ-keep, keep-Memᴰ, joined-congr, map-joined, keep-joined}
+use Rattle.lists.specs.Partition.{List·Permᴰ, List·Permᴰ·trans, Permᴰ·map, perm-of-eq, perm-keep}
 use Rattle.bloom.specs.Filter.{mayContain}
 use Rattle.label.specs.Fnv.{fnv}
 use Rattle.label.specs.Names.{hashesOfLabels}
 use Rattle.label.specs.NameLaws.{length-hashesOfLabels}
-use Rattle.walk.specs.WantedLaws.{held-passes-entry, labels-hash}
-use Rattle.curator.specs.Arguments.{Asked, everything, labelled}
+use Rattle.walk.specs.WantedLaws.{held-passes-entry, labels-hash, all-both}
+use Rattle.curator.specs.Arguments.{Asked, everything, labelled, labelled-both}
 use Rattle.curator.specs.Searches.{wantedOf}
 use Rattle.store.specs.declared.Counts.{Counts}
 use Rattle.tree.specs.Nodes.{entriesOf, filterOf}
 use Rattle.tree.specs.NodeEntryLaws.{entriesOf-all}
 use Rattle.tree.specs.NodeFilterLaws.{filterOf-admits}
-use Rattle.walk.specs.Wanted.{Sought, all-vectors, with-label, isLabels, EntryRead, LeafList, vector-list, entry-list, denies, listRead, passes, given, heldIn}
+use Rattle.walk.specs.Wanted.{Sought, all-vectors, with-label, with-both, isLabels, ownersOf, EntryRead, LeafList, vector-list, entry-list, denies, listRead, passes, given, heldIn}
 use Rattle.runs.specs.Model.{Model, ModelRow, hashesIn, rowHashes, rowNames, rowEntries, rowRead, ownersFrom}
 use Rattle.runs.specs.Theorem.{sameLabel, NoTwo, hasLabel, carries}
 use Rattle.runs.specs.Held.{owner-below, owners-length, names-length}
@@ -40,46 +41,155 @@ vector-passes c read end x h = lt-ltb x (c .vectors) h
 
 -- ---- leaves
 
--- what is given of joined lists
-pub given-joined : {B : Type 0} (wanted : Sought) (read : EntryRead) (f : B → List ℕ) (l : List B)
-    → given wanted read (joined f l) ≡ joined (λ x. given wanted read (f x)) l
-unfolding given
-given-joined all-vectors read f l = refl
-given-joined (with-label hash name) read f l =
-    let has : ℕ → Bool = isLabels read hash name in
-    ap (map (read .owner)) (keep-joined has f l) ∙ map-joined (read .owner) (λ x. keep has (f x)) l
-
-pub given-perm : (wanted : Sought) (read : EntryRead) {xs ys : List ℕ} → List·Permᴰ xs ys → List·Permᴰ (given wanted read xs) (given wanted read ys)
-unfolding given
-given-perm all-vectors read p = p
-given-perm (with-label hash name) read p = Permᴰ·map (read .owner) (perm-keep (isLabels read hash name) p)
+owners-fewer : (read : EntryRead) (hash : ℕ) (name : List ℕ) (l : List ℕ) → length (ownersOf read hash name l) ≤ length l
+unfolding ownersOf
+owners-fewer read hash name l =
+    let has : ℕ → Bool = isLabels read hash name in omega (arith, length-map (keep has l) (read .owner), length-keep-le has l)
 
 pub given-fewer : (wanted : Sought) (read : EntryRead) (l : List ℕ) → length (given wanted read l) ≤ length l
 unfolding given
 given-fewer all-vectors read l = le-refl (length l)
-given-fewer (with-label hash name) read l =
-    let has : ℕ → Bool = isLabels read hash name in omega (arith, length-map (keep has l) (read .owner), length-keep-le has l)
+given-fewer (with-label hash name) read l = owners-fewer read hash name l
+given-fewer (with-both hash name others other) read l =
+    let mine = ownersOf read hash name l in
+    omega (arith, length-keep-le (λ v. isIn v (ownersOf read others other l)) mine, owners-fewer read hash name l)
 
 -- numbers that are held pass, where every entry's owner and bytes are held
-pub held-passes : (wanted : Sought) (c : Counts) (read : EntryRead) (end : ℕ → ℕ) (l : List ℕ) → ((x : ℕ) → List·Memᴰ x l → x < heldIn (listRead wanted) c)
-    → ((x : ℕ) → x < c .entries → read .owner x < c .vectors) → ((x : ℕ) → x < c .entries → end x ≤ c .bytes) → allPass (passes wanted c read end) l ≡ true
-held-passes all-vectors c read end l below owned ends = all-pass (passes all-vectors c read end) l (λ x k. vector-passes c read end x (below x k))
-held-passes (with-label hash name) c read end l below owned ends =
+entries-pass : (hash : ℕ) (name : List ℕ) (c : Counts) (read : EntryRead) (end : ℕ → ℕ) (l : List ℕ) → ((x : ℕ) → List·Memᴰ x l → x < c .entries)
+    → ((x : ℕ) → x < c .entries → read .owner x < c .vectors) → ((x : ℕ) → x < c .entries → end x ≤ c .bytes)
+    → allPass (passes (with-label hash name) c read end) l ≡ true
+entries-pass hash name c read end l below owned ends =
     all-pass (passes (with-label hash name) c read end) l
     (λ x k. held-passes-entry hash name c read end x (record { entry = below x k; owner = owned x (below x k); bytes = λ e. ends x (below x k) }))
 
--- ---- a denied node
+pub held-passes : (wanted : Sought) (c : Counts) (read : EntryRead) (end : ℕ → ℕ) (l : List ℕ) → ((x : ℕ) → List·Memᴰ x l → x < heldIn (listRead wanted) c)
+    → ((x : ℕ) → x < c .entries → read .owner x < c .vectors) → ((x : ℕ) → x < c .entries → end x ≤ c .bytes) → allPass (passes wanted c read end) l ≡ true
+held-passes all-vectors c read end l below owned ends = all-pass (passes all-vectors c read end) l (λ x k. vector-passes c read end x (below x k))
+held-passes (with-label hash name) c read end l below owned ends = entries-pass hash name c read end l below owned ends
+held-passes (with-both hash name others other) c read end l below owned ends =
+    all-both hash name others other c read end l
+    ∙ ap₂ _&&_ (entries-pass hash name c read end l below owned ends) (entries-pass others other c read end l below owned ends)
 
 -- the list of a leaf that has the rows with some numbers
 unfoldable pub listOver : LeafList → Model → List ℕ → List ℕ
 listOver vector-list m ids = ids
 listOver entry-list m ids = entriesOf (rowEntries m) ids
 
-pub denied-gives : (wanted : Sought) (m : Model) (ids filter : List ℕ) → filter ≡ filterOf (rowEntries m) ids → denies wanted filter ≡ true
-    → given wanted (rowRead m) (listOver (listRead wanted) m ids) ≡ []
-unfolding denies given listOver
-denied-gives all-vectors m ids filter f e = absurd (false≢true e)
-denied-gives (with-label hash name) m ids filter f e =
+-- ---- parts
+
+-- every entry is a row's
+abbrev allEntries : Model → List ℕ
+allEntries m = countFrom 0 (length (rowHashes m))
+
+pub entries-all : (m : Model) → entriesOf (rowEntries m) (countFrom 0 (length (m .rows))) ≡ allEntries m
+entries-all m = entriesOf-all (rowEntries m) (length (m .rows)) (owner-below m) ∙ ap (countFrom 0) (owners-length m)
+
+-- those over some rows are all that these own
+entries-kept : (m : Model) (ids : List ℕ) → entriesOf (rowEntries m) ids ≡ keep (λ e. isIn (rowRead m .owner e) ids) (allEntries m)
+unfolding entriesOf
+entries-kept m ids = ap (λ (n : ℕ). keep (λ e. isIn (rowRead m .owner e) ids) (countFrom 0 n)) (owners-length m)
+
+-- of the entries whose owners pass a test: each owner passes it, and one that does has its entry of a label among them if among all
+kept-passes : (read : EntryRead) (hash : ℕ) (name : List ℕ) (test : ℕ → Bool) (all : List ℕ) (v : ℕ)
+    → List·Memᴰ v (ownersOf read hash name (keep (λ e. test (read .owner e)) all)) → test v ≡ true
+unfolding ownersOf
+kept-passes read hash name test all v k =
+    let own : ℕ → Bool = λ e. test (read .owner e) in
+    let (e, listed, is) = Memᴰ-map (read .owner) k in
+    ap test is ∙ Memᴰ-keep own e all (Memᴰ-keep (isLabels read hash name) e (keep own all) listed .1) .0
+
+kept-owns : (read : EntryRead) (hash : ℕ) (name : List ℕ) (test : ℕ → Bool) (all : List ℕ) (v : ℕ) → test v ≡ true
+    → isIn v (ownersOf read hash name (keep (λ e. test (read .owner e)) all)) ≡ isIn v (ownersOf read hash name all)
+unfolding ownersOf
+kept-owns read hash name test all v t =
+    let own : ℕ → Bool = λ e. test (read .owner e) in
+    let has : ℕ → Bool = isLabels read hash name in
+    isIn-ext v (map (read .owner) (keep has (keep own all))) (map (read .owner) (keep has all))
+    (λ i.
+    let (e, listed, is) = Memᴰ-map (read .owner) (isIn-Memᴰ v (map (read .owner) (keep has (keep own all))) i) in
+    let (has-it, k) = Memᴰ-keep has e (keep own all) listed in
+    owns e is (keep-Memᴰ has e has-it (Memᴰ-keep own e all k .1)))
+    (λ i.
+    let (e, listed, is) = Memᴰ-map (read .owner) (isIn-Memᴰ v (map (read .owner) (keep has all)) i) in
+    let (has-it, k) = Memᴰ-keep has e all listed in
+    owns e is (keep-Memᴰ has e has-it (keep-Memᴰ own e (ap test (sym is) ∙ t) k)))
+  where
+    owns : (e : ℕ) → v ≡ read .owner e → {l : List ℕ} → List·Memᴰ e l → isIn v (map (read .owner) l) ≡ true
+    owns e is {l} k = ap (λ (x : ℕ). isIn x (map (read .owner) l)) is ∙ Memᴰ-isIn (Memᴰ·map (read .owner) k)
+
+-- what is given of a list, a second label being looked for among all entries
+unfoldable givenAmong : Sought → EntryRead → List ℕ → List ℕ → List ℕ
+unfolding ownersOf keep isIn
+givenAmong all-vectors read all l = l
+givenAmong (with-label hash name) read all l = ownersOf read hash name l
+givenAmong (with-both hash name others other) read all l = keep (λ v. isIn v (ownersOf read others other all)) (ownersOf read hash name l)
+
+-- over some rows it is what is given: an owner's entries are all in the list that has one of them
+among-over : (wanted : Sought) (m : Model) (ids : List ℕ)
+    → given wanted (rowRead m) (listOver (listRead wanted) m ids) ≡ givenAmong wanted (rowRead m) (allEntries m) (listOver (listRead wanted) m ids)
+unfolding given givenAmong listOver
+among-over all-vectors m ids = refl
+among-over (with-label hash name) m ids = refl
+among-over (with-both hash name others other) m ids =
+    let read = rowRead m in
+    let all = allEntries m in
+    let test : ℕ → Bool = λ v. isIn v ids in
+    subst
+    (λ (l : List ℕ). keep (λ v. isIn v (ownersOf read others other l)) (ownersOf read hash name l)
+    ≡ keep (λ v. isIn v (ownersOf read others other all)) (ownersOf read hash name l))
+    (sym (entries-kept m ids))
+    (let kept = keep (λ e. test (read .owner e)) all in
+    keep-congr (λ v. isIn v (ownersOf read others other kept)) (λ v. isIn v (ownersOf read others other all)) (ownersOf read hash name kept)
+    (λ v k. kept-owns read others other test all v (kept-passes read hash name test all v k)))
+
+owners-joined : {B : Type 0} (read : EntryRead) (hash : ℕ) (name : List ℕ) (f : B → List ℕ) (l : List B)
+    → ownersOf read hash name (joined f l) ≡ joined (λ x. ownersOf read hash name (f x)) l
+unfolding ownersOf
+owners-joined read hash name f l =
+    let has : ℕ → Bool = isLabels read hash name in
+    ap (map (read .owner)) (keep-joined has f l) ∙ map-joined (read .owner) (λ x. keep has (f x)) l
+
+among-joined : {B : Type 0} (wanted : Sought) (read : EntryRead) (all : List ℕ) (f : B → List ℕ) (l : List B)
+    → givenAmong wanted read all (joined f l) ≡ joined (λ x. givenAmong wanted read all (f x)) l
+unfolding givenAmong
+among-joined all-vectors read all f l = refl
+among-joined (with-label hash name) read all f l = owners-joined read hash name f l
+among-joined (with-both hash name others other) read all f l =
+    let theirs : ℕ → Bool = λ v. isIn v (ownersOf read others other all) in
+    ap (keep theirs) (owners-joined read hash name f l) ∙ keep-joined theirs (λ x. ownersOf read hash name (f x)) l
+
+owners-perm : (read : EntryRead) (hash : ℕ) (name : List ℕ) {xs ys : List ℕ} → List·Permᴰ xs ys
+    → List·Permᴰ (ownersOf read hash name xs) (ownersOf read hash name ys)
+unfolding ownersOf
+owners-perm read hash name p = Permᴰ·map (read .owner) (perm-keep (isLabels read hash name) p)
+
+among-perm : (wanted : Sought) (read : EntryRead) (all : List ℕ) {xs ys : List ℕ} → List·Permᴰ xs ys
+    → List·Permᴰ (givenAmong wanted read all xs) (givenAmong wanted read all ys)
+unfolding givenAmong
+among-perm all-vectors read all p = p
+among-perm (with-label hash name) read all p = owners-perm read hash name p
+among-perm (with-both hash name others other) read all p = perm-keep (λ v. isIn v (ownersOf read others other all)) (owners-perm read hash name p)
+
+-- what leaves give whose lists, joined, are up to order the list over some rows
+pub given-parts : (wanted : Sought) (m : Model) (ids : List ℕ) (l : List (List ℕ))
+    → List·Permᴰ (joined (listOver (listRead wanted) m) l) (listOver (listRead wanted) m ids)
+    → List·Permᴰ (joined (λ x. given wanted (rowRead m) (listOver (listRead wanted) m x)) l) (given wanted (rowRead m) (listOver (listRead wanted) m ids))
+given-parts wanted m ids l p =
+    let read = rowRead m in
+    let all = allEntries m in
+    let list = listOver (listRead wanted) m in
+    let parts : joined (λ x. given wanted read (list x)) l ≡ givenAmong wanted read all (joined list l) =
+    joined-congr (λ x. given wanted read (list x)) (λ x. givenAmong wanted read all (list x)) l (λ x k. among-over wanted m x)
+    ∙ sym (among-joined wanted read all list l) in
+    List·Permᴰ·trans (perm-of-eq parts) (List·Permᴰ·trans (among-perm wanted read all p) (perm-of-eq (sym (among-over wanted m ids))))
+
+-- ---- a denied node
+
+-- a filter that denies a hash: no entry of it is below
+no-owners : (m : Model) (hash : ℕ) (name ids filter : List ℕ) → filter ≡ filterOf (rowEntries m) ids → not (mayContain filter hash) ≡ true
+    → ownersOf (rowRead m) hash name (entriesOf (rowEntries m) ids) ≡ []
+unfolding ownersOf
+no-owners m hash name ids filter f e =
     let en = rowEntries m in
     let has : ℕ → Bool = isLabels (rowRead m) hash name in
     let closed : mayContain (filterOf (rowEntries m) ids) hash ≡ false =
@@ -89,6 +199,26 @@ denied-gives (with-label hash name) m ids filter f e =
     (λ x k. either (which (has x))
     (λ t. absurd (false≢true (sym closed ∙ ap (mayContain (filterOf en ids)) (sym (labels-hash (rowRead m) hash name x t)) ∙ filterOf-admits en ids x k)))
     (λ n. n)))
+
+pub denied-gives : (wanted : Sought) (m : Model) (ids filter : List ℕ) → filter ≡ filterOf (rowEntries m) ids → denies wanted filter ≡ true
+    → given wanted (rowRead m) (listOver (listRead wanted) m ids) ≡ []
+unfolding denies given listOver
+denied-gives all-vectors m ids filter f e = absurd (false≢true e)
+denied-gives (with-label hash name) m ids filter f e = no-owners m hash name ids filter f e
+denied-gives (with-both hash name others other) m ids filter f e = go (which (not (mayContain filter hash)))
+  where
+    l : List ℕ
+    l = entriesOf (rowEntries m) ids
+
+    go : (not (mayContain filter hash) ≡ true) ⊎ (not (mayContain filter hash) ≡ false)
+        → keep (λ v. isIn v (ownersOf (rowRead m) others other l)) (ownersOf (rowRead m) hash name l) ≡ []
+    go (inl t) =
+        let test : ℕ → Bool = λ v. isIn v (ownersOf (rowRead m) others other l) in
+        ap (keep test) (no-owners m hash name ids filter f t) ∙ keep-nil test
+    go (inr n) =
+        let t : not (mayContain filter others) ≡ true = ap (λ (b : Bool). b || not (mayContain filter others)) (sym n) ∙ e in
+        keep-none (λ v. isIn v (ownersOf (rowRead m) others other l)) (ownersOf (rowRead m) hash name l)
+        (λ v k. ap (isIn v) (no-owners m others other ids filter f t) ∙ isIn-nil v)
 
 -- ---- what a row carries, by hash and bytes
 
@@ -106,6 +236,7 @@ unfoldable pub carried : Sought → ModelRow → Bool
 unfolding hasBoth
 carried all-vectors r = true
 carried (with-label hash name) r = hasBoth hash name (r .names)
+carried (with-both hash name others other) r = hasBoth hash name (r .names) && hasBoth others other (r .names)
 
 -- by the hash of the bytes it is by the bytes alone
 both-is : (name label : List ℕ) → isBoth (fnv name) name label ≡ sameLabel name label
@@ -129,6 +260,7 @@ pub carried-is : (asked : Asked) (r : ModelRow) → carried (wantedOf asked) r �
 unfolding carried wantedOf carries
 carried-is everything r = refl
 carried-is (labelled name) r = has-is name (r .names)
+carried-is (labelled-both name other) r = ap₂ _&&_ (has-is name (r .names)) (has-is other (r .names))
 
 -- ---- all rows
 
@@ -142,9 +274,54 @@ unfolding numbersCarrying carried countFrom
 numbers-all i [] = refl
 numbers-all i (r ∷ rows) = ap (λ (l : List ℕ). i ∷ l) (numbers-all (suc i) rows)
 
--- every entry is a row's
-pub entries-all : (m : Model) → entriesOf (rowEntries m) (countFrom 0 (length (m .rows))) ≡ countFrom 0 (length (rowHashes m))
-entries-all m = entriesOf-all (rowEntries m) (length (m .rows)) (owner-below m) ∙ ap (countFrom 0) (owners-length m)
+-- none is before the first
+numbers-from : (wanted : Sought) (i : ℕ) (rows : List ModelRow) (x : ℕ) → List·Memᴰ x (numbersCarrying wanted i rows) → i ≤ x
+unfolding numbersCarrying
+numbers-from wanted i [] x k = absurd (List·Memᴰ·not-nil k)
+numbers-from wanted i (r ∷ rows) x k = go (carried wanted r) k (numbers-from wanted (suc i) rows x)
+  where
+    go : (b : Bool) → List·Memᴰ x (cond b (i ∷ numbersCarrying wanted (suc i) rows) (numbersCarrying wanted (suc i) rows))
+        → (List·Memᴰ x (numbersCarrying wanted (suc i) rows) → suc i ≤ x) → i ≤ x
+    go true k later = either (List·Memᴰ·cases-cons k) (λ e. omega arith) (λ n. let b : suc i ≤ x = later n in omega arith)
+    go false k later = let b : suc i ≤ x = later k in omega arith
+
+-- with two labels they are those with the first that are among those with the second
+numbers-both : (hash : ℕ) (name : List ℕ) (others : ℕ) (other : List ℕ) (i : ℕ) (rows : List ModelRow)
+    → keep (λ v. isIn v (numbersCarrying (with-label others other) i rows)) (numbersCarrying (with-label hash name) i rows)
+    ≡ numbersCarrying (with-both hash name others other) i rows
+unfolding numbersCarrying carried
+numbers-both hash name others other i [] = keep-nil (λ v. isIn v [])
+numbers-both hash name others other i (r ∷ rows) =
+    go (hasBoth hash name (r .names)) (hasBoth others other (r .names))
+    ∙ ap (λ (l : List ℕ). cond (hasBoth hash name (r .names) && hasBoth others other (r .names)) (i ∷ l) l) (numbers-both hash name others other (suc i) rows)
+  where
+    mine : List ℕ
+    mine = numbersCarrying (with-label hash name) (suc i) rows
+
+    theirs : List ℕ
+    theirs = numbersCarrying (with-label others other) (suc i) rows
+
+    both : List ℕ
+    both = keep (λ v. isIn v theirs) mine
+
+    -- the first number is of no later row
+    later : (v : ℕ) → List·Memᴰ v mine → isIn v (i ∷ theirs) ≡ isIn v theirs
+    later v k =
+        let from = numbers-from (with-label hash name) (suc i) rows v k in
+        isIn-later v i theirs (λ e. omega (arith, e, from))
+
+    absent : isIn i theirs ≡ false
+    absent =
+        either (which (isIn i theirs))
+        (λ t. let from = numbers-from (with-label others other) (suc i) rows i (isIn-Memᴰ i theirs t) in absurd (omega (arith, from))) (λ f. f)
+
+    go : (a b : Bool) → keep (λ v. isIn v (cond b (i ∷ theirs) theirs)) (cond a (i ∷ mine) mine) ≡ cond (a && b) (i ∷ both) both
+    go true true =
+        let test : ℕ → Bool = λ v. isIn v (i ∷ theirs) in
+        keep-pass test i mine (isIn-here i theirs) ∙ ap (λ (l : List ℕ). i ∷ l) (keep-congr test (λ v. isIn v theirs) mine later)
+    go true false = keep-fail (λ v. isIn v theirs) i mine absent
+    go false true = keep-congr (λ v. isIn v (i ∷ theirs)) (λ v. isIn v theirs) mine later
+    go false false = refl
 
 -- the owners of the labels that pass a test
 unfoldable select : (List ℕ → Bool) → List ℕ → List (List ℕ) → List ℕ
@@ -258,8 +435,8 @@ rows-select m hash name = refl
 
 entries-rows : (m : Model) (hash : ℕ) (name : List ℕ)
     → ((r : ModelRow) → List·Memᴰ r (m .rows) → NoTwo (λ (a b : List ℕ). sameLabel a b ≡ true) (r .names))
-    → map (rowRead m .owner) (keep (isLabels (rowRead m) hash name) (countFrom 0 (length (rowHashes m)))) ≡ numbersCarrying (with-label hash name) 0 (m .rows)
-unfolding rowEntries
+    → ownersOf (rowRead m) hash name (allEntries m) ≡ numbersCarrying (with-label hash name) 0 (m .rows)
+unfolding rowEntries ownersOf
 entries-rows m hash name d =
     let n = length (rowNames m) in
     ap (λ (k : ℕ). map (rowRead m .owner) (keep (isLabels (rowRead m) hash name) (countFrom 0 k))) (sym (names-length m))
@@ -275,5 +452,9 @@ pub given-all : (wanted : Sought) (m : Model) → ((r : ModelRow) → List·Mem�
     → given wanted (rowRead m) (listOver (listRead wanted) m (countFrom 0 (length (m .rows)))) ≡ numbersCarrying wanted 0 (m .rows)
 unfolding given listOver
 given-all all-vectors m d = sym (numbers-all 0 (m .rows))
-given-all (with-label hash name) m d =
-    ap (λ (l : List ℕ). map (rowRead m .owner) (keep (isLabels (rowRead m) hash name) l)) (entries-all m) ∙ entries-rows m hash name d
+given-all (with-label hash name) m d = ap (ownersOf (rowRead m) hash name) (entries-all m) ∙ entries-rows m hash name d
+given-all (with-both hash name others other) m d =
+    let read = rowRead m in
+    ap (λ (l : List ℕ). keep (λ v. isIn v (ownersOf read others other l)) (ownersOf read hash name l)) (entries-all m)
+    ∙ ap₂ (λ (theirs mine : List ℕ). keep (λ v. isIn v theirs) mine) (entries-rows m others other d) (entries-rows m hash name d)
+    ∙ numbers-both hash name others other 0 (m .rows)

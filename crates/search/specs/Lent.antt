@@ -23,7 +23,7 @@ use Rattle.curator.specs.Rows.{firstOf, stateRow, searchRows}
 use Rattle.store.specs.declared.Lengths.{Lengths}
 use Rattle.curator.specs.Calls.{factsOf}
 use Rattle.curator.specs.Searches.{wantedOf, SearchEnd, SearchWalked, Searches}
-use Rattle.curator.specs.Arguments.{Asking, Asked, everything, labelled, SearchCall}
+use Rattle.curator.specs.Arguments.{Asking, Asked, everything, labelled, labelled-both, SearchCall}
 
 -- what the rows of a search come to, by the lengths of the lists
 abbrev pub searchChecked : CuratorIndex → Lengths → ℕ → Asking → VectorCheck
@@ -41,6 +41,11 @@ looking query k ids distances asked =
 -- `search_filtered` asks for those with a label, joined from its two parts, `search` for every vector
 abbrev pub filtered : RefT (List Float) → RefT (List ℕ) → RefT (List ℕ) → ℕ → RefT (List ℕ) → RefT (List Float) → SearchCall
 filtered query first second k ids distances = looking query k ids distances (labelled (now first ++ now second))
+
+-- `search_both` for those with each of two labels, joined from two parts each (02, K1)
+abbrev pub both : RefT (List Float) → RefT (List ℕ) → RefT (List ℕ) → RefT (List ℕ) → RefT (List ℕ) → ℕ → RefT (List ℕ) → RefT (List Float) → SearchCall
+both query first second otherFirst otherSecond k ids distances =
+    looking query k ids distances (labelled-both (now first ++ now second) (now otherFirst ++ now otherSecond))
 
 abbrev pub unfiltered : RefT (List Float) → ℕ → RefT (List ℕ) → RefT (List Float) → SearchCall
 unfiltered query k ids distances = looking query k ids distances everything

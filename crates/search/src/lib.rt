@@ -1,10 +1,11 @@
-// Both searches of an index: the refusals, the query normalised, and the walk (document 01, 'Search').
+// The searches of an index: the refusals, the query normalised, and the walk (document 01, 'Search'; 02, K1).
 ghost use mathlib.Core.Path.{_≡_};
 ghost use Rattle.vector.specs.Vector.{dot};
 ghost use Rattle.store.specs.Lent.{lent};
+ghost use mathlib.Core.List.{_++_};
 ghost use Rattle.walk.specs.Wanted.{sought};
 ghost use Rattle.curator.specs.Searches.{Searches};
-ghost use Rattle.search.specs.Lent.{askingWith, searchChecked, SearchReady, foundOf, looking, leaving, filtered, unfiltered, SearchesFor, WalkedFor};
+ghost use Rattle.search.specs.Lent.{askingWith, searchChecked, SearchReady, foundOf, looking, leaving, filtered, both, unfiltered, SearchesFor, WalkedFor};
 use curator::CuratorIndex;
 use curator::Found;
 use curator::VectorCheck;
@@ -82,13 +83,15 @@ fn walk_from(
     wanted: Wanted,
     first: &[u8],
     second: &[u8],
+    other_first: &[u8],
+    other_second: &[u8],
     k: usize,
     ids: &mut [u32],
     distances: &mut [f32],
 ) -> Found
     requires { ⌜ SearchReady index (lent floats numbers hashes text) (now work) (now query) k (now ids) (now distances) ⌝ }
     requires { ⌜ squares ≡ dot (now query) (now query) ⌝ }
-    ensures { λ r. ⌜ WalkedFor index (lent (floats .entry) (numbers .entry) (hashes .entry) (text .entry)) (now (work .entry)) (sought wanted (now (first .entry)) (now (second .entry)))
+    ensures { λ r. ⌜ WalkedFor index (lent (floats .entry) (numbers .entry) (hashes .entry) (text .entry)) (now (work .entry)) (sought wanted (now (first .entry) ++ now (second .entry)) (now («other_first» .entry) ++ now («other_second» .entry)))
         (looking (query .entry) k (ids .entry) (distances .entry))
         (leaving r (work .exit) (ids .exit) (distances .exit)) ⌝ }
 {
@@ -110,13 +113,15 @@ fn walk_from(
         wanted,
         first,
         second,
+        other_first,
+        other_second,
         k,
         ids,
         distances,
     ))
 }
 
-// One search, by what is wanted: a label's hash, and its name in two parts.
+// One search, by what is wanted: labels' hashes, and their names in two parts.
 fn search_wanted(
     index: CuratorIndex,
     floats: &[f32],
@@ -128,11 +133,13 @@ fn search_wanted(
     wanted: Wanted,
     first: &[u8],
     second: &[u8],
+    other_first: &[u8],
+    other_second: &[u8],
     k: usize,
     ids: &mut [u32],
     distances: &mut [f32],
 ) -> Found
-    ensures { λ r. ⌜ SearchesFor index (lent (floats .entry) (numbers .entry) (hashes .entry) (text .entry)) (now (work .entry)) (sought wanted (now (first .entry)) (now (second .entry)))
+    ensures { λ r. ⌜ SearchesFor index (lent (floats .entry) (numbers .entry) (hashes .entry) (text .entry)) (now (work .entry)) (sought wanted (now (first .entry) ++ now (second .entry)) (now («other_first» .entry) ++ now («other_second» .entry)))
         (looking (query .entry) k (ids .entry) (distances .entry))
         (leaving r (work .exit) (ids .exit) (distances .exit)) ⌝ }
 {
@@ -165,6 +172,8 @@ fn search_wanted(
             wanted,
             first,
             second,
+            other_first,
+            other_second,
             k,
             ids,
             distances,
@@ -191,6 +200,8 @@ pub fn search_filtered(
         (filtered (query .entry) (first .entry) (second .entry) k (ids .entry) (distances .entry))
         (leaving r (work .exit) (ids .exit) (distances .exit)) ⌝ }
 {
+    let start = 0;
+    let none = &text[start..start];
     let wanted = Wanted::Label(label::hash_name(first, second));
     search_wanted(
         index,
@@ -203,6 +214,51 @@ pub fn search_filtered(
         wanted,
         first,
         second,
+        none,
+        none,
+        k,
+        ids,
+        distances,
+    )
+}
+
+// The nearest k documents that have a live vector with each of two labels: names in two parts, which are any bytes (02, K1).
+pub fn search_both(
+    index: CuratorIndex,
+    floats: &[f32],
+    numbers: &[u32],
+    hashes: &[u64],
+    text: &[u8],
+    work: &mut [u32],
+    query: &[f32],
+    first: &[u8],
+    second: &[u8],
+    other_first: &[u8],
+    other_second: &[u8],
+    k: usize,
+    ids: &mut [u32],
+    distances: &mut [f32],
+) -> Found
+    ensures { λ r. ⌜ Searches index (lent (floats .entry) (numbers .entry) (hashes .entry) (text .entry)) (now (work .entry))
+        (both (query .entry) (first .entry) (second .entry) («other_first» .entry) («other_second» .entry) k (ids .entry) (distances .entry))
+        (leaving r (work .exit) (ids .exit) (distances .exit)) ⌝ }
+{
+    let hash = label::hash_name(first, second);
+    let others = label::hash_name(other_first, other_second);
+    let wanted = Wanted::Both(hash, others);
+    search_wanted(
+        index,
+        floats,
+        numbers,
+        hashes,
+        text,
+        work,
+        query,
+        wanted,
+        first,
+        second,
+        other_first,
+        other_second,
         k,
         ids,
         distances,
@@ -237,6 +293,8 @@ pub fn search(
         work,
         query,
         Wanted::Everything,
+        none,
+        none,
         none,
         none,
         k,

@@ -88,10 +88,10 @@ LeafPlacing s c numbers wanted at r =
 
 -- A filter and a leaf's place are told by the hash alone: the same for a label of any bytes, in any two parts
 abbrev pub Denies : Shape → List ℕ → Wanted → ℕ → Bool → Type 0
-Denies s hashes wanted i r = (first second : List ℕ) → r ≡ denies (sought wanted first second) (nodeFilter s hashes i)
+Denies s hashes wanted i r = (name other : List ℕ) → r ≡ denies (sought wanted name other) (nodeFilter s hashes i)
 
 abbrev pub LeafPlaced : Shape → Counts → List ℕ → Wanted → ℕ → Placed → Type 0
-LeafPlaced s c numbers wanted at r = (first second : List ℕ) → LeafPlacing s c numbers (sought wanted first second) at r
+LeafPlaced s c numbers wanted at r = (name other : List ℕ) → LeafPlacing s c numbers (sought wanted name other) at r
 
 -- what node i shows, from any query and with any vectors and label text
 abbrev pub LooksFor : Shape → Counts → List ℕ → List ℕ → Sought → ℕ → Look → Type 0
@@ -107,7 +107,7 @@ LooksFor s c numbers hashes wanted i (look.Inner b) =
     ≡ childrenShown s c (storeOf floats numbers hashes text) i (part (b .start) (b .count) numbers))
 
 abbrev pub Looks : Shape → Counts → List ℕ → List ℕ → Wanted → ℕ → Look → Type 0
-Looks s c numbers hashes wanted i r = (first second : List ℕ) → LooksFor s c numbers hashes (sought wanted first second) i r
+Looks s c numbers hashes wanted i r = (name other : List ℕ) → LooksFor s c numbers hashes (sought wanted name other) i r
 
 -- ---- the searches
 

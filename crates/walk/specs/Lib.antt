@@ -20,3 +20,4 @@ pub mod StoreViewLaws
 pub mod LentLaws
 pub mod ReadLaws
 pub mod HeldLaws
+pub mod Twice

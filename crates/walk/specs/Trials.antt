@@ -1,15 +1,17 @@
 -- Document 01's trial echoes: the walks of the search for `a` from (1, 0) with k 4, over the definitions, at ef 5, 0, 2 and 4. And repeated ids.
 use Prim.Native.Nat.{ℕ}
-use mathlib.Core.Bool.{Bool, true, false}
+use mathlib.Core.Bool.{Bool, true, false, cond}
 use mathlib.Core.Path.{_≡_, refl}
 use mathlib.Core.List.{List, [], _∷_, _++_, map}
+use lib.Dec.{eqb}
 use lib.ListN.{set}
+use lib.Seq.{sets}
 use lib.Ieee.{Float, binary32, ofBits, toBits}
 use Rattle.store.specs.declared.Shape.{Shape}
 use Rattle.store.specs.Store.{Store}
 use Rattle.total_order.specs.TotalOrder.{keyOf}
 use Rattle.bloom.specs.Filter.{emptyFilter, insertAll}
-use Rattle.walk.specs.Wanted.{with-label}
+use Rattle.walk.specs.Wanted.{Sought, with-label, with-both}
 use Rattle.store.specs.declared.Counts.{Counts}
 use Rattle.walk.specs.Walk.{State, damaged, going, walk}
 use Rattle.walk.specs.Answer.{hitOf, documentOf, dropRepeats, isLive, listed, answer}
@@ -28,6 +30,10 @@ hashA = 0xaf63dc4c8601ec8c
 
 unfoldable pub hashB : ℕ
 hashB = 0xaf63df4c8601f1a5
+
+unfoldable pub hashOf : ℕ → ℕ
+unfolding hashA hashB
+hashOf letter = cond (eqb letter 97) hashA hashB
 
 -- (1, 0), (0, 1) and (3F19999A, 3F4CCCCD), the last being (3, 4) over 5, and room for one; the centroids of the five nodes, each the mean of the
 -- vectors below it, and room for three; the two centres
@@ -121,6 +127,59 @@ pub past-the-bytes : (labelWalk 2 hashA (97 ∷ []) 5 ≡ broken)
     × (labelWalk 2 hashB (98 ∷ []) 5 ≡ printed (record { ids = 8 ∷ []; bits = 0x3F800000 ∷ []; whole = true; opened = 5 }))
 unfolding labelWalk hashA hashB
 past-the-bytes = (refl, refl, refl, refl)
+
+-- 02, K1: the trial store with `b` on document 9's vector too: a fourth entry, in the leaf of that vector, and in the leaf's filter
+unfoldable pub bothStore : List ℕ → Store
+unfolding trialFloats trialHashes trialText hashA hashB insertAll
+bothStore numbers =
+    record {
+      floats = trialFloats;
+      numbers = numbers;
+      hashes = sets (set trialHashes 3 hashB) 20 (insertAll emptyFilter (hashA ∷ hashB ∷ []));
+      text = set trialText 3 98;
+    }
+
+-- owner 2; behind entry 2 in the leaf order, whose leaf has two; byte 3, one byte
+unfoldable pub bothNumbers : List ℕ
+unfolding trialNumbers
+bothNumbers = set (set (set (set (set trialNumbers 7 2) 41 2) 71 3) 75 3) 79 1
+
+-- the same entry in the leaf of document 8's vector
+unfoldable pub movedNumbers : List ℕ
+unfolding bothNumbers
+movedNumbers = set (set (set (set (set bothNumbers 35 2) 40 3) 41 1) 70 3) 71 2
+
+-- with so many bytes held
+unfoldable pub soughtWalk : List ℕ → ℕ → Sought → ℕ → Outcome
+unfolding outcome walk storeView isLive trialShape bothStore
+soughtWalk numbers bytes wanted ef =
+    let store = bothStore numbers in
+    let c : Counts = record { vectors = 3; entries = 4; nodes = 5; bytes = bytes } in
+    outcome (liveIn trialShape c store) (walk (storeView trialShape c store (ofBits binary32 0x3F800000 ∷ ofBits binary32 0 ∷ []) wanted) ef)
+
+abbrev pub bothWalk : List ℕ → ℕ → ℕ → ℕ → ℕ → Outcome
+bothWalk numbers bytes first second ef = soughtWalk numbers bytes (with-both (hashOf first) (first ∷ []) (hashOf second) (second ∷ [])) ef
+
+-- 'a search with two labels returns vectors that carry both; a node whose filter denies either is opened and gives nothing': documents 7 and 8 have one
+-- of `a` and `b`, 9 has both, and 5 nodes are opened; the order does not matter, cut or whole; 'the same label given twice is the one-label search'
+pub both-labels :
+    (bothWalk bothNumbers 4 97 98 5 ≡ printed (record { ids = 9 ∷ []; bits = 0x3ECCCCCC ∷ []; whole = true; opened = 5 }))
+    × (bothWalk bothNumbers 4 98 97 5 ≡ printed (record { ids = 9 ∷ []; bits = 0x3ECCCCCC ∷ []; whole = true; opened = 5 }))
+    × (bothWalk bothNumbers 4 97 98 2 ≡ printed (record { ids = []; bits = []; whole = false; opened = 2 }))
+    × (bothWalk bothNumbers 4 97 97 5 ≡ printed (record { ids = 7 ∷ 9 ∷ []; bits = 0 ∷ 0x3ECCCCCC ∷ []; whole = true; opened = 5 }))
+unfolding soughtWalk bothNumbers hashOf
+both-labels = (refl, refl, refl, refl)
+
+-- 'whose owner has one of the second there': one in another leaf does not count
+pub not-there : (bothWalk movedNumbers 4 97 98 5 ≡ nothingFound) × (bothWalk movedNumbers 4 98 97 5 ≡ nothingFound)
+unfolding soughtWalk movedNumbers hashOf
+not-there = (refl, refl)
+
+-- an entry of either hash is read: with 3 bytes held document 9's `b` is damage, whichever comes first; the search for `a` alone does not read it
+pub past-either : (bothWalk bothNumbers 3 97 98 5 ≡ broken) × (bothWalk bothNumbers 3 98 97 5 ≡ broken)
+    × (soughtWalk bothNumbers 3 (with-label hashA (97 ∷ [])) 5 ≡ printed (record { ids = 7 ∷ 9 ∷ []; bits = 0 ∷ 0x3ECCCCCC ∷ []; whole = true; opened = 5 }))
+unfolding soughtWalk bothNumbers hashOf hashA
+past-either = (refl, refl, refl)
 
 -- 'adjacent equal document ids lose the later': of the ids 7, 8, 7 at rising distances all three stay, of 7, 7, 8 the second goes
 unfoldable pub idsLeft : ℕ → ℕ → ℕ → List ℕ

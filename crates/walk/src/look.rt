@@ -4,8 +4,11 @@ use bloom::may_contain;
 use store::Counts;
 use store::Shape;
 use store::wide;
+ghost use mathlib.Core.Path.{_≡_};
 ghost use Prim.Native.Nat.{_+_, _*_, _<_};
 ghost use Rattle.lists.specs.Lists.{part};
+ghost use Rattle.bloom.specs.Filter.{mayContain};
+ghost use Rattle.store.specs.Store.{nodeFilter};
 ghost use Rattle.walk.specs.Contracts.{FilterLent, LeafLent, NodeLent, BlockAsked, Denies, Placing, LeafPlaced, Looks};
 
 // A list's places in the numbers.
@@ -27,6 +30,16 @@ pub enum Look {
     Inner(Block),
 }
 
+// Whether the filter of node i may contain a hash.
+fn admits(shape: Shape, hashes: &[u64], hash: u64, i: usize) -> bool
+    requires { ⌜ FilterLent shape (now hashes) i ⌝ }
+    ensures { λ r. ⌜ r ≡ mayContain (nodeFilter shape (now (hashes .entry)) i) hash ⌝ }
+{
+    let start = shape.filters_at() + i * 4;
+    let end = start + 4;
+    may_contain(&hashes[start..end], hash)
+}
+
 // Whether the filter of node i denies what is wanted.
 fn denied(shape: Shape, hashes: &[u64], wanted: Wanted, i: usize) -> bool
     requires { ⌜ FilterLent shape (now hashes) i ⌝ }
@@ -34,10 +47,11 @@ fn denied(shape: Shape, hashes: &[u64], wanted: Wanted, i: usize) -> bool
 {
     match wanted {
         Wanted::Everything => false,
-        Wanted::Label(hash) => {
-            let start = shape.filters_at() + i * 4;
-            let end = start + 4;
-            !may_contain(&hashes[start..end], hash)
+        Wanted::Label(hash) => !admits(shape, hashes, hash, i),
+        Wanted::Both(hash, others) => {
+            let one = admits(shape, hashes, hash, i);
+            let two = admits(shape, hashes, others, i);
+            !one | !two
         }
     }
 }
@@ -72,6 +86,7 @@ fn leaf_list(shape: Shape, counts: Counts, numbers: &[u32], wanted: Wanted, at: 
     match wanted {
         Wanted::Everything => block_at(numbers, at + 2, shape.order_at(), counts.vectors),
         Wanted::Label(_) => block_at(numbers, at + 4, shape.entry_order_at(), counts.entries),
+        Wanted::Both(_, _) => block_at(numbers, at + 4, shape.entry_order_at(), counts.entries),
     }
 }
 

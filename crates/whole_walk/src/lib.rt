@@ -6,7 +6,6 @@ use best_first_walk::found_at;
 use best_first_walk::fresh_child;
 use best_first_walk::mark_root;
 use leaf_hits::Added;
-use leaf_hits::add_hits;
 use store::Counts;
 use store::Shape;
 use store::wide;
@@ -14,7 +13,9 @@ use walk::Wanted;
 use walk::look::Block;
 use walk::look::Look;
 use walk::look::look_at;
+use wanted_hits::add_hits;
 ghost use Rattle.lists.specs.Lists.{part};
+ghost use mathlib.Core.List.{_++_};
 ghost use Rattle.walk.specs.Wanted.{sought};
 ghost use Rattle.whole_walk.specs.Contracts.{ChildrenLent, MarksChildren, OpenLent, OpensNode, PassLent, WalksAny};
 
@@ -66,13 +67,16 @@ fn open_node(
     wanted: Wanted,
     first: &[u8],
     second: &[u8],
+    other_first: &[u8],
+    other_second: &[u8],
     i: usize,
 ) -> Added
-    requires { ⌜ OpenLent shape counts (now numbers) (now hashes) (now text) (now work) hits (sought wanted (now first) (now second)) i ⌝ }
-    ensures { λ r. ⌜ OpensNode shape counts (now (numbers .entry)) (now (hashes .entry)) (now (text .entry)) hits (sought wanted (now (first .entry)) (now (second .entry))) i (now (work .entry)) r (now (work .exit)) ⌝ }
+    requires { ⌜ OpenLent shape counts (now numbers) (now hashes) (now text) (now work) hits (sought wanted (now first ++ now second) (now «other_first» ++ now «other_second»)) i ⌝ }
+    ensures { λ r. ⌜ OpensNode shape counts (now (numbers .entry)) (now (hashes .entry)) (now (text .entry)) hits (sought wanted (now (first .entry) ++ now (second .entry)) (now («other_first» .entry) ++ now («other_second» .entry))) i (now (work .entry)) r (now (work .exit)) ⌝ }
 {
-    let found_at = found_at(shape);
-    let found_end = shape.work_size();
+    let hits_at = shape.hits_at();
+    let hits_end = shape.work_size();
+    let from = found_at(shape) - hits_at;
     let shown = look_at(shape, counts, numbers, hashes, wanted, i);
     match shown {
         Look::Damaged => Added::Damaged,
@@ -82,11 +86,14 @@ fn open_node(
             numbers,
             hashes,
             text,
-            &mut work[found_at..found_end],
+            &mut work[hits_at..hits_end],
+            from,
             hits,
             wanted,
             first,
             second,
+            other_first,
+            other_second,
             list,
         ),
         Look::Inner(children) => mark_children(shape, counts, numbers, work, hits, i, children),
@@ -104,9 +111,11 @@ pub fn whole_walk(
     wanted: Wanted,
     first: &[u8],
     second: &[u8],
+    other_first: &[u8],
+    other_second: &[u8],
 ) -> Walked
     requires { ⌜ PassLent shape counts (now numbers) (now hashes) (now text) (now work) ⌝ }
-    ensures { λ r. ⌜ WalksAny shape counts (now (numbers .entry)) (now (hashes .entry)) (now (text .entry)) (sought wanted (now (first .entry)) (now (second .entry))) (now (work .entry)) r (now (work .exit)) ⌝ }
+    ensures { λ r. ⌜ WalksAny shape counts (now (numbers .entry)) (now (hashes .entry)) (now (text .entry)) (sought wanted (now (first .entry) ++ now (second .entry)) (now («other_first» .entry) ++ now («other_second» .entry))) (now (work .entry)) r (now (work .exit)) ⌝ }
 {
     let nodes = counts.nodes;
     let marks_at = shape.marks_at();
@@ -139,6 +148,8 @@ pub fn whole_walk(
                 wanted,
                 first,
                 second,
+                other_first,
+                other_second,
                 i,
             ) {
                 Added::Damaged => {

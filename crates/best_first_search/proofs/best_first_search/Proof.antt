@@ -1,6 +1,8 @@
 -- `best_first_search` meets its contract: the vectors that the walk found, and the first k of their hits. Assumes nothing.
 use Rattle.best_first_search.proofs.Searching.{damaged-search, ended-search, ended-numbers, ended-first}
 use Rattle.best_first_walk.specs.Walks.{hitsPart, foundIn, WalkEnds}
+use Rattle.best_first_walk.specs.WalksLaws.{length-hits}
+use Rattle.best_first_walk.specs.MarkLaws.{hits-lent, hits-back}
 use Rattle.best_first_walk.specs.declared.Walked.{Walked}
 use Rattle.best_first_walk.specs.declared.Walked.the-variants as walked
 use Rattle.best_first_search.specs.Ranks.{Firsts}
@@ -11,7 +13,6 @@ use Rattle.store.specs.Lent.{storeOf}
 use Rattle.walk.specs.StoreView.{hitAt, liveIn, storeView}
 use Rattle.walk.specs.Walk.{View, walk}
 use Rattle.store.specs.Store.{hitsAt, workSize}
-use Rattle.lists.specs.Parts.{length-part, lent-part, lent-is}
 use borrow.Author.Needs.{needs}
 use lib.ListN.{length, take, drop}
 use lib.Seq.{sets}
@@ -27,7 +28,7 @@ use Rattle.best_first_search.proofs.best_first_search.Tie as tie
 
 -- the places: entry, the walk ended, it ended with hits, and the first k are taken
 abbrev entry : tie.After-walk-store → tie.Start
-entry w = w .before .before .before .before .before .before .before .before .before .before .before .before .before .before .before
+entry w = w .before .before .before .before .before .before .before .before .before .before .before .before .before .before .before .before .before
 
 abbrev from : tie.After-walked → tie.After-walk-store
 from h = h .before .before .before .before
@@ -40,7 +41,7 @@ hit e = hitAt (e .args .shape) (e .args .floats .now) (e .args .numbers .now) (e
 
 -- what the search is about, and the view of the store
 abbrev wants : tie.Start → Sought
-wants e = sought (e .args .wanted) (e .args .first .now) (e .args .second .now)
+wants e = sought (e .args .wanted) (e .args .first .now ++ e .args .second .now) (e .args .other-first .now ++ e .args .other-second .now)
 
 abbrev view : tie.Start → View
 view e = storeView (e .args .shape) (e .args .counts) (storeOf (e .args .floats .now) (e .args .numbers .now) (e .args .hashes .now) (e .args .text .now)) (e .args .query .now) (wants e)
@@ -94,8 +95,8 @@ lentHits w =
 
 lent-hits : (w : tie.After-walk-store) → lentHits w ≡ hitsPart (entry w .args .shape) (work w)
 lent-hits w =
-    let s = entry w .args .shape in
-    lent-is (work w) (after-hits-at (after-work-size w) .hits-at .result) (after-work-size w .work-size .result) (hitsAt s) (3 * max (s .vectors) (s .entries)) (hits-start w) (hits-end w)
+    let e = entry w in
+    hits-lent (e .args .shape) (work w) (after-hits-at (after-work-size w) .hits-at .result) (after-work-size w .work-size .result) (e .pre .lent .within .limits) (hits-start w) (hits-end w)
 
 -- where the numbers of the vectors found stand in it
 from-is : (w : tie.After-walk-store) → w .before .before .found-at .result - after-hits-at (after-work-size w) .hits-at .result ≡ foundIn (entry w .args .shape)
@@ -121,8 +122,7 @@ back t = t .first-hits .last .1 .1 .1 .1 .0
 back-length : (t : tie.After-first-hits) → length (back t) ≡ 3 * max (entry (from (hits t)) .args .shape .vectors) (entry (from (hits t)) .args .shape .entries)
 back-length t =
     let w = from (hits t) in
-    let s = entry w .args .shape in
-    t .first-hits .kept .1 .1 .1 .1 .0 ∙ ap length (lent-hits w) ∙ length-part (hitsAt s) (3 * max (s .vectors) (s .entries)) (work w) (size w)
+    t .first-hits .kept .1 .1 .1 .1 .0 ∙ ap length (lent-hits w) ∙ length-hits (entry w .args .shape) (work w) (size w)
 
 abbrev after : tie.After-first-hits → List ℕ
 after t = let w = from (hits t) in
@@ -134,9 +134,8 @@ after t = let w = from (hits t) in
 after-is : (t : tie.After-first-hits) → after t ≡ sets (work (from (hits t))) (hitsAt (entry (from (hits t)) .args .shape)) (back t)
 after-is t =
     let w = from (hits t) in
-    lent-part (work w) (after-hits-at (after-work-size w) .hits-at .result) (after-work-size w .work-size .result) (back t)
-    (omega (arith, hits-start w, hits-end w)) (omega (arith, hits-end w, size w)) (omega (arith, back-length t, hits-start w, hits-end w))
-    ∙ ap (λ (at : ℕ). sets (work w) at (back t)) (hits-start w)
+    let e = entry w in
+    hits-back (e .args .shape) (work w) (after-hits-at (after-work-size w) .hits-at .result) (after-work-size w .work-size .result) (e .pre .lent .within .limits) (hits-start w) (hits-end w) (back t) (size w) (back-length t)
 
 hits-at-requires : tie.Need-hits-at-requires
 hits-at-requires c κs = search needs

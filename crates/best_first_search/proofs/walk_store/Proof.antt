@@ -8,7 +8,7 @@ abbrev passed : tie.After-slice-known2 → tie.After-whole-walk
 passed c = c .before .before
 
 abbrev entry : tie.After-whole-walk → tie.Start
-entry w = w .before .before .before .before .before .before .before .before .before .before .before .before
+entry w = w .before .before .before .before .before .before .before .before .before .before .before .before .before .before
 
 whole-walk-requires : tie.Need-whole-walk-requires
 whole-walk-requires c κs = search needs

@@ -3,13 +3,13 @@
 mod Places
 mod AtLeaf
 mod AtChildren
-use Rattle.best_first_walk.proofs.best_first_walk.Proof.Places.{Inv-loop, μ-loop, Inv-walk, μ-walk, entry, begun, turn, least, leaf-opened, from, added-hits, inner-opened, parent, child, read, last, all-marked, hit, store, wants, view, below, lends, first, marks, found-start, found-end, few, ended-works, node, work, node-low, opened, opened-works, shows}
+use Rattle.best_first_walk.proofs.best_first_walk.Proof.Places.{Inv-loop, μ-loop, Inv-walk, μ-walk, entry, begun, turn, least, leaf-opened, from, added-hits, inner-opened, parent, child, read, last, all-marked, hit, store, wants, view, below, lends, first, marks, foundFrom, hits-start, hits-end, found-from, few, ended-works, node, work, node-low, opened, opened-works, shows}
 use Rattle.best_first_walk.proofs.best_first_walk.Proof.AtLeaf.{at-leaf, passed, vectors, held, few-found, list, list-room, list-is, lent-found, work-room, back, at-hits, back-length, after-is, after-works, gave}
 use Rattle.best_first_walk.proofs.best_first_walk.Proof.AtChildren.{at-inner, children, child-works, number, next, fresh, low, total, many, all, room}
 use Rattle.best_first_walk.proofs.Walking.{Waits, waits-from, waits-start, opens-damage, leaf-damage, leaf-hits, ends-damaged, ends-whole, ends-cut}
 use Rattle.best_first_walk.proofs.Marking.{Marks, marks-start, child-damage, child-marked, children-held, children-pushed}
 use Rattle.best_first_walk.specs.ChildLaws.{children-shown}
-use Rattle.best_first_walk.specs.WalksLaws.{few-hits, length-found}
+use Rattle.best_first_walk.specs.WalksLaws.{few-hits, length-found, marks-room}
 use Rattle.waiting_nodes.specs.Contracts.{waitingRecords}
 use Rattle.waiting_nodes.specs.PushLaws.{nodes-wait}
 use Rattle.leaf_hits.specs.Contracts.{AddHits}
@@ -30,11 +30,17 @@ use Rattle.best_first_walk.proofs.best_first_walk.Tie as tie
 marks-at-requires : tie.Need-marks-at-requires Inv-loop μ-loop Inv-walk μ-walk
 marks-at-requires c κs = search needs
 
-found-at-requires : tie.Need-found-at-requires Inv-loop μ-loop Inv-walk μ-walk
-found-at-requires c κs = search needs
+hits-at-requires : tie.Need-hits-at-requires Inv-loop μ-loop Inv-walk μ-walk
+hits-at-requires c κs = search needs
 
 work-size-requires : tie.Need-work-size-requires Inv-loop μ-loop Inv-walk μ-walk
 work-size-requires c κs = search needs
+
+found-at-requires : tie.Need-found-at-requires Inv-loop μ-loop Inv-walk μ-walk
+found-at-requires c κs = search needs
+
+sub-from : tie.Need-sub-from Inv-loop μ-loop Inv-walk μ-walk
+sub-from c = search needs
 
 begin-requires : tie.Need-begin-requires Inv-loop μ-loop Inv-walk μ-walk
 begin-requires c κs = search needs
@@ -83,22 +89,22 @@ mul-add-hits c =
     let l = c .before in
     let p = least (leaf-opened l) in
     let limits = lends (at-leaf l) .within .limits in
-    omega (arith, found-start (begun (turn p)), found-end (begun (turn p)), limits .nodes-high, limits .vectors-high, limits .entries-high, work-room p)
+    omega (arith, hits-start (begun (turn p)), hits-end (begun (turn p)), limits .nodes-high, limits .vectors-high, limits .entries-high, work-room p)
 
 sub-add-hits : tie.Need-sub-add-hits Inv-loop μ-loop Inv-walk μ-walk
 sub-add-hits c =
     let p = least (leaf-opened (c .before)) in
-    omega (arith, found-start (begun (turn p)), found-end (begun (turn p)), work-room p)
+    omega (arith, hits-start (begun (turn p)), hits-end (begun (turn p)), work-room p)
 
 part-add-hits-start : tie.Need-part-add-hits-start Inv-loop μ-loop Inv-walk μ-walk
 part-add-hits-start c =
     let p = least (leaf-opened (c .before)) in
-    omega (arith, found-start (begun (turn p)), found-end (begun (turn p)), work-room p)
+    omega (arith, hits-start (begun (turn p)), hits-end (begun (turn p)), work-room p)
 
 part-add-hits-end : tie.Need-part-add-hits-end Inv-loop μ-loop Inv-walk μ-walk
 part-add-hits-end c =
     let p = least (leaf-opened (c .before)) in
-    omega (arith, found-start (begun (turn p)), found-end (begun (turn p)), work-room p)
+    omega (arith, hits-start (begun (turn p)), hits-end (begun (turn p)), work-room p)
 
 add-hits-requires : tie.Need-add-hits-requires Inv-loop μ-loop Inv-walk μ-walk
 add-hits-requires c κs =
@@ -108,17 +114,20 @@ add-hits-requires c κs =
     let w = lends e in
     let block = l .shown .given .0 .0 in
     record {
-      within = w .within;
-      numbers-size = w .long .numbers;
-      hashes-size = w .long .hashes;
-      text-size = w .long .text;
-      hits =
-          subst (λ (found : List ℕ). AddHits (e .args .numbers .now) found (turn p .walk .hits) (most (wants e) (e .args .counts)) (block .start) (block .count)) (sym (lent-found p))
-          (record {
-            block = list-room l;
-            few = omega (arith, opened p .1 .few, opened p .1 .holds .finds .count, few-found e);
-            room = omega (arith, few-hits (e .args .shape) (e .args .counts) (wants e) (w .within .vectors) (w .within .entries), length-found (e .args .shape) (work p) (w .within .limits) (work-room p));
-          });
+      lent = record {
+        within = w .within;
+        numbers-size = w .long .numbers;
+        hashes-size = w .long .hashes;
+        text-size = w .long .text;
+        hits =
+            subst (λ (found : List ℕ). AddHits (e .args .numbers .now) found (turn p .walk .hits) (most (wants e) (e .args .counts)) (block .start) (block .count)) (sym (lent-found p))
+            (record {
+              block = list-room l;
+              few = omega (arith, opened p .1 .few, opened p .1 .holds .finds .count, few-found e);
+              room = omega (arith, few-hits (e .args .shape) (e .args .counts) (wants e) (w .within .vectors) (w .within .entries), length-found (e .args .shape) (work p) (w .within .limits) (work-room p));
+            });
+      };
+      marks = marks-room (e .args .shape) (e .args .counts) (foundFrom (begun (turn p))) (w .within .limits) (w .within .vectors) (found-from (begun (turn p)));
     }
 
 enum-told-2 : tie.Need-enum-told-2 Inv-loop μ-loop Inv-walk μ-walk
@@ -128,7 +137,9 @@ enum-known-added : tie.Need-enum-known-added Inv-loop μ-loop Inv-walk μ-walk
 enum-known-added c = search needs
 
 walk-less : tie.Need-walk-less Inv-loop μ-loop Inv-walk μ-walk
-walk-less c = search needs
+walk-less c =
+    let p = at-hits (added-hits (c .before .before .before)) in
+    omega (arith, turn p .walk .inv .1 .budget, p .before .before .if2 .left)
 
 walk-again : tie.Need-walk-again Inv-loop μ-loop Inv-walk μ-walk
 walk-again c =
@@ -343,8 +354,10 @@ best-first-walk-spec =
     Inv-walk
     μ-walk
     marks-at-requires
-    found-at-requires
+    hits-at-requires
     work-size-requires
+    found-at-requires
+    sub-from
     begin-requires
     walk-holds
     pop-requires

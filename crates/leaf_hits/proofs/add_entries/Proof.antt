@@ -1,6 +1,7 @@
 -- `add_entries` meets its contract: the loop keeps that what the numbers read so far give was added, and each way out adds what came of the next chunk.
 -- The measure is the numbers left: a chunk has one at least, since there is room for one number more than there can be hits. Assumes nothing.
-use Rattle.leaf_hits.proofs.LeafLists.{gathered-none, gathers-further, damage-further}
+use Rattle.leaf_hits.proofs.LeafLists.{gathers-further, damage-further}
+use Rattle.leaf_hits.specs.Gathering.{gathered-none}
 use Rattle.leaf_hits.specs.declared.Added.{Added}
 use Rattle.leaf_hits.specs.declared.Added.the-variants as added
 use Rattle.leaf_hits.specs.Contracts.{AddedEntries}

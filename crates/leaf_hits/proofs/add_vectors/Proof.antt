@@ -1,6 +1,6 @@
 -- `add_vectors` meets its contract: the loop keeps `Gathering`, and each way out is one of its ends. The measure is what is left of the list.
 -- Assumes nothing.
-use Rattle.leaf_hits.proofs.LeafLists.{Gathering, gather-start, gather-next, gather-fails, gather-over, gather-end, block-at, block-room}
+use Rattle.leaf_hits.specs.Gathering.{Gathering, gather-start, gather-next, gather-fails, gather-over, gather-end, block-at, block-room}
 use Rattle.lists.specs.Lists.{part}
 use Rattle.lists.specs.Parts.{length-part}
 use mathlib.Core.Path.{_≡_, refl, sym}

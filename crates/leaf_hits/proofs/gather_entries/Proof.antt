@@ -1,6 +1,7 @@
 -- `gather_entries` meets its contract: the loop keeps that the numbers read so far were gathered, and each way out adds what came of the next ones. The
 -- measure is the numbers left. Assumes nothing.
-use Rattle.leaf_hits.proofs.LeafLists.{gathered-none, gathered-few, gathers-further, damage-further}
+use Rattle.leaf_hits.proofs.LeafLists.{gathers-further, damage-further}
+use Rattle.leaf_hits.specs.Gathering.{gathered-none, gathered-few}
 use Rattle.leaf_hits.specs.declared.Added.{Added}
 use Rattle.leaf_hits.specs.declared.Added.the-variants as added
 use Rattle.leaf_hits.specs.Contracts.{GatheredBy, GathersBy}

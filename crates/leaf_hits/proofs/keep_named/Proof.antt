@@ -1,6 +1,7 @@
 -- `keep_named` meets its contract: the loop keeps `Gathering` over the entries that stood behind the numbers before, and that those not yet read stand
 -- there still, since no more were kept than read. The measure is what is left of them. Assumes nothing.
-use Rattle.leaf_hits.proofs.LeafLists.{Gathering, gather-start, gather-next, gather-fails, gather-end, damage-fewer}
+use Rattle.leaf_hits.proofs.LeafLists.{damage-fewer}
+use Rattle.leaf_hits.specs.Gathering.{Gathering, gather-start, gather-next, gather-fails, gather-end}
 use Rattle.leaf_hits.specs.declared.Added.{Added}
 use Rattle.leaf_hits.specs.declared.Added.the-variants as added
 use Rattle.leaf_hits.specs.Contracts.{GatheredBy, GathersBy, KeepsNamed}

@@ -13,13 +13,22 @@ use Rattle.search.proofs.search_filtered.Tie as tie
 -- ---- the places that needs go back to (primed: the same place, from another one)
 
 abbrev start : tie.After-hash-name → tie.Start
-start c = c .before .before .before .before .before .before .before .before .before .before .before
+start c = c .before .before .before .before .before .before .before .before .before .before .before .before
 
 abbrev after-hash-name : tie.After-search-wanted → tie.After-hash-name
 after-hash-name c = c .before .before .before .before
 
 abbrev after-search-wanted : tie.After-slice-known6 → tie.After-search-wanted
 after-search-wanted c = c .before .before .before .before .before .before
+
+sub-none : tie.Need-sub-none
+sub-none c = search needs
+
+part-none-start : tie.Need-part-none-start
+part-none-start c = search needs
+
+part-none-end : tie.Need-part-none-end
+part-none-end c = search needs
 
 hash-name-requires : tie.Need-hash-name-requires
 hash-name-requires c κs = search needs
@@ -50,6 +59,9 @@ pub search-filtered-spec : {M : Type 1} → statement M
 search-filtered-spec =
     tie.close
     (tie.spec
+    sub-none
+    part-none-start
+    part-none-end
     hash-name-requires
     search-wanted-requires
     same-length

@@ -18,7 +18,7 @@ use Rattle.curator.specs.OutcomeLaws.{is-search-refused}
 
 -- the function's entry, from the place where the check is known to have the sum
 abbrev entry : tie.After-known-told2 → tie.Start
-entry c = c .before .before .before .before .before .before .before .before .before .before .before .before .before .before
+entry c = c .before .before .before .before .before .before .before .before .before .before .before .before .before .before .before .before
 
 abbrev callOf : tie.Start → Asked → SearchCall
 callOf s asked = looking (s .args .query) (s .args .k) (s .args .ids) (s .args .distances) asked

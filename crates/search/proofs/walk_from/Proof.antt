@@ -13,7 +13,7 @@ use Rattle.search.proofs.walk_from.Tie as tie
 -- ---- the places that needs go back to (primed: the same place, from another one)
 
 abbrev entry : tie.After-normalize → tie.Start
-entry c = c .before .before .before .before .before .before .before .before .before .before .before .before
+entry c = c .before .before .before .before .before .before .before .before .before .before .before .before .before .before
 
 abbrev after-normalize : tie.After-shape-of → tie.After-normalize
 after-normalize c = c .before .before .before

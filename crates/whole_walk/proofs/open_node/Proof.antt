@@ -2,10 +2,10 @@
 -- nothing.
 use Rattle.whole_walk.proofs.Opening.{leaf-gives}
 use Rattle.whole_walk.specs.Contracts.{OpensNode, NotesState}
-use Rattle.best_first_walk.specs.Walks.{foundAt, foundPart}
-use Rattle.best_first_walk.specs.WalksLaws.{few-hits, length-found}
+use Rattle.best_first_walk.specs.Walks.{hitsPart, foundIn, foundPart}
+use Rattle.best_first_walk.specs.WalksLaws.{few-hits, length-found, length-hits, marks-room}
 use Rattle.best_first_walk.specs.GatherLaws.{most-is, vectors-held}
-use Rattle.best_first_walk.specs.MarkLaws.{works-found, found-lent, found-back}
+use Rattle.best_first_walk.specs.MarkLaws.{works-found, hits-lent, found-lent, hits-back}
 use Rattle.leaf_hits.specs.Contracts.{AddHits, Gathers}
 use Rattle.leaf_hits.specs.LeafLaws.{list-shown}
 use Rattle.leaf_hits.specs.declared.Added.the-variants as added
@@ -19,7 +19,7 @@ use Rattle.walk.specs.Walk.{View, Shown, State, damage, hits, shown, give}
 use Rattle.walk.specs.WalkLaws.{give-damage}
 use Rattle.walk.specs.KeysLaws.{keyed}
 use Rattle.store.specs.Lent.{storeOf}
-use Rattle.store.specs.Store.{Store}
+use Rattle.store.specs.Store.{Store, hitsAt}
 use Rattle.lists.specs.Lists.{part}
 use Rattle.lists.specs.Tests.{allPass}
 use lib.Ieee.{Float}
@@ -29,7 +29,7 @@ use mathlib.Core.Bool.{Bool, cond}
 use mathlib.Core.List.{List, _++_, map}
 use mathlib.Core.Path.{_≡_, sym, ap, subst, _∙_}
 use native.Mathlib.Omega.{arith}
-use Prim.Native.Nat.{ℕ, _+_, _-_, max}
+use Prim.Native.Nat.{ℕ, _+_, _-_, _*_, max}
 use borrow.Author.Needs.{needs}
 use Rattle.whole_walk.proofs.open_node.Statement.{statement}
 use Rattle.whole_walk.proofs.open_node.Tie as tie
@@ -38,7 +38,7 @@ use Rattle.whole_walk.proofs.open_node.Tie as tie
 -- are marked
 
 abbrev entry : tie.After-look-at → tie.Start
-entry o = o .before .before .before .before .before .before .before .before .before
+entry o = o .before .before .before .before .before .before .before .before .before .before .before .before
 
 abbrev leaf-looked : tie.After-shown → tie.After-look-at
 leaf-looked l = l .before .before
@@ -56,14 +56,16 @@ inner m = m .before .before .before
 
 -- what the search is about
 abbrev wants : tie.Start → Sought
-wants e = sought (e .args .wanted) (e .args .first .now) (e .args .second .now)
+wants e = sought (e .args .wanted) (e .args .first .now ++ e .args .second .now) (e .args .other-first .now ++ e .args .other-second .now)
 
 -- what the node shows
 abbrev Shows : tie.Start → Look → Type 0
 Shows e r = LooksFor (e .args .shape) (e .args .counts) (e .args .numbers .now) (e .args .hashes .now) (wants e) (e .args .i) r
 
 shows : (o : tie.After-look-at) (r : Look) → o .look-at .result ≡ r → Shows (entry o) r
-shows o r is = subst (Shows (entry o)) is (o .look-at .ensures (entry o .args .first .now) (entry o .args .second .now))
+shows o r is =
+    let a = entry o .args in
+    subst (Shows (entry o)) is (o .look-at .ensures (a .first .now ++ a .second .now) (a .other-first .now ++ a .other-second .now))
 
 -- a query, vectors and keys that were not lent
 abbrev hit : tie.Start → List Float → List Float → ℕ → ℕ
@@ -95,50 +97,66 @@ list-is l floats query =
     shows (leaf-looked l) (look.Leaf (l .shown .given .0 .0)) (l .shown .given .1) .1 floats query (e .args .text .now)
     ∙ list-shown (e .args .shape) (e .args .counts) floats (e .args .numbers .now) (e .args .hashes .now) (e .args .text .now) query (wants e) (list l)
 
--- the hits' part, as it is lent and as it came back
-abbrev foundStart : tie.After-look-at → ℕ
-foundStart o = o .before .before .found-at .result
+-- the hits' part, and in it the vectors found, as it is lent and as it came back
+abbrev hitsStart : tie.After-look-at → ℕ
+hitsStart o = o .before .before .before .hits-at .result
 
-abbrev foundEnd : tie.After-look-at → ℕ
-foundEnd o = o .before .work-size .result
+abbrev hitsEnd : tie.After-look-at → ℕ
+hitsEnd o = o .before .before .work-size .result
 
-abbrev lentFound : tie.After-look-at → List ℕ
-lentFound o = take (foundEnd o - foundStart o) (drop (foundStart o) (entry o .args .work .now))
+abbrev foundFrom : tie.After-look-at → ℕ
+foundFrom o = o .before .found-at .result - hitsStart o
 
-lent-found : (o : tie.After-look-at) → lentFound o ≡ foundPart (entry o .args .shape) (entry o .args .work .now)
+found-from : (o : tie.After-look-at) → foundFrom o ≡ foundIn (entry o .args .shape)
+found-from o = omega (arith, o .before .found-at .ensures, o .before .before .before .hits-at .ensures)
+
+abbrev lentHits : tie.After-look-at → List ℕ
+lentHits o = take (hitsEnd o - hitsStart o) (drop (hitsStart o) (entry o .args .work .now))
+
+lent-hits : (o : tie.After-look-at) → lentHits o ≡ hitsPart (entry o .args .shape) (entry o .args .work .now)
+lent-hits o =
+    let e = entry o in
+    hits-lent (e .args .shape) (e .args .work .now) (hitsStart o) (hitsEnd o) (e .pre .within .limits) (o .before .before .before .hits-at .ensures) (o .before .before .work-size .ensures)
+
+lent-found : (o : tie.After-look-at) → drop (foundFrom o) (lentHits o) ≡ foundPart (entry o .args .shape) (entry o .args .work .now)
 lent-found o =
     let e = entry o in
-    found-lent (e .args .shape) (e .args .work .now) (foundStart o) (foundEnd o) (e .pre .within .limits) (o .before .before .found-at .ensures) (o .before .work-size .ensures)
+    found-lent (e .args .shape) (e .args .work .now) (hitsStart o) (hitsEnd o) (e .pre .within .limits) (o .before .before .before .hits-at .ensures) (o .before .before .work-size .ensures) (foundFrom o) (found-from o)
 
 abbrev back : tie.After-add-hits → List ℕ
 back h = h .add-hits .last .1 .1 .1 .1 .1 .0
 
-back-length : (h : tie.After-add-hits) → length (back h) ≡ max (entry (leaf-looked (leaf h)) .args .shape .vectors) (entry (leaf-looked (leaf h)) .args .shape .entries) + 1
+back-length : (h : tie.After-add-hits) → length (back h) ≡ 3 * max (entry (leaf-looked (leaf h)) .args .shape .vectors) (entry (leaf-looked (leaf h)) .args .shape .entries)
 back-length h =
     let o = leaf-looked (leaf h) in
     let e = entry o in
-    h .add-hits .kept .1 .1 .1 .1 .1 .0 ∙ ap length (lent-found o) ∙ length-found (e .args .shape) (e .args .work .now) (e .pre .within .limits) (e .pre .work-size)
+    h .add-hits .kept .1 .1 .1 .1 .1 .0 ∙ ap length (lent-hits o) ∙ length-hits (e .args .shape) (e .args .work .now) (e .pre .work-size)
 
 abbrev after : tie.After-add-hits → List ℕ
 after h =
     let o = leaf-looked (leaf h) in
-    take (foundStart o) (entry o .args .work .now) ++ (back h ++ drop (foundEnd o - foundStart o) (drop (foundStart o) (entry o .args .work .now)))
+    take (hitsStart o) (entry o .args .work .now) ++ (back h ++ drop (hitsEnd o - hitsStart o) (drop (hitsStart o) (entry o .args .work .now)))
 
-after-is : (h : tie.After-add-hits) → after h ≡ sets (entry (leaf-looked (leaf h)) .args .work .now) (foundAt (entry (leaf-looked (leaf h)) .args .shape)) (back h)
+after-is : (h : tie.After-add-hits) → after h ≡ sets (entry (leaf-looked (leaf h)) .args .work .now) (hitsAt (entry (leaf-looked (leaf h)) .args .shape)) (back h)
 after-is h =
     let o = leaf-looked (leaf h) in
     let e = entry o in
-    found-back (e .args .shape) (e .args .work .now) (foundStart o) (foundEnd o) (e .pre .within .limits) (o .before .before .found-at .ensures) (o .before .work-size .ensures) (back h) (e .pre .work-size) (back-length h)
+    hits-back (e .args .shape) (e .args .work .now) (hitsStart o) (hitsEnd o) (e .pre .within .limits) (o .before .before .before .hits-at .ensures) (o .before .before .work-size .ensures) (back h) (e .pre .work-size) (back-length h)
 
 -- what the leaf gave
+abbrev Gave : tie.After-add-hits → ℕ → List ℕ → List ℕ → Type 0
+Gave h n heap heap′ = Gathers (passed (leaf h)) (vectors (leaf h)) n (entry (leaf-looked (leaf h)) .args .hits) heap (h .add-hits .result) heap′
+
 gathers : (h : tie.After-add-hits) (floats query : List Float)
-    → Gathers (passed (leaf h)) (vectors (leaf h)) (view (entry (leaf-looked (leaf h))) floats query .most) (entry (leaf-looked (leaf h)) .args .hits)
-    (foundPart (entry (leaf-looked (leaf h)) .args .shape) (entry (leaf-looked (leaf h)) .args .work .now)) (h .add-hits .result) (back h)
+    → Gave h (view (entry (leaf-looked (leaf h))) floats query .most) (foundPart (entry (leaf-looked (leaf h)) .args .shape) (entry (leaf-looked (leaf h)) .args .work .now))
+    (drop (foundIn (entry (leaf-looked (leaf h)) .args .shape)) (back h))
 gathers h floats query =
     let o = leaf-looked (leaf h) in
     let e = entry o in
-    subst (λ (n : ℕ). Gathers (passed (leaf h)) (vectors (leaf h)) n (e .args .hits) (foundPart (e .args .shape) (e .args .work .now)) (h .add-hits .result) (back h)) (sym (most-is (e .args .shape) (e .args .counts) (store e floats) query (wants e)))
-    (subst (λ (heap : List ℕ). Gathers (passed (leaf h)) (vectors (leaf h)) (most (wants e) (e .args .counts)) (e .args .hits) heap (h .add-hits .result) (back h)) (lent-found o) (h .add-hits .ensures))
+    let found : List ℕ = foundPart (e .args .shape) (e .args .work .now) in
+    subst (λ (n : ℕ). Gave h (view e floats query .most) found (drop n (back h))) (found-from o)
+    (subst (λ (n : ℕ). Gave h n found (drop (foundFrom o) (back h))) (sym (most-is (e .args .shape) (e .args .counts) (store e floats) query (wants e)))
+    (subst (λ (heap : List ℕ). Gave h (most (wants e) (e .args .counts)) heap (drop (foundFrom o) (back h))) (lent-found o) (h .add-hits .ensures)))
 
 -- an inner node's children
 abbrev children : tie.After-shown2 → List ℕ
@@ -146,11 +164,17 @@ children i = part (i .shown2 .given .0 .0 .start) (i .shown2 .given .0 .0 .count
 
 -- ---- the needs
 
-found-at-requires : tie.Need-found-at-requires
-found-at-requires c κs = search needs
+hits-at-requires : tie.Need-hits-at-requires
+hits-at-requires c κs = search needs
 
 work-size-requires : tie.Need-work-size-requires
 work-size-requires c κs = search needs
+
+found-at-requires : tie.Need-found-at-requires
+found-at-requires c κs = search needs
+
+sub-from : tie.Need-sub-from
+sub-from c = search needs
 
 look-at-requires : tie.Need-look-at-requires
 look-at-requires c κs = search needs
@@ -180,17 +204,20 @@ add-hits-requires c κs =
     let e = entry o in
     let block = l .shown .given .0 .0 in
     record {
-      within = e .pre .within;
-      numbers-size = e .pre .numbers-size;
-      hashes-size = e .pre .hashes-size;
-      text-size = e .pre .text-size;
-      hits =
-          subst (λ (found : List ℕ). AddHits (e .args .numbers .now) found (e .args .hits) (most (wants e) (e .args .counts)) (block .start) (block .count)) (sym (lent-found o))
-          (record {
-            block = shows o (look.Leaf block) (l .shown .given .1) .0;
-            few = e .pre .few;
-            room = omega (arith, few-hits (e .args .shape) (e .args .counts) (wants e) (e .pre .within .vectors) (e .pre .within .entries), length-found (e .args .shape) (e .args .work .now) (e .pre .within .limits) (e .pre .work-size));
-          });
+      lent = record {
+        within = e .pre .within;
+        numbers-size = e .pre .numbers-size;
+        hashes-size = e .pre .hashes-size;
+        text-size = e .pre .text-size;
+        hits =
+            subst (λ (found : List ℕ). AddHits (e .args .numbers .now) found (e .args .hits) (most (wants e) (e .args .counts)) (block .start) (block .count)) (sym (lent-found o))
+            (record {
+              block = shows o (look.Leaf block) (l .shown .given .1) .0;
+              few = e .pre .few;
+              room = omega (arith, few-hits (e .args .shape) (e .args .counts) (wants e) (e .pre .within .vectors) (e .pre .within .entries), length-found (e .args .shape) (e .args .work .now) (e .pre .within .limits) (e .pre .work-size));
+            });
+      };
+      marks = marks-room (e .args .shape) (e .args .counts) (foundFrom o) (e .pre .within .limits) (e .pre .within .vectors) (found-from o);
     }
 
 enum-known-shown-2 : tie.Need-enum-known-shown-2
@@ -224,7 +251,7 @@ returns-2 c =
     subst (OpensNode (e .args .shape) (e .args .counts) (e .args .numbers .now) (e .args .hashes .now) (e .args .text .now) (e .args .hits) (wants e) (e .args .i) (e .args .work .now) (h .add-hits .result)) (sym (after-is h))
     (record {
       gives = λ floats query key p n.
-          subst (λ (sh : Shown). NotesState (e .args .shape) (e .args .counts) (hit e floats query) (give (keyed key (view e floats query)) sh p) (h .add-hits .result) (sets (e .args .work .now) (foundAt (e .args .shape)) (back h)))
+          subst (λ (sh : Shown). NotesState (e .args .shape) (e .args .counts) (hit e floats query) (give (keyed key (view e floats query)) sh p) (h .add-hits .result) (sets (e .args .work .now) (hitsAt (e .args .shape)) (back h)))
           (sym (list-is l floats query))
           (leaf-gives (e .args .shape) (e .args .counts) (hit e floats query) (keyed key (view e floats query)) p (e .args .work .now) (back h) (e .args .hits) (passed l) (vectors l) (h .add-hits .result)
           (e .pre .within) (vectors-held (wants e) (e .args .counts) (read-entries e) (endIn (e .args .shape) (e .args .numbers .now)) (list l)) (back-length h) (gathers h floats query) n);
@@ -253,8 +280,10 @@ pub open-node-spec : {M : Type 1} → statement M
 open-node-spec =
     tie.close
     (tie.spec
-    found-at-requires
+    hits-at-requires
     work-size-requires
+    found-at-requires
+    sub-from
     look-at-requires
     enum-told
     enum-known-shown

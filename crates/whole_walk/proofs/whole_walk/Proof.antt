@@ -17,7 +17,7 @@ use Rattle.store.specs.Store.{Store, marksAt, workSize}
 use lib.Arith.{lt-of-le-ne}
 use lib.Ieee.{Float}
 use lib.ListN.{length, getD}
-use mathlib.Core.List.{List, []}
+use mathlib.Core.List.{List, [], _++_}
 use mathlib.Core.Path.{_≡_, ap, subst}
 use native.Mathlib.Omega.{arith}
 use Prim.Native.Nat.{ℕ, _+_, _-_, _^_, _≤_, _<_}
@@ -26,14 +26,14 @@ use Rattle.whole_walk.proofs.whole_walk.Statement.{statement}
 use Rattle.whole_walk.proofs.whole_walk.Tie as tie
 
 abbrev Inv-walk : tie.InvT-walk
-Inv-walk shape counts numbers hashes text work₀ wanted first second nodes marks-at i₀ opened₀ hits₀ work i opened hits =
+Inv-walk shape counts numbers hashes text work₀ wanted first second other-first other-second nodes marks-at i₀ opened₀ hits₀ work i opened hits =
     (i ≤ nodes)
     × (opened ≤ i)
     × Works shape work₀ work
-    × ((floats query : List Float) → Passes shape counts (hitAt shape floats numbers query) (storeView shape counts (storeOf floats numbers hashes text) query (sought wanted first second)) work i hits opened)
+    × ((floats query : List Float) → Passes shape counts (hitAt shape floats numbers query) (storeView shape counts (storeOf floats numbers hashes text) query (sought wanted (first ++ second) (other-first ++ other-second))) work i hits opened)
 
 abbrev μ-walk : tie.MeasureT-walk
-μ-walk shape counts numbers hashes text work₀ wanted first second nodes marks-at i₀ opened₀ hits₀ work i opened hits = nodes - i
+μ-walk shape counts numbers hashes text work₀ wanted first second other-first other-second nodes marks-at i₀ opened₀ hits₀ work i opened hits = nodes - i
 
 -- ---- the places, each with the way back to the one before: entry, the root is marked, a turn of the loop
 
@@ -44,7 +44,7 @@ abbrev Marked : Type 0
 Marked = tie.After-mark-root Inv-walk μ-walk
 
 abbrev entry : Marked → Entry
-entry m = m .before .before .before .before .before .before .before .before .before
+entry m = m .before .before .before .before .before .before .before .before .before .before .before
 
 abbrev Turn : Type 0
 Turn = tie.At-walk Inv-walk μ-walk
@@ -56,7 +56,7 @@ marked t = t .before .before .before
 
 -- what the search is about
 abbrev wants : Entry → Sought
-wants e = sought (e .args .wanted) (e .args .first .now) (e .args .second .now)
+wants e = sought (e .args .wanted) (e .args .first .now ++ e .args .second .now) (e .args .other-first .now ++ e .args .other-second .now)
 
 -- a query and vectors that were not lent
 abbrev hit : Entry → List Float → List Float → ℕ → ℕ

@@ -1,8 +1,8 @@
 -- `best_first_walk` at a leaf: the list that it shows, the hits' part of the work list as it is lent and comes back, and what was added. Assumes nothing.
-use Rattle.best_first_walk.specs.Walks.{foundAt, foundPart}
-use Rattle.best_first_walk.specs.MarkLaws.{works-found, found-lent, found-back}
+use Rattle.best_first_walk.specs.Walks.{hitsPart, foundIn, foundPart}
+use Rattle.best_first_walk.specs.MarkLaws.{works-found, hits-lent, found-lent, hits-back}
 use Rattle.best_first_walk.specs.GatherLaws.{most-is, vectors-held}
-use Rattle.best_first_walk.specs.WalksLaws.{length-found}
+use Rattle.best_first_walk.specs.WalksLaws.{length-hits}
 use Rattle.leaf_hits.specs.Contracts.{Gathers}
 use Rattle.walk.specs.Wanted.{EntryRead, passes, given, most}
 use Rattle.leaf_hits.specs.LeafLaws.{list-shown}
@@ -13,7 +13,7 @@ use Rattle.walk.specs.Contracts.{Works}
 use Rattle.walk.specs.StoreView.{entriesIn, endIn}
 use Rattle.lists.specs.Tests.{allPass}
 use Rattle.walk.specs.Walk.{hits, damage, shown}
-use Rattle.store.specs.Store.{workSize}
+use Rattle.store.specs.Store.{hitsAt, workSize}
 use Rattle.lists.specs.Lists.{part}
 use lib.Dec.{ltb}
 use lib.ListN.{length, take, drop}
@@ -21,8 +21,8 @@ use lib.Seq.{sets}
 use mathlib.Core.Bool.{Bool, true, cond}
 use mathlib.Core.List.{List, _++_, map}
 use mathlib.Core.Path.{_≡_, sym, ap, subst, _∙_}
-use Prim.Native.Nat.{ℕ, _+_, _-_, _≤_, max}
-use Rattle.best_first_walk.proofs.best_first_walk.Proof.Places.{Entry, entry, begun, Least, turn, least, Leaf, leaf-opened, Hits, from, hit, store, wants, view, lends, foundStart, foundEnd, found-start, found-end, node, work, opened, opened-works, shows}
+use Prim.Native.Nat.{ℕ, _+_, _-_, _*_, _≤_, max}
+use Rattle.best_first_walk.proofs.best_first_walk.Proof.Places.{Entry, entry, begun, Least, turn, least, Leaf, leaf-opened, Hits, from, hit, store, wants, view, lends, hitsStart, hitsEnd, foundFrom, hits-start, hits-end, found-from, node, work, opened, opened-works, shows}
 
 abbrev pub at-leaf : Leaf → Entry
 at-leaf l = entry (begun (turn (least (leaf-opened l))))
@@ -57,13 +57,19 @@ list-is l =
     ∙ list-shown (e .args .shape) (e .args .counts) (e .args .floats .now) (e .args .numbers .now) (e .args .hashes .now) (e .args .text .now) (e .args .query .now) (wants e) (list l)
 
 -- the hits' part, as it is lent
-abbrev pub lentFound : Least → List ℕ
-lentFound p = let b = begun (turn p) in take (foundEnd b - foundStart b) (drop (foundStart b) (work p))
+abbrev pub lentHits : Least → List ℕ
+lentHits p = let b = begun (turn p) in take (hitsEnd b - hitsStart b) (drop (hitsStart b) (work p))
 
-pub lent-found : (p : Least) → lentFound p ≡ foundPart (entry (begun (turn p)) .args .shape) (work p)
+pub lent-hits : (p : Least) → lentHits p ≡ hitsPart (entry (begun (turn p)) .args .shape) (work p)
+lent-hits p =
+    let b = begun (turn p) in
+    hits-lent (entry b .args .shape) (work p) (hitsStart b) (hitsEnd b) (lends (entry b) .within .limits) (hits-start b) (hits-end b)
+
+-- and the vectors found in it
+pub lent-found : (p : Least) → drop (foundFrom (begun (turn p))) (lentHits p) ≡ foundPart (entry (begun (turn p)) .args .shape) (work p)
 lent-found p =
     let b = begun (turn p) in
-    found-lent (entry b .args .shape) (work p) (foundStart b) (foundEnd b) (lends (entry b) .within .limits) (found-start b) (found-end b)
+    found-lent (entry b .args .shape) (work p) (hitsStart b) (hitsEnd b) (lends (entry b) .within .limits) (hits-start b) (hits-end b) (foundFrom b) (found-from b)
 
 pub work-room : (p : Least) → workSize (entry (begun (turn p)) .args .shape) ≤ length (work p)
 work-room p = opened p .1 .holds .size
@@ -78,20 +84,19 @@ at-hits h = least (leaf-opened (from h))
 abbrev pub after : Hits → List ℕ
 after h = let p = at-hits h in
     let b = begun (turn p) in
-    take (foundStart b) (work p)
-    ++ (back h ++ drop (foundEnd b - foundStart b) (drop (foundStart b) (work p)))
+    take (hitsStart b) (work p)
+    ++ (back h ++ drop (hitsEnd b - hitsStart b) (drop (hitsStart b) (work p)))
 
-pub back-length : (h : Hits) → length (back h) ≡ max (at-leaf (from h) .args .shape .vectors) (at-leaf (from h) .args .shape .entries) + 1
+pub back-length : (h : Hits) → length (back h) ≡ 3 * max (at-leaf (from h) .args .shape .vectors) (at-leaf (from h) .args .shape .entries)
 back-length h =
     let p = at-hits h in
-    let s = at-leaf (from h) .args .shape in
-    h .add-hits .kept .1 .1 .1 .1 .1 .0 ∙ ap length (lent-found p) ∙ length-found s (work p) (lends (at-leaf (from h)) .within .limits) (work-room p)
+    h .add-hits .kept .1 .1 .1 .1 .1 .0 ∙ ap length (lent-hits p) ∙ length-hits (at-leaf (from h) .args .shape) (work p) (work-room p)
 
-pub after-is : (h : Hits) → after h ≡ sets (work (at-hits h)) (foundAt (at-leaf (from h) .args .shape)) (back h)
+pub after-is : (h : Hits) → after h ≡ sets (work (at-hits h)) (hitsAt (at-leaf (from h) .args .shape)) (back h)
 after-is h =
     let p = at-hits h in
     let b = begun (turn p) in
-    found-back (entry b .args .shape) (work p) (foundStart b) (foundEnd b) (lends (entry b) .within .limits) (found-start b) (found-end b) (back h) (work-room p) (back-length h)
+    hits-back (entry b .args .shape) (work p) (hitsStart b) (hitsEnd b) (lends (entry b) .within .limits) (hits-start b) (hits-end b) (back h) (work-room p) (back-length h)
 
 pub after-works : (h : Hits) → Works (at-leaf (from h) .args .shape) (at-leaf (from h) .args .work .now) (after h)
 after-works h =
@@ -101,13 +106,16 @@ after-works h =
     (subst (Works (e .args .shape) (work p)) (sym (after-is h)) (works-found (e .args .shape) (e .args .counts) (hit e) (work p) (back h) (lends e .within .limits) (work-room p) (back-length h)))
 
 -- what the leaf gave
-abbrev pub Gave : Hits → ℕ → List ℕ → Added → Type 0
-Gave h n heap r = let e = at-leaf (from h) in Gathers (passed e (list (from h))) (vectors e (list (from h))) n (turn (at-hits h) .walk .hits) heap r (back h)
+abbrev pub Gave : Hits → ℕ → List ℕ → Added → List ℕ → Type 0
+Gave h n heap r heap′ = let e = at-leaf (from h) in Gathers (passed e (list (from h))) (vectors e (list (from h))) n (turn (at-hits h) .walk .hits) heap r heap′
 
-pub gave : (h : Hits) (r : Added) → h .add-hits .result ≡ r → Gave h (view (at-leaf (from h)) .most) (foundPart (at-leaf (from h) .args .shape) (work (at-hits h))) r
+pub gave : (h : Hits) (r : Added) → h .add-hits .result ≡ r
+    → Gave h (view (at-leaf (from h)) .most) (foundPart (at-leaf (from h) .args .shape) (work (at-hits h))) r (drop (foundIn (at-leaf (from h) .args .shape)) (back h))
 gave h r is =
     let e = at-leaf (from h) in
     let p = at-hits h in
-    subst (λ (heap : List ℕ). Gave h (view e .most) heap r) (lent-found p)
-    (subst (λ (n : ℕ). Gave h n (lentFound p) r) (sym (few-found e))
-    (subst (Gave h (most (wants e) (e .args .counts)) (lentFound p)) is (h .add-hits .ensures)))
+    let b = begun (turn p) in
+    subst (λ (n : ℕ). Gave h (view e .most) (foundPart (e .args .shape) (work p)) r (drop n (back h))) (found-from b)
+    (subst (λ (heap : List ℕ). Gave h (view e .most) heap r (drop (foundFrom b) (back h))) (lent-found p)
+    (subst (λ (n : ℕ). Gave h n (drop (foundFrom b) (lentHits p)) r (drop (foundFrom b) (back h))) (sym (few-found e))
+    (subst (λ (x : Added). Gave h (most (wants e) (e .args .counts)) (drop (foundFrom b) (lentHits p)) x (drop (foundFrom b) (back h))) is (h .add-hits .ensures))))

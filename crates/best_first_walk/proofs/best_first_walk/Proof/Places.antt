@@ -1,7 +1,7 @@
 -- `best_first_walk`: what its loops keep, the places of its code, and what is known at each. Assumes nothing.
 use Rattle.best_first_walk.proofs.Walking.{Waits, Opens, few-wait, opens, opens-below}
 use Rattle.best_first_walk.proofs.Marking.{Marks}
-use Rattle.best_first_walk.specs.Walks.{foundAt}
+use Rattle.best_first_walk.specs.Walks.{foundIn}
 use Rattle.store.specs.Lent.{storeOf}
 use Rattle.walk.specs.declared.look.Look.{Look}
 use Rattle.walk.specs.LentLaws.{works-trans}
@@ -11,29 +11,30 @@ use Rattle.walk.specs.StoreView.{hitAt, storeView}
 use Rattle.walk.specs.StoreViewLaws.{store-children-below}
 use Rattle.walk.specs.Walk.{View}
 use Rattle.walk.specs.DifferentLaws.{ChildrenBelow}
-use Rattle.store.specs.Store.{Store, marksAt, workSize}
+use Rattle.store.specs.Store.{Store, marksAt, hitsAt, workSize}
 use Rattle.lists.specs.Lists.{part}
 use lib.ListN.{length}
-use mathlib.Core.List.{List}
+use mathlib.Core.List.{List, _++_}
 use mathlib.Core.Path.{_≡_, subst}
+use native.Mathlib.Omega.{arith}
 use Prim.Native.Nat.{ℕ, _+_, _-_, _≤_, _<_}
 use Rattle.best_first_walk.proofs.best_first_walk.Tie as tie
 
 abbrev pub Inv-loop : tie.InvT-loop
-Inv-loop shape counts ef-search floats numbers hashes text work₀ query wanted first second nodes marks-at found-at found-end waiting opened found node start count j₀ work j =
+Inv-loop shape counts ef-search floats numbers hashes text work₀ query wanted first second other-first other-second nodes marks-at hits-at hits-end from waiting opened found node start count j₀ work j =
     (j ≤ count)
     × (start + count ≤ length numbers)
-    × Marks shape counts (hitAt shape floats numbers query) (storeView shape counts (storeOf floats numbers hashes text) query (sought wanted first second)) ef-search work₀ node (part start count numbers) j work waiting found opened
+    × Marks shape counts (hitAt shape floats numbers query) (storeView shape counts (storeOf floats numbers hashes text) query (sought wanted (first ++ second) (other-first ++ other-second))) ef-search work₀ node (part start count numbers) j work waiting found opened
 
 abbrev pub μ-loop : tie.MeasureT-loop
-μ-loop shape counts ef-search floats numbers hashes text work₀ query wanted first second nodes marks-at found-at found-end waiting opened found node start count j₀ work j = count - j
+μ-loop shape counts ef-search floats numbers hashes text work₀ query wanted first second other-first other-second nodes marks-at hits-at hits-end from waiting opened found node start count j₀ work j = count - j
 
 abbrev pub Inv-walk : tie.InvT-walk
-Inv-walk shape counts ef-search floats numbers hashes text work₀ query wanted first second nodes marks-at found-at found-end waiting₀ opened₀ found₀ work waiting opened found =
-    Waits shape counts (hitAt shape floats numbers query) (storeView shape counts (storeOf floats numbers hashes text) query (sought wanted first second)) ef-search work₀ work waiting found opened
+Inv-walk shape counts ef-search floats numbers hashes text work₀ query wanted first second other-first other-second nodes marks-at hits-at hits-end from waiting₀ opened₀ found₀ work waiting opened found =
+    Waits shape counts (hitAt shape floats numbers query) (storeView shape counts (storeOf floats numbers hashes text) query (sought wanted (first ++ second) (other-first ++ other-second))) ef-search work₀ work waiting found opened
 
 abbrev pub μ-walk : tie.MeasureT-walk
-μ-walk shape counts ef-search floats numbers hashes text work₀ query wanted first second nodes marks-at found-at found-end waiting₀ opened₀ found₀ work waiting opened found = ef-search - opened
+μ-walk shape counts ef-search floats numbers hashes text work₀ query wanted first second other-first other-second nodes marks-at hits-at hits-end from waiting₀ opened₀ found₀ work waiting opened found = ef-search - opened
 
 -- ---- the places, each with the way back to the one before
 
@@ -42,7 +43,7 @@ Entry = tie.Start Inv-loop μ-loop Inv-walk μ-walk
 
 -- the parts of the work list are known
 abbrev pub Sizes : Type 0
-Sizes = tie.After-work-size Inv-loop μ-loop Inv-walk μ-walk
+Sizes = tie.After-found-at Inv-loop μ-loop Inv-walk μ-walk
 
 -- the root is pushed
 abbrev pub Begun : Type 0
@@ -52,7 +53,7 @@ abbrev pub sizes : Begun → Sizes
 sizes b = b .before .before
 
 abbrev pub entry : Begun → Entry
-entry b = sizes b .before .before .before .before .before .before .before .before .before .before .before
+entry b = sizes b .before .before .before .before .before .before .before .before .before .before .before .before .before .before
 
 -- a turn of the walk's loop
 abbrev pub Turn : Type 0
@@ -148,7 +149,7 @@ abbrev pub store : Entry → Store
 store e = storeOf (e .args .floats .now) (e .args .numbers .now) (e .args .hashes .now) (e .args .text .now)
 
 abbrev pub wants : Entry → Sought
-wants e = sought (e .args .wanted) (e .args .first .now) (e .args .second .now)
+wants e = sought (e .args .wanted) (e .args .first .now ++ e .args .second .now) (e .args .other-first .now ++ e .args .other-second .now)
 
 abbrev pub view : Entry → View
 view e = storeView (e .args .shape) (e .args .counts) (store e) (e .args .query .now) (wants e)
@@ -167,20 +168,27 @@ pub first-works : (b : Begun) → Works (entry b .args .shape) (entry b .args .w
 first-works b = let e = entry b in b .begin .ensures (hit e) (e .args .numbers .now) (e .args .hashes .now) (e .args .text .now) (wants e) .works
 
 -- the parts of the work list: where the marks stand, and the hits' part
-pub marks : (b : Begun) → sizes b .before .before .marks-at .result ≡ marksAt (entry b .args .shape)
-marks b = sizes b .before .before .marks-at .ensures
+pub marks : (b : Begun) → sizes b .before .before .before .marks-at .result ≡ marksAt (entry b .args .shape)
+marks b = sizes b .before .before .before .marks-at .ensures
 
-abbrev pub foundStart : Begun → ℕ
-foundStart b = sizes b .before .found-at .result
+abbrev pub hitsStart : Begun → ℕ
+hitsStart b = sizes b .before .before .hits-at .result
 
-abbrev pub foundEnd : Begun → ℕ
-foundEnd b = sizes b .work-size .result
+abbrev pub hitsEnd : Begun → ℕ
+hitsEnd b = sizes b .before .work-size .result
 
-pub found-start : (b : Begun) → foundStart b ≡ foundAt (entry b .args .shape)
-found-start b = sizes b .before .found-at .ensures
+pub hits-start : (b : Begun) → hitsStart b ≡ hitsAt (entry b .args .shape)
+hits-start b = sizes b .before .before .hits-at .ensures
 
-pub found-end : (b : Begun) → foundEnd b ≡ workSize (entry b .args .shape)
-found-end b = sizes b .work-size .ensures
+pub hits-end : (b : Begun) → hitsEnd b ≡ workSize (entry b .args .shape)
+hits-end b = sizes b .before .work-size .ensures
+
+-- and where in it the vectors found begin
+abbrev pub foundFrom : Begun → ℕ
+foundFrom b = sizes b .found-at .result - hitsStart b
+
+pub found-from : (b : Begun) → foundFrom b ≡ foundIn (entry b .args .shape)
+found-from b = omega (arith, sizes b .found-at .ensures, hits-start b)
 
 pub few : (t : Turn) → t .walk .waiting ≤ entry (begun t) .args .shape .nodes
 few t =
@@ -221,4 +229,4 @@ abbrev pub Shows : Opened → Look → Type 0
 Shows o r = let e = entry (begun (turn (least o))) in LooksFor (e .args .shape) (e .args .counts) (e .args .numbers .now) (e .args .hashes .now) (wants e) (node (least o)) r
 
 pub shows : (o : Opened) (r : Look) → o .look-at .result ≡ r → Shows o r
-shows o r is = let e = entry (begun (turn (least o))) in subst (Shows o) is (o .look-at .ensures (e .args .first .now) (e .args .second .now))
+shows o r is = let e = entry (begun (turn (least o))) in subst (Shows o) is (o .look-at .ensures (e .args .first .now ++ e .args .second .now) (e .args .other-first .now ++ e .args .other-second .now))

@@ -1,6 +1,6 @@
 -- The places of `gather_four`, and what is known at each: four numbers are read and tested, their owners are read and tested, and each number is written. Assumes
 -- nothing.
-use Rattle.leaf_hits.proofs.LeafLists.{gathered-none, gathered-one, gathered-append, entry-held}
+use Rattle.leaf_hits.specs.Gathering.{gathered-none, gathered-one, gathered-append, entry-held}
 use Rattle.leaf_hits.proofs.Entries.{four-read, all-below}
 use Rattle.leaf_hits.specs.Contracts.{GatheredBy}
 use Rattle.lists.specs.Lists.{part}

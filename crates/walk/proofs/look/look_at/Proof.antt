@@ -26,25 +26,25 @@ leaf l = l .before .before .before
 abbrev inner : tie.After-block-at → tie.After-nodes-at
 inner b = b .before .before .before .before
 
-passed : (n : tie.After-nodes-at) (first second : List ℕ) → denies (sought (entry n .args .wanted) first second) (part (filtersAt (entry n .args .shape) + entry n .args .i * 4) 4 (entry n .args .hashes .now)) ≡ false
-passed n first second = sym (n .before .before .denied .ensures first second) ∙ n .before .if1 .left
+passed : (n : tie.After-nodes-at) (name other : List ℕ) → denies (sought (entry n .args .wanted) name other) (part (filtersAt (entry n .args .shape) + entry n .args .i * 4) 4 (entry n .args .hashes .now)) ≡ false
+passed n name other = sym (n .before .before .denied .ensures name other) ∙ n .before .if1 .left
 
 abbrev Shows : tie.Start → Look → Type 0
 Shows e r = Looks (e .args .shape) (e .args .counts) (e .args .numbers .now) (e .args .hashes .now) (e .args .wanted) (e .args .i) r
 
 leaf-shows : (l : tie.After-leaf-list) (r : Placed) → l .leaf-list .result ≡ r → Shows (entry (leaf l)) (leafLook r)
-leaf-shows l r is first second =
+leaf-shows l r is name other =
     let n = leaf l in
     let a = entry n .args in
-    looks-leaf (a .shape) (a .counts) (a .numbers .now) (a .hashes .now) (sought (a .wanted) first second) (a .i) (passed n first second)
+    looks-leaf (a .shape) (a .counts) (a .numbers .now) (a .hashes .now) (sought (a .wanted) name other) (a .i) (passed n name other)
     (subst (λ (at : ℕ). getD (a .numbers .now) (at + a .i * 6 + 1) 0 ≡ 0) (n .nodes-at .ensures) (l .before .if2 .taken)) r
-    (subst₂ (λ (at : ℕ) (r : Placed). LeafPlacing (a .shape) (a .counts) (a .numbers .now) (sought (a .wanted) first second) (at + a .i * 6) r) (n .nodes-at .ensures) is (l .leaf-list .ensures first second))
+    (subst₂ (λ (at : ℕ) (r : Placed). LeafPlacing (a .shape) (a .counts) (a .numbers .now) (sought (a .wanted) name other) (at + a .i * 6) r) (n .nodes-at .ensures) is (l .leaf-list .ensures name other))
 
 inner-shows : (b : tie.After-block-at) (r : Placed) → b .block-at .result ≡ r → Shows (entry (inner b)) (innerLook r)
-inner-shows b r is first second =
+inner-shows b r is name other =
     let n = inner b in
     let a = entry n .args in
-    looks-inner (a .shape) (a .counts) (a .numbers .now) (a .hashes .now) (sought (a .wanted) first second) (a .i) (passed n first second)
+    looks-inner (a .shape) (a .counts) (a .numbers .now) (a .hashes .now) (sought (a .wanted) name other) (a .i) (passed n name other)
     (subst (λ (at : ℕ). getD (a .numbers .now) (at + a .i * 6 + 1) 0 ≡ 0 → ⊥) (n .nodes-at .ensures) (b .before .before .if2 .left)) r
     (subst (λ (r : Placed). Placing (a .numbers .now) (nodesAt (a .shape) + a .i * 6) (linksAt (a .shape)) (a .counts .nodes) r) is
     (subst₂ (λ (at base : ℕ). Placing (a .numbers .now) (at + a .i * 6) base (a .counts .nodes) (b .block-at .result)) (n .nodes-at .ensures) (b .before .links-at .ensures) (b .block-at .ensures)))
@@ -56,8 +56,8 @@ returns : tie.Need-returns
 returns c =
     let d = c .before in
     let a = d .before .before .before .args in
-    λ first second. looks-denied (a .shape) (a .counts) (a .numbers .now) (a .hashes .now) (sought (a .wanted) first second) (a .i)
-    (sym (d .denied .ensures first second) ∙ c .if1 .taken)
+    λ name other. looks-denied (a .shape) (a .counts) (a .numbers .now) (a .hashes .now) (sought (a .wanted) name other) (a .i)
+    (sym (d .denied .ensures name other) ∙ c .if1 .taken)
 
 nodes-at-requires : tie.Need-nodes-at-requires
 nodes-at-requires c κs = search needs
