@@ -33,7 +33,7 @@ unfoldable pub wantedOf : Asked → Sought
 unfolding fnv
 wantedOf everything = all-vectors
 wantedOf (labelled bytes) = with-label (fnv bytes) bytes
-wantedOf (labelled-both bytes others) = with-both (fnv bytes) bytes (fnv others) others
+wantedOf (labelled-both bytes other) = with-both (fnv bytes) bytes (fnv other) other
 
 -- what a search leaves: its answer, the work list and the two answer lists
 pub record SearchEnd : Type 0 where

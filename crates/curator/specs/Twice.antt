@@ -16,7 +16,7 @@ use Rattle.settings.specs.declared.Check.the-variants.{Fine, Refused}
 use Rattle.curator.specs.declared.CuratorIndex.{CuratorIndex}
 use Rattle.curator.specs.Limits.{indexShape}
 use Rattle.curator.specs.Arguments.{Asked, labelled, labelled-both, SearchCall}
-use Rattle.curator.specs.Searches.{SearchEnd, SameEnd, wantedOf, searchCheck, SearchWalked, WalkedTo, SearchesBy, Searches}
+use Rattle.curator.specs.Searches.{SearchEnd, SameEnd, wantedOf, searchCheck, WalkedTo, SearchesBy, Searches}
 use Rattle.curator.specs.SearchHeldLaws.{searches-same}
 
 module _ (index : CuratorIndex) (store : Store) (work : List ℕ) (query : List Float) (k : ℕ) (ids : List ℕ) (distances : List Float) (name : List ℕ) where

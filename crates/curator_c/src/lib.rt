@@ -263,7 +263,7 @@ pub extern "C" fn curator_search_filtered(
     }
 }
 
-// The nearest k documents that have a live vector with each of two labels: names in two parts.
+// The nearest k documents that have a live vector with both of two labels: names in two parts.
 #[no_mangle]
 pub extern "C" fn curator_search_both(
     state: &[usize],

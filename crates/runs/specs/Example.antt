@@ -290,6 +290,7 @@ callsBoth =
     ∷ searches 0 nan 4 (labelled-both silt silt)
     ∷ searches 0 nan 4 (labelled-both kerb-7 kerb-7)
     ∷ searches 0 nan 4 (labelled-both silt (97 ∷ []))
+    ∷ searches 0 nan 4 (labelled-both (97 ∷ []) silt)
     ∷ searches 0 nan 5 (labelled-both silt kerb-7)
     ∷ withdraws 7
     ∷ searches 0 nan 4 (labelled-both silt kerb-7)
@@ -302,6 +303,7 @@ pub expects-both : expectations (sample 5 5) emptyModel callsBoth
     ∷ hits (7 ∷ []) (0 ∷ []) 5 true
     ∷ hits (7 ∷ 8 ∷ []) (0 ∷ 0x3F800000 ∷ []) 5 true
     ∷ hits (7 ∷ 9 ∷ []) (0 ∷ 0x3ecccccc ∷ []) 5 true
+    ∷ hits [] [] 1 true
     ∷ hits [] [] 1 true
     ∷ returns 14
     ∷ returns 0
@@ -319,7 +321,7 @@ premise-both = test-premise (sample 5 5) callsBoth tested-both
 
 -- it has a run
 pub both-run : (ends : List Ended) × Run (sample 5 5) callsBoth ends
-both-run = run-of callsBoth (omega arith, (omega arith, (omega arith, (tt, (tt, (tt, (tt, (tt, (tt, (tt, (tt, (tt, (tt, tt)))))))))))))
+both-run = run-of callsBoth (omega arith, (omega arith, (omega arith, (tt, (tt, (tt, (tt, (tt, (tt, (tt, (tt, (tt, (tt, (tt, tt))))))))))))))
 
 -- ---- the premise, the types and a run
 

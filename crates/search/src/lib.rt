@@ -222,7 +222,7 @@ pub fn search_filtered(
     )
 }
 
-// The nearest k documents that have a live vector with each of two labels: names in two parts, which are any bytes (02, K1).
+// The nearest k documents that have a live vector with both of two labels: names in two parts, which are any bytes (02, K1).
 pub fn search_both(
     index: CuratorIndex,
     floats: &[f32],

@@ -86,7 +86,7 @@ abbrev pub LeafPlacing : Shape → Counts → List ℕ → Sought → ℕ → Pl
 LeafPlacing s c numbers wanted at r =
     Placing numbers (at + fieldOf (listRead wanted)) (partOf s (listRead wanted)) (heldIn (listRead wanted) c) r
 
--- A filter and a leaf's place are told by the hash alone: the same for a label of any bytes, in any two parts
+-- A filter and a leaf's place are told by the hashes alone: the same for labels of any bytes
 abbrev pub Denies : Shape → List ℕ → Wanted → ℕ → Bool → Type 0
 Denies s hashes wanted i r = (name other : List ℕ) → r ≡ denies (sought wanted name other) (nodeFilter s hashes i)
 

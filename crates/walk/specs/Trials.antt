@@ -4,14 +4,14 @@ use mathlib.Core.Bool.{Bool, true, false, cond}
 use mathlib.Core.Path.{_≡_, refl}
 use mathlib.Core.List.{List, [], _∷_, _++_, map}
 use lib.Dec.{eqb}
-use lib.ListN.{set}
+use lib.ListN.{set, getD}
 use lib.Seq.{sets}
 use lib.Ieee.{Float, binary32, ofBits, toBits}
 use Rattle.store.specs.declared.Shape.{Shape}
 use Rattle.store.specs.Store.{Store}
 use Rattle.total_order.specs.TotalOrder.{keyOf}
 use Rattle.bloom.specs.Filter.{emptyFilter, insertAll}
-use Rattle.walk.specs.Wanted.{Sought, with-label, with-both}
+use Rattle.walk.specs.Wanted.{Sought, with-label, with-both, EntryRead, given}
 use Rattle.store.specs.declared.Counts.{Counts}
 use Rattle.walk.specs.Walk.{State, damaged, going, walk}
 use Rattle.walk.specs.Answer.{hitOf, documentOf, dropRepeats, isLive, listed, answer}
@@ -161,7 +161,7 @@ abbrev pub bothWalk : List ℕ → ℕ → ℕ → ℕ → ℕ → Outcome
 bothWalk numbers bytes first second ef = soughtWalk numbers bytes (with-both (hashOf first) (first ∷ []) (hashOf second) (second ∷ [])) ef
 
 -- 'a search with two labels returns vectors that carry both; a node whose filter denies either is opened and gives nothing': documents 7 and 8 have one
--- of `a` and `b`, 9 has both, and 5 nodes are opened; the order does not matter, cut or whole; 'the same label given twice is the one-label search'
+-- of `a` and `b`, 9 has both, and 5 nodes are opened; the order does not matter; 'the same label given twice is the one-label search'
 pub both-labels :
     (bothWalk bothNumbers 4 97 98 5 ≡ printed (record { ids = 9 ∷ []; bits = 0x3ECCCCCC ∷ []; whole = true; opened = 5 }))
     × (bothWalk bothNumbers 4 98 97 5 ≡ printed (record { ids = 9 ∷ []; bits = 0x3ECCCCCC ∷ []; whole = true; opened = 5 }))
@@ -174,6 +174,21 @@ both-labels = (refl, refl, refl, refl)
 pub not-there : (bothWalk movedNumbers 4 97 98 5 ≡ nothingFound) × (bothWalk movedNumbers 4 98 97 5 ≡ nothingFound)
 unfolding soughtWalk movedNumbers hashOf
 not-there = (refl, refl)
+
+-- 'entries of the first whose owner has one of the second': the first label twice on a vector gives two hits, the second twice one. Entries 0 and 1 are of
+-- `a`, 2 of `b`, all of one owner
+unfoldable pub repeatedLabel : EntryRead
+unfolding hashOf
+repeatedLabel =
+    record { hash = λ entry. hashOf (getD (97 ∷ 97 ∷ 98 ∷ []) entry 0); owner = λ entry. 5; name = λ entry. getD (97 ∷ 97 ∷ 98 ∷ []) entry 0 ∷ [] }
+
+unfoldable pub givenBoth : ℕ → ℕ → List ℕ
+unfolding given hashOf repeatedLabel
+givenBoth first second = given (with-both (hashOf first) (first ∷ []) (hashOf second) (second ∷ [])) repeatedLabel (0 ∷ 1 ∷ 2 ∷ [])
+
+pub first-twice : (givenBoth 97 98 ≡ 5 ∷ 5 ∷ []) × (givenBoth 98 97 ≡ 5 ∷ [])
+unfolding givenBoth
+first-twice = (refl, refl)
 
 -- an entry of either hash is read: with 3 bytes held document 9's `b` is damage, whichever comes first; the search for `a` alone does not read it
 pub past-either : (bothWalk bothNumbers 3 97 98 5 ≡ broken) × (bothWalk bothNumbers 3 98 97 5 ≡ broken)

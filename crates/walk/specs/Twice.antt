@@ -1,18 +1,18 @@
 -- Request K1 of document 02: 'The same label given twice is the one-label search', over any store: what each node shows is the same, so every walk is, hits,
 -- opened nodes, damage and all. Assumes nothing.
 use Prim.Native.Nat.{ℕ, _+_}
-use mathlib.Core.Path.{_≡_, refl, sym, ap, ap₂, _∙_}
+use mathlib.Core.Path.{_≡_, refl, ap₂}
 use mathlib.Core.Bool.{Bool, true, false, not, cond, _&&_, _||_}
 use mathlib.Core.List.{List, map}
 use lib.Ieee.{Float}
-use Rattle.lists.specs.Lists.{keep, isIn, part}
-use Rattle.lists.specs.Tests.{allPass, allPass-congr}
+use Rattle.lists.specs.Lists.{isIn, part}
+use Rattle.lists.specs.Tests.{allPass-congr}
 use Rattle.lists.specs.Counting.{keep-all, Memᴰ-isIn}
 use Rattle.bloom.specs.Filter.{mayContain}
 use Rattle.store.specs.declared.Shape.{Shape}
 use Rattle.store.specs.declared.Counts.{Counts}
 use Rattle.store.specs.Store.{Store, nodeField, nodeFilter}
-use Rattle.walk.specs.Walk.{Shown, hits, damage, walk}
+use Rattle.walk.specs.Walk.{hits, damage, walk}
 use Rattle.walk.specs.Wanted.{with-label, with-both, EntryRead, entry-list, numberHeld, textHeld, denies, passes, ownersOf, given}
 use Rattle.walk.specs.StoreView.{hitAt, endIn, entryRead, fieldOf, partOf, listShown, leafShown, nodeShown, storeView}
 use Rattle.walk.specs.SameWalkLaws.{denied-ignored}

@@ -2,7 +2,7 @@
 -- WantedLaws.antt. A lent store and the model of all calls differ in how an entry is read alone.
 use Prim.Native.Nat.{ℕ}
 use mathlib.Core.Bool.{Bool, false, not, _&&_, _||_}
-use mathlib.Core.List.{List, map, _++_}
+use mathlib.Core.List.{List, map}
 use lib.Dec.{leb, ltb, eqb}
 use Rattle.lists.specs.Lists.{keep, isIn, sameList}
 use Rattle.store.specs.declared.Counts.{Counts}

@@ -49,9 +49,9 @@ fn denied(shape: Shape, hashes: &[u64], wanted: Wanted, i: usize) -> bool
         Wanted::Everything => false,
         Wanted::Label(hash) => !admits(shape, hashes, hash, i),
         Wanted::Both(hash, others) => {
-            let one = admits(shape, hashes, hash, i);
-            let two = admits(shape, hashes, others, i);
-            !one | !two
+            let one = denied(shape, hashes, Wanted::Label(hash), i);
+            let two = denied(shape, hashes, Wanted::Label(others), i);
+            one | two
         }
     }
 }
@@ -85,8 +85,7 @@ fn leaf_list(shape: Shape, counts: Counts, numbers: &[u32], wanted: Wanted, at: 
 {
     match wanted {
         Wanted::Everything => block_at(numbers, at + 2, shape.order_at(), counts.vectors),
-        Wanted::Label(_) => block_at(numbers, at + 4, shape.entry_order_at(), counts.entries),
-        Wanted::Both(_, _) => block_at(numbers, at + 4, shape.entry_order_at(), counts.entries),
+        _ => block_at(numbers, at + 4, shape.entry_order_at(), counts.entries),
     }
 }
 

@@ -204,7 +204,7 @@ fn take_marked(
 }
 
 // Adds the owners of a label's entries in a list that also have an entry of another label there. Each name is given in two parts. Marks of vectors stand
-// in front of the hits' part: those of the list's owners are cleared, the other label's owners are marked, and of the label's owners the marked ones taken.
+// in the front of the hits' part: those of the list's owners are cleared, the other label's owners are marked, and of the label's owners the marked ones taken.
 pub fn add_both(
     shape: Shape,
     counts: Counts,
