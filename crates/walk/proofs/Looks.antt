@@ -22,7 +22,7 @@ use Rattle.walk.specs.Wanted.{Sought, listRead, heldIn, denies, passes}
 use Rattle.walk.specs.WantedLaws.{given-nil}
 use Rattle.walk.specs.StoreView.{blockHeld, fieldOf, partOf, hitAt, childrenShown, endIn, entryRead, listShown, leafShown, nodeShown, storeView}
 use Rattle.walk.specs.StoreViewLaws.{block-empty, block-some, store-shown}
-use Rattle.walk.specs.Contracts.{Placing, LeafPlacing, LooksFor}
+use Rattle.walk.specs.Contracts.{Placing, LeafPlacing, ShowsFor, LooksFor}
 use Rattle.walk.specs.declared.look.Look.the-variants as look
 
 -- blocks
@@ -71,6 +71,33 @@ leaf-shown s c floats numbers hashes text query wanted i r h =
     placed-shown numbers (nodesAt s + i * 6 + fieldOf l) (nodesAt s + i * 6 + (fieldOf l + 1)) (partOf s l) (heldIn l c)
     (listShown s c (storeOf floats numbers hashes text) query wanted) r (let t : nodesAt s + i * 6 + (fieldOf (listRead wanted) + 1) ≡ nodesAt s + i * 6 + fieldOf (listRead wanted) + 1 = omega arith in t) h
 
+module _ (s : Shape) (c : Counts) (numbers : List ℕ) (wanted : Sought) (i : ℕ) where
+  node-leaf : (floats query : List Float) (hashes text : List ℕ) → getD numbers (nodesAt s + i * 6 + 1) 0 ≡ 0
+      → nodeShown s c (storeOf floats numbers hashes text) query wanted i ≡ leafShown s c (storeOf floats numbers hashes text) query wanted i
+  unfolding nodeShown
+  node-leaf floats query hashes text z = rw (eq-eqb (getD numbers (nodesAt s + i * 6 + 1) 0) 0 z)
+
+  node-inner : (floats query : List Float) (hashes text : List ℕ) (r : Placed) → (getD numbers (nodesAt s + i * 6 + 1) 0 ≡ 0 → ⊥)
+      → Placing numbers (nodesAt s + i * 6) (linksAt s) (c .nodes) r
+      → nodeShown s c (storeOf floats numbers hashes text) query wanted i ≡ placedShown (childrenShown s c (storeOf floats numbers hashes text) i) numbers r
+  unfolding nodeShown
+  node-inner floats query hashes text r n h =
+      rw (ne-eqb (getD numbers (nodesAt s + i * 6 + 1) 0) 0 n, add-zero (nodesAt s + i * 6))
+      (placed-shown numbers (nodesAt s + i * 6) (nodesAt s + i * 6 + 1) (linksAt s) (c .nodes) (childrenShown s c (storeOf floats numbers hashes text) i) r refl h)
+
+  pub shows-leaf : getD numbers (nodesAt s + i * 6 + 1) 0 ≡ 0 → (r : Placed) → LeafPlacing s c numbers wanted (nodesAt s + i * 6) r
+      → ShowsFor s c numbers wanted i (leafLook r)
+  shows-leaf z Outside h = λ floats query hashes text. node-leaf floats query hashes text z ∙ leaf-shown s c floats numbers hashes text query wanted i Outside h
+  shows-leaf z (Within b) h = (
+    h .1 .room,
+    λ floats query hashes text. node-leaf floats query hashes text z ∙ leaf-shown s c floats numbers hashes text query wanted i (Within b) h,
+  )
+
+  pub shows-inner : (getD numbers (nodesAt s + i * 6 + 1) 0 ≡ 0 → ⊥) → (r : Placed) → Placing numbers (nodesAt s + i * 6) (linksAt s) (c .nodes) r
+      → ShowsFor s c numbers wanted i (innerLook r)
+  shows-inner z Outside h = λ floats query hashes text. node-inner floats query hashes text Outside z h
+  shows-inner z (Within b) h = (h .1 .room, λ floats query hashes text. node-inner floats query hashes text (Within b) z h)
+
 module _ (s : Shape) (c : Counts) (numbers hashes : List ℕ) (wanted : Sought) (i : ℕ) where
   passed : (floats query : List Float) (text : List ℕ) → denies wanted (part (filtersAt s + i * 4) 4 hashes) ≡ false
       → shown (storeView s c (storeOf floats numbers hashes text) query wanted) i ≡ nodeShown s c (storeOf floats numbers hashes text) query wanted i
@@ -78,6 +105,7 @@ module _ (s : Shape) (c : Counts) (numbers hashes : List ℕ) (wanted : Sought) 
       store-shown s c (storeOf floats numbers hashes text) query wanted i
       ∙ ap (λ (b : Bool). cond b (hits []) (nodeShown s c (storeOf floats numbers hashes text) query wanted i)) e
 
+  -- a denied node, and one that passes
   pub looks-denied : denies wanted (part (filtersAt s + i * 4) 4 hashes) ≡ true → LooksFor s c numbers hashes wanted i (look.Leaf (record { start = 0; count = 0 }))
   looks-denied e = (
     omega arith,
@@ -86,27 +114,7 @@ module _ (s : Shape) (c : Counts) (numbers hashes : List ℕ) (wanted : Sought) 
         ∙ sym (nothing s c floats numbers hashes text query wanted),
   )
 
-  node-leaf : (floats query : List Float) (text : List ℕ) → getD numbers (nodesAt s + i * 6 + 1) 0 ≡ 0
-      → nodeShown s c (storeOf floats numbers hashes text) query wanted i ≡ leafShown s c (storeOf floats numbers hashes text) query wanted i
-  unfolding nodeShown
-  node-leaf floats query text z = rw (eq-eqb (getD numbers (nodesAt s + i * 6 + 1) 0) 0 z)
-
-  node-inner : (floats query : List Float) (text : List ℕ) (r : Placed) → (getD numbers (nodesAt s + i * 6 + 1) 0 ≡ 0 → ⊥) → Placing numbers (nodesAt s + i * 6) (linksAt s) (c .nodes) r
-      → nodeShown s c (storeOf floats numbers hashes text) query wanted i ≡ placedShown (childrenShown s c (storeOf floats numbers hashes text) i) numbers r
-  unfolding nodeShown
-  node-inner floats query text r n h =
-      rw (ne-eqb (getD numbers (nodesAt s + i * 6 + 1) 0) 0 n, add-zero (nodesAt s + i * 6))
-      (placed-shown numbers (nodesAt s + i * 6) (nodesAt s + i * 6 + 1) (linksAt s) (c .nodes) (childrenShown s c (storeOf floats numbers hashes text) i) r refl h)
-
-  pub looks-leaf : denies wanted (part (filtersAt s + i * 4) 4 hashes) ≡ false → getD numbers (nodesAt s + i * 6 + 1) 0 ≡ 0 → (r : Placed)
-      → LeafPlacing s c numbers wanted (nodesAt s + i * 6) r → LooksFor s c numbers hashes wanted i (leafLook r)
-  looks-leaf e z Outside h = λ floats query text. passed floats query text e ∙ node-leaf floats query text z ∙ leaf-shown s c floats numbers hashes text query wanted i Outside h
-  looks-leaf e z (Within b) h = (
-    h .1 .room,
-    λ floats query text. passed floats query text e ∙ node-leaf floats query text z ∙ leaf-shown s c floats numbers hashes text query wanted i (Within b) h,
-  )
-
-  pub looks-inner : denies wanted (part (filtersAt s + i * 4) 4 hashes) ≡ false → (getD numbers (nodesAt s + i * 6 + 1) 0 ≡ 0 → ⊥) → (r : Placed)
-      → Placing numbers (nodesAt s + i * 6) (linksAt s) (c .nodes) r → LooksFor s c numbers hashes wanted i (innerLook r)
-  looks-inner e z Outside h = λ floats query text. passed floats query text e ∙ node-inner floats query text Outside z h
-  looks-inner e z (Within b) h = (h .1 .room, λ floats query text. passed floats query text e ∙ node-inner floats query text (Within b) z h)
+  pub looks-passed : denies wanted (part (filtersAt s + i * 4) 4 hashes) ≡ false → (r : Look) → ShowsFor s c numbers wanted i r → LooksFor s c numbers hashes wanted i r
+  looks-passed e look.Damaged h = λ floats query text. passed floats query text e ∙ h floats query hashes text
+  looks-passed e (look.Leaf b) h = (h .0, λ floats query text. passed floats query text e ∙ h .1 floats query hashes text)
+  looks-passed e (look.Inner b) h = (h .0, λ floats query text. passed floats query text e ∙ h .1 floats query hashes text)

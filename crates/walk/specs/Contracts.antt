@@ -22,7 +22,7 @@ use Rattle.walk.specs.declared.Searched.the-variants as searched
 use Rattle.walk.specs.Walk.{damage, State, damaged, going, shown, walk}
 use Rattle.walk.specs.Answer.{Answer, answer}
 use Rattle.walk.specs.Wanted.{Sought, sought, denies, listRead, heldIn}
-use Rattle.walk.specs.StoreView.{blockHeld, fieldOf, partOf, childrenShown, listShown, liveIn, storeView}
+use Rattle.walk.specs.StoreView.{blockHeld, fieldOf, partOf, childrenShown, listShown, nodeShown, liveIn, storeView}
 
 -- ---- what the functions are lent
 
@@ -37,6 +37,12 @@ pub record LeafLent (s : Shape) (c : Counts) (numbers : List ℕ) (at : ℕ) : T
   pub within : CountsWithin s c
   pub size : numbersSize s ≤ length numbers
   pub read : at + 6 ≤ length numbers
+
+-- a node's numbers by its number
+pub record NumbersLent (s : Shape) (c : Counts) (numbers : List ℕ) (i : ℕ) : Type 0 where
+  pub within : CountsWithin s c
+  pub numbers-size : numbersSize s ≤ length numbers
+  pub node : i < c .nodes
 
 -- a node by its number
 pub record NodeLent (s : Shape) (c : Counts) (numbers hashes : List ℕ) (i : ℕ) : Type 0 where
@@ -92,6 +98,22 @@ Denies s hashes wanted i r = (name other : List ℕ) → r ≡ denies (sought wa
 
 abbrev pub LeafPlaced : Shape → Counts → List ℕ → Wanted → ℕ → Placed → Type 0
 LeafPlaced s c numbers wanted at r = (name other : List ℕ) → LeafPlacing s c numbers (sought wanted name other) at r
+
+-- what node i shows where it is not denied, from any query and with any vectors, hashes and label text
+abbrev pub ShowsFor : Shape → Counts → List ℕ → Sought → ℕ → Look → Type 0
+ShowsFor s c numbers wanted i look.Damaged =
+    (floats query : List Float) (hashes text : List ℕ) → nodeShown s c (storeOf floats numbers hashes text) query wanted i ≡ damage
+ShowsFor s c numbers wanted i (look.Leaf b) =
+    (b .start + b .count ≤ length numbers)
+    × ((floats query : List Float) (hashes text : List ℕ) → nodeShown s c (storeOf floats numbers hashes text) query wanted i
+    ≡ listShown s c (storeOf floats numbers hashes text) query wanted (part (b .start) (b .count) numbers))
+ShowsFor s c numbers wanted i (look.Inner b) =
+    (b .start + b .count ≤ length numbers)
+    × ((floats query : List Float) (hashes text : List ℕ) → nodeShown s c (storeOf floats numbers hashes text) query wanted i
+    ≡ childrenShown s c (storeOf floats numbers hashes text) i (part (b .start) (b .count) numbers))
+
+abbrev pub Shows : Shape → Counts → List ℕ → Wanted → ℕ → Look → Type 0
+Shows s c numbers wanted i r = (name other : List ℕ) → ShowsFor s c numbers (sought wanted name other) i r
 
 -- what node i shows, from any query and with any vectors and label text
 abbrev pub LooksFor : Shape → Counts → List ℕ → List ℕ → Sought → ℕ → Look → Type 0

@@ -9,7 +9,7 @@ ghost use Prim.Native.Nat.{_+_, _*_, _<_};
 ghost use Rattle.lists.specs.Lists.{part};
 ghost use Rattle.bloom.specs.Filter.{mayContain};
 ghost use Rattle.store.specs.Store.{nodeFilter};
-ghost use Rattle.walk.specs.Contracts.{FilterLent, LeafLent, NodeLent, BlockAsked, Denies, Placing, LeafPlaced, Looks};
+ghost use Rattle.walk.specs.Contracts.{FilterLent, LeafLent, NumbersLent, NodeLent, BlockAsked, Denies, Placing, LeafPlaced, Shows, Looks};
 
 // A list's places in the numbers.
 pub struct Block {
@@ -49,9 +49,9 @@ fn denied(shape: Shape, hashes: &[u64], wanted: Wanted, i: usize) -> bool
         Wanted::Everything => false,
         Wanted::Label(hash) => !admits(shape, hashes, hash, i),
         Wanted::Both(hash, others) => {
-            let one = denied(shape, hashes, Wanted::Label(hash), i);
-            let two = denied(shape, hashes, Wanted::Label(others), i);
-            one | two
+            let one = admits(shape, hashes, hash, i);
+            let two = admits(shape, hashes, others, i);
+            !one | !two
         }
     }
 }
@@ -89,6 +89,26 @@ fn leaf_list(shape: Shape, counts: Counts, numbers: &[u32], wanted: Wanted, at: 
     }
 }
 
+// What node i shows where it is not denied.
+fn node_at(shape: Shape, counts: Counts, numbers: &[u32], wanted: Wanted, i: usize) -> Look
+    requires { ⌜ NumbersLent shape counts (now numbers) i ⌝ }
+    ensures { λ r. ⌜ Shows shape counts (now (numbers .entry)) wanted i r ⌝ }
+{
+    let at = shape.nodes_at() + i * 6;
+    if numbers[at + 1] == 0 {
+        let list = leaf_list(shape, counts, numbers, wanted, at);
+        return match list {
+            Placed::Outside => Look::Damaged,
+            Placed::Within(block) => Look::Leaf(block),
+        };
+    }
+    let children = block_at(numbers, at, shape.links_at(), counts.nodes);
+    match children {
+        Placed::Outside => Look::Damaged,
+        Placed::Within(block) => Look::Inner(block),
+    }
+}
+
 // What node i shows.
 pub fn look_at(
     shape: Shape,
@@ -104,17 +124,23 @@ pub fn look_at(
     if denied(shape, hashes, wanted, i) {
         return Look::Leaf(Block { start: 0, count: 0 });
     }
-    let at = shape.nodes_at() + i * 6;
-    if numbers[at + 1] == 0 {
-        let list = leaf_list(shape, counts, numbers, wanted, at);
-        return match list {
-            Placed::Outside => Look::Damaged,
-            Placed::Within(block) => Look::Leaf(block),
-        };
+    node_at(shape, counts, numbers, wanted, i)
+}
+
+// The same for another walk: a function with one caller becomes a part of it.
+pub fn look_over(
+    shape: Shape,
+    counts: Counts,
+    numbers: &[u32],
+    hashes: &[u64],
+    wanted: Wanted,
+    i: usize,
+) -> Look
+    requires { ⌜ NodeLent shape counts (now numbers) (now hashes) i ⌝ }
+    ensures { λ r. ⌜ Looks shape counts (now (numbers .entry)) (now (hashes .entry)) wanted i r ⌝ }
+{
+    if denied(shape, hashes, wanted, i) {
+        return Look::Leaf(Block { count: 0, start: 0 });
     }
-    let children = block_at(numbers, at, shape.links_at(), counts.nodes);
-    match children {
-        Placed::Outside => Look::Damaged,
-        Placed::Within(block) => Look::Inner(block),
-    }
+    node_at(shape, counts, numbers, wanted, i)
 }

@@ -12,7 +12,7 @@ use store::wide;
 use walk::Wanted;
 use walk::look::Block;
 use walk::look::Look;
-use walk::look::look_at;
+use walk::look::look_over;
 use wanted_hits::add_hits;
 ghost use Rattle.lists.specs.Lists.{part};
 ghost use mathlib.Core.List.{_++_};
@@ -77,7 +77,7 @@ fn open_node(
     let hits_at = shape.hits_at();
     let hits_end = shape.work_size();
     let from = found_at(shape) - hits_at;
-    let shown = look_at(shape, counts, numbers, hashes, wanted, i);
+    let shown = look_over(shape, counts, numbers, hashes, wanted, i);
     match shown {
         Look::Damaged => Added::Damaged,
         Look::Leaf(list) => add_hits(

@@ -37,16 +37,16 @@ use Rattle.whole_walk.proofs.open_node.Tie as tie
 -- ---- the places, each with the way back to the one before: the node is looked at, it is a leaf, its hits are added, it is an inner node, its children
 -- are marked
 
-abbrev entry : tie.After-look-at → tie.Start
+abbrev entry : tie.After-look-over → tie.Start
 entry o = o .before .before .before .before .before .before .before .before .before .before .before .before
 
-abbrev leaf-looked : tie.After-shown → tie.After-look-at
+abbrev leaf-looked : tie.After-shown → tie.After-look-over
 leaf-looked l = l .before .before
 
 abbrev leaf : tie.After-add-hits → tie.After-shown
 leaf h = h .before .before .before
 
-abbrev inner-looked : tie.After-shown2 → tie.After-look-at
+abbrev inner-looked : tie.After-shown2 → tie.After-look-over
 inner-looked i = i .before .before
 
 abbrev inner : tie.After-mark-children → tie.After-shown2
@@ -62,10 +62,10 @@ wants e = sought (e .args .wanted) (e .args .first .now ++ e .args .second .now)
 abbrev Shows : tie.Start → Look → Type 0
 Shows e r = LooksFor (e .args .shape) (e .args .counts) (e .args .numbers .now) (e .args .hashes .now) (wants e) (e .args .i) r
 
-shows : (o : tie.After-look-at) (r : Look) → o .look-at .result ≡ r → Shows (entry o) r
+shows : (o : tie.After-look-over) (r : Look) → o .look-over .result ≡ r → Shows (entry o) r
 shows o r is =
     let a = entry o .args in
-    subst (Shows (entry o)) is (o .look-at .ensures (a .first .now ++ a .second .now) (a .other-first .now ++ a .other-second .now))
+    subst (Shows (entry o)) is (o .look-over .ensures (a .first .now ++ a .second .now) (a .other-first .now ++ a .other-second .now))
 
 -- a query, vectors and keys that were not lent
 abbrev hit : tie.Start → List Float → List Float → ℕ → ℕ
@@ -98,27 +98,27 @@ list-is l floats query =
     ∙ list-shown (e .args .shape) (e .args .counts) floats (e .args .numbers .now) (e .args .hashes .now) (e .args .text .now) query (wants e) (list l)
 
 -- the hits' part, and in it the vectors found, as it is lent and as it came back
-abbrev hitsStart : tie.After-look-at → ℕ
+abbrev hitsStart : tie.After-look-over → ℕ
 hitsStart o = o .before .before .before .hits-at .result
 
-abbrev hitsEnd : tie.After-look-at → ℕ
+abbrev hitsEnd : tie.After-look-over → ℕ
 hitsEnd o = o .before .before .work-size .result
 
-abbrev foundFrom : tie.After-look-at → ℕ
+abbrev foundFrom : tie.After-look-over → ℕ
 foundFrom o = o .before .found-at .result - hitsStart o
 
-found-from : (o : tie.After-look-at) → foundFrom o ≡ foundIn (entry o .args .shape)
+found-from : (o : tie.After-look-over) → foundFrom o ≡ foundIn (entry o .args .shape)
 found-from o = omega (arith, o .before .found-at .ensures, o .before .before .before .hits-at .ensures)
 
-abbrev lentHits : tie.After-look-at → List ℕ
+abbrev lentHits : tie.After-look-over → List ℕ
 lentHits o = take (hitsEnd o - hitsStart o) (drop (hitsStart o) (entry o .args .work .now))
 
-lent-hits : (o : tie.After-look-at) → lentHits o ≡ hitsPart (entry o .args .shape) (entry o .args .work .now)
+lent-hits : (o : tie.After-look-over) → lentHits o ≡ hitsPart (entry o .args .shape) (entry o .args .work .now)
 lent-hits o =
     let e = entry o in
     hits-lent (e .args .shape) (e .args .work .now) (hitsStart o) (hitsEnd o) (e .pre .within .limits) (o .before .before .before .hits-at .ensures) (o .before .before .work-size .ensures)
 
-lent-found : (o : tie.After-look-at) → drop (foundFrom o) (lentHits o) ≡ foundPart (entry o .args .shape) (entry o .args .work .now)
+lent-found : (o : tie.After-look-over) → drop (foundFrom o) (lentHits o) ≡ foundPart (entry o .args .shape) (entry o .args .work .now)
 lent-found o =
     let e = entry o in
     found-lent (e .args .shape) (e .args .work .now) (hitsStart o) (hitsEnd o) (e .pre .within .limits) (o .before .before .before .hits-at .ensures) (o .before .before .work-size .ensures) (foundFrom o) (found-from o)
@@ -176,8 +176,8 @@ found-at-requires c κs = search needs
 sub-from : tie.Need-sub-from
 sub-from c = search needs
 
-look-at-requires : tie.Need-look-at-requires
-look-at-requires c κs = search needs
+look-over-requires : tie.Need-look-over-requires
+look-over-requires c κs = search needs
 
 enum-told : tie.Need-enum-told
 enum-told c = search needs
@@ -284,7 +284,7 @@ open-node-spec =
     work-size-requires
     found-at-requires
     sub-from
-    look-at-requires
+    look-over-requires
     enum-told
     enum-known-shown
     mul-add-hits
