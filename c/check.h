@@ -1,4 +1,7 @@
 /* What the test programs share: an index with its lists, marked beforehand, and a count of the checks. */
+#ifndef CHECK_H
+#define CHECK_H
+
 #include "curator.h"
 
 #include <stdio.h>
@@ -234,3 +237,5 @@ static inline uint32_t search(index_t *x, answer_t *a, const float *query, size_
                     curator_search(STATE(x), STORE(x), WORK(x), query, x->d, k, a->ids, HITS, a->distances, HITS,
                                    a->answer, CURATOR_ANSWER + SURPLUS));
 }
+
+#endif

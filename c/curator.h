@@ -94,7 +94,7 @@ enum {
     CURATOR_ANSWER_TOO_SHORT = 14,   /* ids or distances shorter than k, or the answer list shorter than 3 */
     CURATOR_DAMAGED = 15,            /* A number that the call reads in the store points outside. build: an owner not below the vectors held. search,
                                         in a node that is opened and not denied: a block past what is held; a child not above its parent, not below
-                                        the nodes held or pushed before; a vector, entry or owner not below what is held; a label of the hash
+                                        the nodes held or pushed before; a vector, entry or owner not below what is held; a label of a hash
                                         searched for whose start plus length is above the bytes held; one hit too many. Other damage is not
                                         noticed. Leaves anything in work. */
     CURATOR_NO_VECTOR_HELD = 19,     /* take back: nothing was added, or all of it is taken back */
@@ -147,6 +147,19 @@ uint32_t curator_search_filtered(const size_t *state, size_t state_len,
                                  const uint8_t *first, size_t first_len, const uint8_t *second, size_t second_len, size_t k,
                                  uint32_t *ids, size_t ids_len, float *distances, size_t distances_len,
                                  size_t *answer, size_t answer_len);
+
+/* The nearest k documents that have a live vector with both of two labels, listed in the same way. The names are first, then second, and other_first, then
+   other_second. A node whose filter denies either is opened and gives nothing; a leaf gives its entries of the first label whose owner has one of the second
+   there. As a build leaves it, a vector's entries all stand in its leaf, so that the order of the two labels makes no difference to a whole answer; in a
+   damaged store an entry of the second that stands in another leaf does not count. The same label given twice is the search for that label. */
+uint32_t curator_search_both(const size_t *state, size_t state_len,
+                             const float *floats, size_t floats_len, const uint32_t *numbers, size_t numbers_len,
+                             const uint64_t *hashes, size_t hashes_len, const uint8_t *text, size_t text_len,
+                             uint32_t *work, size_t work_len, const float *query, size_t query_len,
+                             const uint8_t *first, size_t first_len, const uint8_t *second, size_t second_len,
+                             const uint8_t *other_first, size_t other_first_len, const uint8_t *other_second, size_t other_second_len, size_t k,
+                             uint32_t *ids, size_t ids_len, float *distances, size_t distances_len,
+                             size_t *answer, size_t answer_len);
 
 /* The nearest k documents that have a live vector, listed in the same way. The text is lent, and not read. */
 uint32_t curator_search(const size_t *state, size_t state_len,

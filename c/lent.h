@@ -1,4 +1,4 @@
-/* What the tests of taking back and of withdrawing share: both are lent what add is, and refuse with 4, then with 3. */
+/* What the tests of taking back, of withdrawing and of searches for two labels share: each is lent what add is, and refuses with 4, then with 3. */
 #include "check.h"
 
 /* A call, lent so many places of each list, that is refused with a number and leaves everything as it was. */

@@ -10,7 +10,7 @@ mkdir -p "$out"
 flags="-std=c11 -Wall -Wextra -Werror -O1 -ffp-contract=off -Ic"
 passed=0
 failed=0
-for name in call_test names_test nan_test hits_test pool_test take_back_test withdraw_test text_test text_damage_test; do
+for name in call_test names_test nan_test hits_test pool_test take_back_test withdraw_test text_test text_damage_test both_test both_damage_test; do
     ${CC:-gcc} $flags -o "$out/$name" "c/$name.c" $library
     "$out/$name" >"$out/$name.out" || true
     cat "$out/$name.out" | sed "s/^/$name: /"

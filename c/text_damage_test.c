@@ -1,41 +1,7 @@
 /* Label text between pages that nobody may touch: damaged starts, lengths and bytes, against what the lists say byte by byte, and what a call never reads or
    writes. */
-#define _DEFAULT_SOURCE
+#include "guard.h"
 #include "named.h"
-
-#include <signal.h>
-#include <sys/mman.h>
-#include <unistd.h>
-
-/* ---- closed pages */
-
-/* A list of bytes on pages of which those around it are closed: its first places, so many, are closed too, then so many are open, and the last are closed. */
-typedef struct { uint8_t *base, *list; size_t size; } guard_t;
-
-static guard_t closed_list(const void *from, size_t before, size_t open, size_t after) {
-    size_t page = (size_t)sysconf(_SC_PAGESIZE), head = (before + page - 1) / page, body = (open + page - 1) / page, tail = (after + page - 1) / page;
-    guard_t g = {.size = (head + body + tail + 2) * page};
-    g.base = mmap(NULL, g.size, PROT_NONE, MAP_PRIVATE | MAP_ANONYMOUS, -1, 0);
-    if (g.base == MAP_FAILED) abort();
-    uint8_t *start = g.base + (1 + head) * page;
-    if (body && mprotect(start, body * page, PROT_READ | PROT_WRITE)) abort();
-    /* the open places begin where a closed page ends; without closed ones before them they end where one begins */
-    g.list = (before ? start : start + body * page - open) - before;
-    if (open) memcpy(g.list + before, (const uint8_t *)from + before, open);
-    return g;
-}
-
-/* a list whose end is the last place before a closed page */
-static guard_t guard(const void *from, size_t bytes) { return closed_list(from, 0, bytes, 0); }
-
-static void unguard(guard_t *g) { munmap(g->base, g->size); }
-
-static void outside(int number) {
-    static const char words[] = "text_damage_test.c: a place was touched that is closed\n0 passed, 1 failed\n";
-    (void)number;
-    if (write(STDOUT_FILENO, words, sizeof words - 1) < 0) _exit(2);
-    _exit(1);
-}
 
 /* ---- damage */
 
@@ -205,8 +171,7 @@ static void test_untouched(void) {
 }
 
 int main(void) {
-    signal(SIGSEGV, outside);
-    signal(SIGBUS, outside);
+    guard_all();
     test_damaged();
     test_unread();
     test_untouched();

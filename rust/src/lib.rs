@@ -300,6 +300,37 @@ impl CuratorIndex {
         self.find_filtered(query, k, label).map(Found::pairs)
     }
 
+    /// The nearest k documents that have a live vector with both of two labels: document ids and distances, nearest first. The names
+    /// are given as in [`CuratorIndex::search_filtered`]; their order makes no difference to a whole answer, and the same label twice is
+    /// the search for it.
+    ///
+    /// ```
+    /// # use curator::{CuratorIndex, CuratorParams, RetrieveError};
+    /// # fn main() -> Result<(), RetrieveError> {
+    /// let mut index = CuratorIndex::new(2, CuratorParams::default())?;
+    /// index.add(1, &[1.0, 0.0], &["kerb-6", "silt"])?;
+    /// index.add(2, &[0.0, 1.0], &["kerb-7", "silt"])?;
+    /// index.add(3, &[1.0, 0.0], &["kerb-7", "roots"])?;
+    /// index.build()?;
+    /// // silt at kerb-7
+    /// assert_eq!(index.search_both(&[1.0, 0.0], 5, "silt", "kerb-7")?, [(2, 1.0)]);
+    /// // silt from everywhere
+    /// assert_eq!(index.search_filtered(&[1.0, 0.0], 5, "silt")?, [(1, 0.0), (2, 1.0)]);
+    /// // a name in two parts
+    /// assert_eq!(index.search_both(&[1.0, 0.0], 5, ("kerb-", "7"), "silt")?, [(2, 1.0)]);
+    /// # Ok(())
+    /// # }
+    /// ```
+    pub fn search_both<'a, 'b>(
+        &self,
+        query: &[f32],
+        k: usize,
+        label: impl Into<Name<'a>>,
+        other: impl Into<Name<'b>>,
+    ) -> Result<Vec<(u32, f32)>, RetrieveError> {
+        self.find_both(query, k, label, other).map(Found::pairs)
+    }
+
     /// The nearest k documents that have a live vector: document ids and distances, nearest first.
     pub fn search(&self, query: &[f32], k: usize) -> Result<Vec<(u32, f32)>, RetrieveError> {
         self.find(query, k).map(Found::pairs)
@@ -336,6 +367,54 @@ impl CuratorIndex {
                     first.len(),
                     second.as_ptr(),
                     second.len(),
+                    places,
+                    ids.as_mut_ptr(),
+                    ids.len(),
+                    distances.as_mut_ptr(),
+                    distances.len(),
+                    answer.as_mut_ptr(),
+                    answer.len(),
+                )
+            }
+        })
+    }
+
+    /// [`CuratorIndex::search_both`], with the count of opened nodes and whether the answer is whole.
+    pub fn find_both<'a, 'b>(
+        &self,
+        query: &[f32],
+        k: usize,
+        label: impl Into<Name<'a>>,
+        other: impl Into<Name<'b>>,
+    ) -> Result<Found, RetrieveError> {
+        let (one, two) = (label.into(), other.into());
+        let places = k.min(self.state[ENTRIES_HELD]);
+        self.found(places, |work, ids, distances, answer| {
+            // SAFETY: as in `find_filtered`.
+            unsafe {
+                sys::curator_search_both(
+                    self.state.as_ptr(),
+                    self.state.len(),
+                    self.floats.as_ptr(),
+                    self.floats.len(),
+                    self.numbers.as_ptr(),
+                    self.numbers.len(),
+                    self.hashes.as_ptr(),
+                    self.hashes.len(),
+                    self.text.as_ptr(),
+                    self.text.len(),
+                    work.as_mut_ptr(),
+                    work.len(),
+                    query.as_ptr(),
+                    query.len(),
+                    one.first.as_ptr(),
+                    one.first.len(),
+                    one.second.as_ptr(),
+                    one.second.len(),
+                    two.first.as_ptr(),
+                    two.first.len(),
+                    two.second.as_ptr(),
+                    two.second.len(),
                     places,
                     ids.as_mut_ptr(),
                     ids.len(),

@@ -111,6 +111,38 @@ extern "C" {
         answer_len: usize,
     ) -> u32;
 
+    pub fn curator_search_both(
+        state: *const usize,
+        state_len: usize,
+        floats: *const f32,
+        floats_len: usize,
+        numbers: *const u32,
+        numbers_len: usize,
+        hashes: *const u64,
+        hashes_len: usize,
+        text: *const u8,
+        text_len: usize,
+        work: *mut u32,
+        work_len: usize,
+        query: *const f32,
+        query_len: usize,
+        first: *const u8,
+        first_len: usize,
+        second: *const u8,
+        second_len: usize,
+        other_first: *const u8,
+        other_first_len: usize,
+        other_second: *const u8,
+        other_second_len: usize,
+        k: usize,
+        ids: *mut u32,
+        ids_len: usize,
+        distances: *mut f32,
+        distances_len: usize,
+        answer: *mut usize,
+        answer_len: usize,
+    ) -> u32;
+
     pub fn curator_search(
         state: *const usize,
         state_len: usize,

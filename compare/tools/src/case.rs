@@ -49,18 +49,39 @@ impl Doc {
     }
 }
 
-/// A search: filtered where there is a label.
+/// A search: filtered where there is a label, for two labels where there is another (K1 of document 02). Another stands beside a label only.
 #[derive(Clone, Debug, PartialEq)]
 pub struct Query {
     pub vector: Vec<f32>,
     pub label: Option<Label>,
+    pub other: Option<Label>,
     pub k: usize,
 }
 
 impl Query {
-    /// The middle of the label.
-    pub fn half(&self) -> usize {
-        self.label.as_ref().map_or(0, |label| label.len() / 2)
+    /// The labels that are searched for.
+    pub fn labels(&self) -> impl Iterator<Item = &Label> {
+        self.label.iter().chain(&self.other)
+    }
+
+    /// The lengths of the names, 0 where there is none.
+    pub fn lengths(&self) -> [usize; 2] {
+        [&self.label, &self.other].map(|label| label.as_ref().map_or(0, |label| label.len()))
+    }
+
+    /// The middle of each name.
+    pub fn half(&self) -> [usize; 2] {
+        self.lengths().map(|length| length / 2)
+    }
+
+    /// The search for the first label alone.
+    pub fn alone(&self) -> Query {
+        Query { other: None, ..self.clone() }
+    }
+
+    /// The search for the two labels in the other order.
+    pub fn swapped(&self) -> Query {
+        Query { label: self.other.clone(), other: self.label.clone(), ..self.clone() }
     }
 }
 
@@ -82,10 +103,15 @@ impl Case {
         self.docs.iter().map(Doc::bytes).sum()
     }
 
+    /// Whether the document ids are all different.
+    pub fn ids_differ(&self) -> bool {
+        let mut ids: Vec<u32> = self.docs.iter().map(|doc| doc.id).collect();
+        all_different(&mut ids)
+    }
+
     /// Whether the document ids are all different and no label is repeated on a vector.
     pub fn plain(&self) -> bool {
-        let mut ids: Vec<u32> = self.docs.iter().map(|doc| doc.id).collect();
-        all_different(&mut ids) && self.docs.iter().all(|doc| all_different(&mut doc.labels.clone()))
+        self.ids_differ() && self.docs.iter().all(|doc| all_different(&mut doc.labels.clone()))
     }
 
     /// Whether every label of a document is text.

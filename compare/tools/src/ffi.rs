@@ -35,11 +35,12 @@ impl Added {
     }
 }
 
-/// What a search is given: a label's name where it is filtered.
+/// What a search is given: a label's name where it is filtered, and another's where it is for two labels.
 #[derive(Clone, Copy, Debug)]
 pub struct Asked<'a> {
     pub query: &'a [f32],
     pub label: Option<Name<'a>>,
+    pub other: Option<Name<'a>>,
     pub k: usize,
 }
 
@@ -152,13 +153,19 @@ pub fn search(state: &[usize], store: Store, work: &mut [u32], asked: Asked, fil
     let (dp, dl) = (filled.distances.as_mut_ptr(), filled.distances.len());
     let (ap, al) = (filled.answer.as_mut_ptr(), filled.answer.len());
     let k = asked.k;
-    match asked.label {
-        Some(Name { first: x, second: y }) => unsafe {
+    match (asked.label, asked.other) {
+        (Some(Name { first: x, second: y }), None) => unsafe {
             c::curator_search_filtered(
                 sp, sl, fp, fl, np, nl, hp, hl, tp, tl, wp, wl, qp, ql, x.as_ptr(), x.len(), y.as_ptr(), y.len(), k, ip, il, dp, dl, ap, al,
             )
         },
-        None => unsafe {
+        (Some(Name { first: x, second: y }), Some(Name { first: v, second: w })) => unsafe {
+            c::curator_search_both(
+                sp, sl, fp, fl, np, nl, hp, hl, tp, tl, wp, wl, qp, ql, x.as_ptr(), x.len(), y.as_ptr(), y.len(), v.as_ptr(), v.len(), w.as_ptr(), w.len(), k,
+                ip, il, dp, dl, ap, al,
+            )
+        },
+        (None, _) => unsafe {
             c::curator_search(sp, sl, fp, fl, np, nl, hp, hl, tp, tl, wp, wl, qp, ql, k, ip, il, dp, dl, ap, al)
         },
     }

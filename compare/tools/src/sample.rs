@@ -1,5 +1,5 @@
 //! Generated indexes that the program `echoes` takes, and what it must print of them.
-use crate::case::Case;
+use crate::case::{Case, Query};
 use crate::check::domain::{self, Domain};
 use crate::check::search::same_hits;
 use crate::echo;
@@ -16,12 +16,13 @@ pub const NODES: usize = 512;
 const PLACES: usize = 256;
 const LONGEST: usize = 65536;
 
-/// A case that `echoes` takes, with the searches on which ids and distances must be equal.
+/// A case that `echoes` takes, with the searches on which ids and distances must be equal; an echo file has none for two labels.
 pub fn sample(random: &mut Random) -> Option<(Case, Tree)> {
     let mut case = case(random, SIZES);
     let tree = Tree::build(&case);
     let plain = case.plain();
-    case.queries.retain(|query| query.k <= PLACES && domain::of(&walk(&tree, query), plain) == Domain::Whole);
+    let takes = |query: &Query| query.other.is_none() && query.k <= PLACES;
+    case.queries.retain(|query| takes(query) && domain::of(&walk(&tree, query), plain) == Domain::Whole);
     let fits = tree.nodes.len() <= NODES && echo::file(&case).len() <= LONGEST;
     let tells = case.queries.iter().any(|query| answer(&walk(&tree, query), query.k, |_| true).hits.len() > 1);
     (fits && tells).then_some((case, tree))

@@ -17,6 +17,7 @@ pub enum Call {
     Build,
     Filtered,
     Search,
+    Both,
 }
 
 impl Call {
@@ -26,6 +27,16 @@ impl Call {
             Call::Build => "build",
             Call::Filtered => "search_filtered",
             Call::Search => "search",
+            Call::Both => "search_both",
+        }
+    }
+
+    /// The labels of a query that the call searches for.
+    fn labels(self, query: &Query) -> [Option<&Label>; 2] {
+        match self {
+            Call::Both => [query.label.as_ref(), query.other.as_ref()],
+            Call::Filtered => [query.label.as_ref(), None],
+            _ => [None, None],
         }
     }
 }
@@ -166,11 +177,11 @@ pub fn builds(case: &Case, rounds: usize, size: usize) -> Times {
     times
 }
 
-/// The label is given in two halves.
-fn search_ours(ours: &mut Ours, query: &[f32], label: Option<&Label>) -> f64 {
+/// Each label is given in two halves.
+fn search_ours(ours: &mut Ours, query: &[f32], labels: [Option<&Label>; 2]) -> f64 {
     let (mut ids, mut distances, mut answer) = ([0; K], [0.0; K], [0; 3]);
-    let label = label.map(|label| Name::cut(label, label.len() / 2));
-    let asked = Asked { query, label, k: K };
+    let [label, other] = labels.map(|label| label.map(|label| Name::cut(label, label.len() / 2)));
+    let asked = Asked { query, label, other, k: K };
     let mut code = 0;
     let time = microseconds(|| {
         let filled = Filled { ids: &mut ids, distances: &mut distances, answer: &mut answer };
@@ -189,7 +200,25 @@ struct Theirs {
 }
 
 impl Theirs {
-    fn hits(&self, query: &[f32], label: Option<&str>) -> Vec<(u32, f32)> {
+    /// Two labels: the two searches with an unlimited k, joined on document id (K1 of document 02). The second's ids are marked in a list, which is clear before
+    /// and after; of the first's hits those that are marked stay, the first k of them.
+    fn joined(&self, query: &[f32], one: &str, two: &str, marks: &mut [bool]) -> Vec<(u32, f32)> {
+        let search = |label| self.index.search_filtered(query, usize::MAX, label).expect("search");
+        let (first, second) = (search(one), search(two));
+        second.iter().for_each(|hit| marks[hit.0 as usize] = true);
+        let hits = first.into_iter().filter(|hit| marks[hit.0 as usize]).take(K).collect();
+        second.iter().for_each(|hit| marks[hit.0 as usize] = false);
+        hits
+    }
+
+    fn hits(&self, query: &[f32], labels: [Option<&str>; 2], marks: &mut [bool]) -> Vec<(u32, f32)> {
+        match labels {
+            [Some(one), Some(two)] => self.joined(query, one, two, marks),
+            [label, _] => self.hits_of(query, label),
+        }
+    }
+
+    fn hits_of(&self, query: &[f32], label: Option<&str>) -> Vec<(u32, f32)> {
         let k = if self.gone.is_empty() { K } else { usize::MAX };
         let hits = match label {
             Some(label) => self.index.search_filtered(query, k, label),
@@ -203,19 +232,24 @@ impl Theirs {
     }
 }
 
-fn search_theirs(theirs: &Theirs, query: &[f32], label: Option<&Label>) -> f64 {
-    let label = label.map(|label| label.text().expect("text"));
-    microseconds(|| drop(black_box(theirs.hits(query, label))))
+fn texts(labels: [Option<&Label>; 2]) -> [Option<&str>; 2] {
+    labels.map(|label| label.map(|label| label.text().expect("text")))
+}
+
+fn search_theirs(theirs: &Theirs, query: &[f32], labels: [Option<&Label>; 2], marks: &mut [bool]) -> f64 {
+    let labels = texts(labels);
+    microseconds(|| drop(black_box(theirs.hits(query, labels, marks))))
 }
 
 /// Both sides must answer every query alike.
 fn compare_answers(case: &Case, call: Call, ours: &mut Ours, theirs: &Theirs) {
+    let mut marks = vec![false; case.docs.len()];
     for query in &case.queries {
-        let label = query.label.clone().filter(|_| call == Call::Filtered);
-        let query = Query { label, ..query.clone() };
+        let labels = call.labels(query);
+        let [label, other] = labels.map(|label| label.cloned());
+        let query = Query { label, other, ..query.clone() };
         let found = search(ours, &query, query.half()).expect("search");
-        let label = query.label.as_ref().map(|label| label.text().expect("text"));
-        assert!(same_hits(&found.hits, &theirs.hits(&query.vector, label)), "the answers differ");
+        assert!(same_hits(&found.hits, &theirs.hits(&query.vector, texts(labels), &mut marks)), "the answers differ");
     }
 }
 
@@ -233,12 +267,12 @@ fn built(case: &Case, gone: Vec<bool>) -> (Ours, Theirs) {
 fn searches(case: &Case, call: Call, rounds: usize, gone: Vec<bool>) -> Times {
     let (mut ours, theirs) = built(case, gone);
     compare_answers(case, call, &mut ours, &theirs);
-    let label = |i: usize| case.queries[i].label.as_ref().filter(|_| call == Call::Filtered);
-    let each = || case.queries.iter().enumerate().map(|(i, query)| (&query.vector[..], label(i)));
+    let each = || case.queries.iter().map(|query| (&query.vector[..], call.labels(query)));
+    let mut marks = vec![false; case.docs.len()];
     let mut times = Times::default();
     for _ in 0..rounds {
         times.ours.push(median(each().map(|(q, l)| search_ours(&mut ours, q, l)).collect()));
-        times.theirs.push(median(each().map(|(q, l)| search_theirs(&theirs, q, l)).collect()));
+        times.theirs.push(median(each().map(|(q, l)| search_theirs(&theirs, q, l, &mut marks)).collect()));
     }
     times
 }

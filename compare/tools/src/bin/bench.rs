@@ -1,5 +1,5 @@
 //! bench ROUNDS SVG: prints the tables in Markdown and writes the plot.
-use tools::bench::inputs::case;
+use tools::bench::inputs::{case, case_of_pairs};
 use tools::bench::measure::{measure, median, searches_of_the_rest, withdrawal, Call, Times};
 use tools::bench::page::{table, time, Row};
 use tools::bench::plot::{svg, Diagram, Line};
@@ -11,6 +11,9 @@ const GROWTH: &str = "Up to n 128 the root is the only leaf. A search opens at m
 nothing grows with `ef_search`, and ours goes over the nodes without a queue. A filtered search of ours checks every entry of a leaf \
 that it opens, as 01 has it; the Rust looks one hash up in the leaf's map. \
 The Rust's build looks for the leaf of every label entry anew.";
+const BOTH: &str =
+    "Two labels, of four that are drawn for each vector; the Rust makes the two filtered searches with an unlimited k, marks the second's \
+ids in a list and takes the first k of the first's hits that are marked:";
 const CALLS: [Call; 4] = [Call::Add, Call::Build, Call::Filtered, Call::Search];
 
 /// The rows that document the speed: every call at two sizes, filtered searches of an index that is one leaf, and searches that no `ef_search` cuts.
@@ -41,6 +44,16 @@ fn print_withdrawn(rounds: usize) {
     println!("A withdrawal takes {large} µs at n 4,096 and {small} µs at n 256; the Rust has none.\n");
 }
 
+/// Searches for two labels of four.
+fn print_both(rounds: usize) {
+    let row = |n: usize| Row {
+        words: vec![Call::Both.name().into(), n.to_string(), "4".into(), USUAL_EF.to_string()],
+        times: measure(&case_of_pairs(n, 4, USUAL_EF), Call::Both, rounds),
+    };
+    println!("{BOTH}\n");
+    println!("{}", table(&["call", "n", "labels a vector", "ef_search"], &[4096, 256].map(row)));
+}
+
 /// One call at each of some sizes.
 fn growth(call: Call, rounds: usize, sizes: &[(usize, usize)]) -> Vec<Times> {
     sizes.iter().map(|&(n, ef)| measure(&case(n, 1, ef), call, rounds)).collect()
@@ -58,6 +71,7 @@ fn lines(call: Call, xs: &[usize], times: &[Times]) -> Vec<Line> {
         Call::Build => "#c0392b",
         Call::Filtered => "#2471a3",
         Call::Search => "#1e8449",
+        Call::Both => "#b9770e",
     };
     let points = |side: fn(&Times) -> &Vec<f64>| -> Vec<(f64, f64)> {
         xs.iter().zip(times).map(|(&x, t)| (x as f64, median(side(t).clone()))).collect()
@@ -87,6 +101,7 @@ fn main() {
     let path = words.get(2).map_or("benchmarks.svg", |word| word);
     println!("## Times\n\n{}", table(&["call", "n", "labels a vector", "ef_search"], &main_rows(rounds)));
     print_withdrawn(rounds);
+    print_both(rounds);
     let sizes = [64, 128, 256, 512, 1024, 2048, 4096];
     let (by_n, first) = grown(&CALLS[1..], rounds / 2 + 1, &sizes, |n| (n, USUAL_EF), "n");
     println!("## How cost grows\n\n![Times by n and by ef_search](benchmarks.svg)\n");

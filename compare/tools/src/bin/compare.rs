@@ -1,5 +1,6 @@
 //! compare SEED COUNT: generated indexes through the static library against the original, the model and brute force.
 use tools::case::Case;
+use tools::check::both::Pairs;
 use tools::check::case::{check, Tally};
 use tools::check::shrink::shrink;
 use tools::generate::index::{case, fit, WHOLE};
@@ -17,7 +18,7 @@ fn report(number: usize, case: &Case, why: &str) {
 }
 
 fn summary(tally: &Tally) {
-    println!("searches: {} ({} whole, {} cut)", tally.searches, tally.whole, tally.cut);
+    println!("searches with a label or none: {} ({} whole, {} cut)", tally.searches, tally.whole, tally.cut);
     println!("  ids and distances equal to the original's: {}", tally.whole_domain);
     println!("  distances, and ids at unshared distances: {}", tally.distances);
     println!("  outside the domain of equality: {}", tally.outside);
@@ -31,6 +32,23 @@ fn summary(tally: &Tally) {
     println!("names parted twice: {} in adds, {} in searches", tally.taught.parted, tally.parted_searches);
     println!("builds refused for want of nodes: {}", tally.too_many);
     withdrawals(tally);
+    pairs(&tally.pairs);
+}
+
+fn pairs(pairs: &Pairs) {
+    println!("searches with two labels: {} ({} whole, {} cut)", pairs.searches, pairs.whole, pairs.cut);
+    println!(
+        "  whole, by the original's two searches with unlimited k and ef_search, joined: {} with ids and distances equal, {} with distances, and ids at \
+         unshared distances",
+        pairs.equal, pairs.distances
+    );
+    println!("  whole, equal to the brute-force first k: {}, {} of these without the original", pairs.whole, pairs.brute_alone);
+    println!(
+        "  with hits: {}; changed by the second label: {}; with at least 16 k hits found: {}",
+        pairs.hits, pairs.changed, pairs.of_many
+    );
+    println!("  with one label twice: {}; with two labels of one hash: {}", pairs.same, pairs.of_one_hash);
+    println!("  with hits, and changed by withdrawals: {}", pairs.withdrawn);
 }
 
 fn withdrawals(tally: &Tally) {

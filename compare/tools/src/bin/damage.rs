@@ -1,8 +1,9 @@
 //! damage SEED COUNT: calls on damaged indexes, their lists between guard pages, against the model.
 use std::collections::BTreeMap;
 use tools::case::Label;
+use tools::damage::both::{pair, search_both};
 use tools::damage::check::{self, Ended};
-use tools::damage::make::to_take_back;
+use tools::damage::make::{to_search_both, to_take_back};
 use tools::damage::names::label_hash;
 use tools::damage::pool::pool;
 use tools::damage::random_calls::{added, cut_twice, damaged, parted_otherwise, vector};
@@ -36,20 +37,28 @@ fn calls(random: &mut Random, ours: &Ours, labels: &[Label], codes: &mut Codes) 
         let query = vector(random, dimension);
         let k = if random.one_in(2) { random.below(4) } else { random.below(70) };
         let places = if random.one_in(20) { random.below(k + 1) } else { k + random.below(3) };
-        let all = Asked { query: &query, label: None, k };
+        let all = Asked { query: &query, label: None, other: None, k };
         note("search", check::search(ours, all, places)?);
-        let label = random.of(labels);
-        let [label, other] = cut_twice(random, label);
+        let labels = pair(random, labels);
+        let [label, parted] = cut_twice(random, labels[0]);
+        let [other, _] = cut_twice(random, labels[1]);
         note("search_filtered", check::search(ours, Asked { label, ..all }, places)?);
-        note("search_filtered, parted otherwise", check::search(ours, Asked { label: other, ..all }, places)?);
-        withdraw_and_search(random, ours, Asked { label, ..all }, &mut note)?;
+        note("search_filtered, parted otherwise", check::search(ours, Asked { label: parted, ..all }, places)?);
+        search_both(random, ours, labels, all, places, &mut note)?;
+        let moved = to_search_both(random, ours);
+        search_both(random, &moved, labels, all, places, &mut note)?;
+        withdraw_and_search(random, ours, Asked { label, other, ..all }, &mut note)?;
     }
     take_back(ours, 1, &mut note)?;
     take_back(&to_take_back(random, ours), random.from(1, 4), &mut note)?;
     let query = vector(random, dimension);
-    let asked = Asked { query: &query, label: None, k: random.below(5) };
+    let asked = Asked { query: &query, label: None, other: None, k: random.below(5) };
+    let [label, other] = pair(random, labels).map(|label| cut_twice(random, label)[0]);
     short_state(ours, &added(random, dimension), asked, random.below(STATE))?;
-    short_answer(ours, asked, random.below(3))
+    for asked in [asked, Asked { label, ..asked }, Asked { label, other, ..asked }] {
+        short_answer(ours, asked, random.below(3))?;
+    }
+    Ok(())
 }
 
 fn main() {

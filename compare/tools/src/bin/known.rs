@@ -10,7 +10,7 @@ const SHAPE: Shape = Shape { dimension: 1, branching: 2, leaf_size: 9, ef: 9, be
 /// Vectors that are all the same, with these ids.
 fn equal(ids: &[u32], k: usize) -> Case {
     let doc = |&id: &u32| Doc { id, vector: vec![1.0], labels: Vec::new() };
-    let query = Query { vector: vec![1.0], label: None, k };
+    let query = Query { vector: vec![1.0], label: None, other: None, k };
     Case { shape: SHAPE, docs: ids.iter().map(doc).collect(), queries: vec![query] }
 }
 
@@ -25,7 +25,7 @@ fn our_ids(case: &Case) -> Vec<u32> {
         ours.add(doc.id, &doc.vector, &doc.labels).expect("add");
     }
     ours.build().expect("build");
-    ids(&search(&mut ours, &case.queries[0], 0).expect("search").hits)
+    ids(&search(&mut ours, &case.queries[0], [0; 2]).expect("search").hits)
 }
 
 /// Whether ours answers as expected.
@@ -50,7 +50,7 @@ fn not_finite() -> bool {
 fn one_hash() -> Case {
     let labels = ["77kepQFQ8Kl", "!0IC=VloaY"];
     let doc = |(id, label): (u32, &str)| Doc { id, vector: vec![1.0], labels: vec![label.into()] };
-    let query = Query { vector: vec![1.0], label: Some(labels[1].into()), k: 3 };
+    let query = Query { vector: vec![1.0], label: Some(labels[1].into()), other: None, k: 3 };
     Case { shape: SHAPE, docs: vec![doc((5, labels[0])), doc((6, labels[1]))], queries: vec![query] }
 }
 

@@ -2,8 +2,9 @@
 //! of what is not held, and of what lies outside a list.
 use tools::case::Label;
 use tools::damage::bare::{Bare, BareLists};
+use tools::damage::both::pair;
 use tools::damage::check::{search_result, take_back_result, withdraw_result};
-use tools::damage::make::to_take_back;
+use tools::damage::make::{to_search_both, to_take_back};
 use tools::damage::random_calls::{added, cut_twice, damaged, vector};
 use tools::damage::withdraw::id;
 use tools::ffi::{self, Asked, Filled, Store, StoreMut};
@@ -60,12 +61,15 @@ fn calls(random: &mut Random, ours: &Ours, labels: &[Label]) -> bool {
     let (store, work) = store_mut(&mut lists);
     ffi::build(&mut state, store, work);
     let query = vector(random, ours.state[0]);
-    let all = Asked { query: &query, label: None, k: random.below(70) };
-    let label = random.of(labels);
-    let [label, _] = cut_twice(random, label);
+    let all = Asked { query: &query, label: None, other: None, k: random.below(70) };
+    let [label, second] = pair(random, labels).map(|label| cut_twice(random, label)[0]);
     let other = to_take_back(random, ours);
     let id = id(random, ours);
-    take_back(ours) && take_back(&other) && withdraw(ours, id) && search(ours, all) && search(ours, Asked { label, ..all })
+    let both = Asked { label, other: second, ..all };
+    let searches = [all, Asked { label, ..all }, both, Asked { label, other: label, ..all }];
+    let moved = to_search_both(random, ours);
+    let changes = take_back(ours) && take_back(&other) && withdraw(ours, id);
+    changes && searches.into_iter().all(|asked| search(ours, asked)) && search(&moved, both)
 }
 
 fn main() {

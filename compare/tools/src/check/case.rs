@@ -1,4 +1,5 @@
 //! All checks of one case.
+use super::both::{self, check_both, Pairs};
 use super::domain::{self, Domain};
 use super::layout;
 use super::names::{carried_on, cuts, seed};
@@ -29,6 +30,7 @@ pub struct Tally {
     pub taught: Times,
     pub parted_searches: usize,
     pub withdrawals: Withdrawals,
+    pub pairs: Pairs,
 }
 
 /// Of withdrawals: those that were accepted and refused after a build, and searches.
@@ -88,15 +90,15 @@ fn check_twin(ours: &Ours, twin: &mut Ours) -> Result<(), String> {
     need(same, || "parted otherwise, build: the store differs".into())
 }
 
-/// One search of both indexes, the name cut at two places.
+/// One search of both indexes, its names cut in two ways.
 fn search_twice(query: &Query, pair: &mut [Ours; 2], tally: &mut Tally) -> Result<Answer, String> {
     let [ours, twin] = pair;
     let [one, other] = cuts(query);
     let got = search(ours, query, one)?;
     let again = search(twin, query, other)?;
-    need(same(&got, &again), || format!("cut at {one} {got:?}, at {other} {again:?}"))?;
-    if let Some(label) = &query.label {
-        need(carried_on(label, one) && carried_on(label, other), || format!("the hash of {label:?}, cut at {one} or {other}"))?;
+    need(same(&got, &again), || format!("cut at {one:?} {got:?}, at {other:?} {again:?}"))?;
+    for (label, i) in query.labels().zip(0..) {
+        need(carried_on(label, one[i]) && carried_on(label, other[i]), || format!("the hash of {label:?}, cut at {one:?} or {other:?}"))?;
     }
     tally.parted_searches += usize::from(one != other);
     Ok(got)
@@ -124,12 +126,14 @@ fn check_original(plain: bool, walk: &Walk, got: &Answer, original: &[(u32, f32)
     Ok(domain)
 }
 
-/// What the searches of a case are compared with. The original is there where all labels are text.
+/// What the searches of a case are compared with. The original is there where all labels are text; with an unlimited `ef_search`, for searches for two labels,
+/// where the ids are all different too.
 struct References<'a> {
     case: &'a Case,
     tree: &'a Tree,
     plain: bool,
     theirs: Option<CuratorIndex>,
+    unlimited: Option<CuratorIndex>,
 }
 
 impl References<'_> {
@@ -158,27 +162,42 @@ fn count_withdrawals(query: &Query, walk: &Walk, got: &Answer, built: &Built, do
     }
 }
 
+/// A search for a label or for none against the original; returns in which domain it has confirmed the answer.
+fn check_one(
+    query: &Query,
+    walk: &Walk,
+    got: &Answer,
+    references: &References,
+    built: &Built,
+    tally: &mut Tally,
+) -> Result<Domain, String> {
+    let original = references.original(query, built);
+    let domain = match &original {
+        Some(original) => check_original(references.plain, walk, got, original, tally)?,
+        None => Domain::Outside,
+    };
+    tally.no_reference += usize::from(original.is_none());
+    tally.brute_alone += usize::from(original.is_none() && got.whole);
+    tally.whole += usize::from(got.whole);
+    tally.cut += usize::from(!got.whole);
+    tally.searches += 1;
+    Ok(domain)
+}
+
 /// One search of a walk that the model has made.
 fn check_search(query: &Query, walk: &Walk, references: &References, built: &mut Built, tally: &mut Tally) -> Result<(), String> {
     let got = search_twice(query, &mut built.pair, tally)?;
     let model = answer(walk, query.k, |vector| built.live[vector]);
     need(same(&got, &model), || format!("ours {got:?} model {model:?}"))?;
-    let original = references.original(query, built);
-    let domain = match &original {
-        Some(original) => check_original(references.plain, walk, &got, original, tally)?,
-        None => Domain::Outside,
-    };
-    tally.no_reference += usize::from(original.is_none());
     if got.whole {
         let first = brute_force(references.case, query, &built.live);
         need(same_hits(&got.hits, &first), || format!("ours {got:?} brute force {first:?}"))?;
-        tally.brute_alone += usize::from(original.is_none());
-        tally.whole += 1;
-    } else {
-        tally.cut += 1;
     }
+    let domain = match query.other {
+        None => check_one(query, walk, &got, references, built, tally)?,
+        Some(_) => check_both(query, walk, &got, references.tree, references.unlimited.as_ref(), built, &mut tally.pairs)?,
+    };
     count_withdrawals(query, walk, &got, built, domain, &mut tally.withdrawals);
-    tally.searches += 1;
     Ok(())
 }
 
@@ -209,7 +228,7 @@ pub fn check(case: &Case, tree: &Tree, tally: &mut Tally) -> Result<(), String> 
     check_build(ours, tree, lists, &live)?;
     check_twin(ours, twin)?;
     let theirs = case.has_text_alone().then(|| theirs::built(case));
-    let references = References { case, tree, plain: case.plain(), theirs };
+    let references = References { case, tree, plain: case.plain(), theirs, unlimited: both::unlimited(case) };
     let mut built = Built::new(case, pair, live);
     for query in &case.queries {
         check_query(query, &references, &mut built, tally)?;

@@ -1,4 +1,5 @@
 //! The checks of one case: the store after adds, takings back and withdrawals and after a build, each search against the model, the original and brute force.
+pub mod both;
 pub mod case;
 pub mod domain;
 pub mod layout;

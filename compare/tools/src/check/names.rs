@@ -39,10 +39,11 @@ pub fn seed(query: &Query) -> u64 {
     hash_bytes(&bytes)
 }
 
-/// Two places at which a search's name is cut, derived from the search alone.
-pub fn cuts(query: &Query) -> [usize; 2] {
-    let length = query.label.as_ref().map_or(0, |label| label.len());
-    places(&mut Random::new(seed(query)), length, length)
+/// Two ways in which a search's names are cut, a place for each name, derived from the search alone.
+pub fn cuts(query: &Query) -> [[usize; 2]; 2] {
+    let mut random = Random::new(seed(query));
+    let [one, two] = query.lengths().map(|length| places(&mut random, length, length));
+    [[one[0], two[0]], [one[1], two[1]]]
 }
 
 /// Whether the library's hash of the first part, carried on through the second, is that of the name.

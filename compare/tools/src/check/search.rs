@@ -1,5 +1,5 @@
-//! One search of ours, with the name cut at a place, and the places behind the hits looked at.
-use crate::case::Query;
+//! One search of ours, with each name cut at a place, and the places behind the hits looked at.
+use crate::case::{Label, Query};
 use crate::ffi::{Asked, Filled};
 use crate::ours::{done, Answer, Ours};
 use crate::parting::Name;
@@ -7,15 +7,24 @@ use crate::parting::Name;
 const OLD_ID: u32 = 0xDEAD_BEEF;
 const OLD_DISTANCE: f32 = -77.0;
 
-/// Searches; the parts of the name stand in lists of their own. The answer lists are longer than k, and every place from the hit count on must keep what it
-/// held.
-pub fn search(ours: &mut Ours, query: &Query, at: usize) -> Result<Answer, String> {
+/// A name's parts, in lists of their own.
+type Parts = Option<[Vec<u8>; 2]>;
+
+fn parts(label: &Option<Label>, at: usize) -> Parts {
+    label.as_ref().map(|label| [label[..at].to_vec(), label[at..].to_vec()])
+}
+
+fn name(parts: &Parts) -> Option<Name<'_>> {
+    parts.as_ref().map(|[first, second]| Name { first, second })
+}
+
+/// Searches. The answer lists are longer than k, and every place from the hit count on must keep what it held.
+pub fn search(ours: &mut Ours, query: &Query, at: [usize; 2]) -> Result<Answer, String> {
     let places = query.k + 2;
     let (mut ids, mut distances) = (vec![OLD_ID; places], vec![OLD_DISTANCE; places]);
     let mut answer = [usize::MAX; 3];
-    let parts = query.label.as_ref().map(|label| [label[..at].to_vec(), label[at..].to_vec()]);
-    let label = parts.as_ref().map(|[first, second]| Name { first, second });
-    let asked = Asked { query: &query.vector, label, k: query.k };
+    let (one, two) = (parts(&query.label, at[0]), parts(&query.other, at[1]));
+    let asked = Asked { query: &query.vector, label: name(&one), other: name(&two), k: query.k };
     let filled = Filled { ids: &mut ids, distances: &mut distances, answer: &mut answer };
     done(ours.search(asked, filled)).map_err(|n| format!("search refused {n}"))?;
     let [count, opened, whole] = answer;

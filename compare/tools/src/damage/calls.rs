@@ -117,12 +117,16 @@ pub fn build(ours: &Ours) -> Result<Left, String> {
     lent.left(code)
 }
 
+fn lent_name(parts: &Option<[Guarded<u8>; 2]>) -> Option<Name<'_>> {
+    parts.as_ref().map(|[first, second]| Name { first: first.get(), second: second.get() })
+}
+
 pub fn search(ours: &Ours, asked: Asked, places: usize) -> Result<Left, String> {
     let mut lent = Lent::new(ours, places);
-    let parts = asked.label.map(|name| [Guarded::new(name.first), Guarded::new(name.second)]);
-    let label = parts.as_ref().map(|[first, second]| Name { first: first.get(), second: second.get() });
+    let [one, two] = [asked.label, asked.other].map(|name| name.map(|name| [Guarded::new(name.first), Guarded::new(name.second)]));
+    let (label, other) = (lent_name(&one), lent_name(&two));
     let store = Store { floats: lent.floats.get(), numbers: lent.numbers.get(), hashes: lent.hashes.get(), text: lent.text.get() };
     let filled = Filled { ids: lent.ids.get_mut(), distances: lent.distances.get_mut(), answer: lent.answer.get_mut() };
-    let code = ffi::search(lent.state.get(), store, lent.work.get_mut(), Asked { label, ..asked }, filled);
+    let code = ffi::search(lent.state.get(), store, lent.work.get_mut(), Asked { label, other, ..asked }, filled);
     lent.left(code)
 }

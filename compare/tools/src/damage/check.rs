@@ -3,7 +3,7 @@ use super::calls::{self, Left, OLD};
 use crate::check::layout::{expected, put_one, same_added, same_lists, same_store};
 use crate::ffi::{Added, Asked};
 use crate::model::refusal::{self, Lent, State};
-use crate::model::search::answer;
+use crate::model::search::{answer, Sought};
 use crate::model::store::View;
 use crate::model::tree::{Names, Stored, Tree};
 use crate::ours::{Answer, Lists, Ours, STATE};
@@ -38,13 +38,17 @@ pub fn search_result(ours: &Ours, asked: Asked, places: usize) -> (u32, Option<A
     if let Some(number) = refusal::search(&state, Lent::of(&ours.lists), asked, places) {
         return (number, None);
     }
-    let store = ours.lists.lend();
-    let label = asked.label.map(|name| name.joined());
-    let view = View { state, store };
-    match view.walk(asked.query, label.as_deref()) {
+    let [label, other] = joined(asked);
+    let view = View { state, store: ours.lists.lend() };
+    match view.walk(asked.query, Sought::of(label.as_deref(), other.as_deref())) {
         Ok(walk) => (0, Some(answer(&walk, asked.k, |vector| view.live(vector)))),
         Err(_) => (15, None),
     }
+}
+
+/// The names that are searched for.
+pub fn joined(asked: Asked) -> [Option<Vec<u8>>; 2] {
+    [asked.label, asked.other].map(|name| name.map(|name| name.joined()))
 }
 
 pub fn search(ours: &Ours, asked: Asked, places: usize) -> Checked {

@@ -92,6 +92,19 @@ fn damage_label(random: &mut Random, ours: &mut Ours) {
     (numbers[s.starts() + at], numbers[s.lengths() + at]) = (start, length);
 }
 
+/// Entries of a built index in other leaves: two exchange their places in the leaf order, or one gets another's owner.
+fn move_entries(random: &mut Random, ours: &mut Ours) {
+    let (s, entries) = (ours.shape(), ours.state[9]);
+    let order = 2 * s.vectors + s.entries + 7 * s.nodes;
+    for _ in 0..if entries == 0 { 0 } else { times(random, entries) } {
+        let (at, other) = (random.below(entries), random.below(entries));
+        match random.below(4) {
+            0 => ours.lists.numbers[s.vectors + at] = ours.lists.numbers[s.vectors + other],
+            _ => ours.lists.numbers.swap(order + at, order + other),
+        }
+    }
+}
+
 /// Starts and lengths of a few entries, and bytes of the text, held or not.
 fn damage_text(random: &mut Random, ours: &mut Ours) {
     for _ in 0..random.below(4) {
@@ -142,6 +155,9 @@ pub fn damaged(random: &mut Random, case: &Case) -> Ours {
     }
     if !random.one_in(3) {
         ours.build().expect("build");
+    }
+    if ours.state[11] == 1 && random.one_in(3) {
+        move_entries(random, &mut ours);
     }
     if random.one_in(2) {
         damage_numbers(random, &mut ours);
@@ -211,6 +227,35 @@ pub fn to_take_back(random: &mut Random, ours: &Ours) -> Ours {
         ours.lists.numbers[state.shape.vectors + entry] = owner;
         if starts {
             ours.lists.numbers[state.shape.starts() + entry] = start(random, state.bytes);
+        }
+    }
+    ours
+}
+
+/// Every leaf has the entries of all leaves, or of some, so that what is given may be one hit too many.
+fn share_entries(random: &mut Random, ours: &mut Ours) {
+    let (s, entries) = (ours.shape(), ours.state[9]);
+    let least = if random.one_in(2) { entries } else { random.from(0, entries) };
+    for node in 0..ours.state[10] {
+        let six = 2 * s.vectors + s.entries + 6 * node;
+        if ours.lists.numbers[six + 1] == 0 {
+            ours.lists.numbers[six + 4] = 0;
+            ours.lists.numbers[six + 5] = random.from(least, entries) as u32;
+        }
+    }
+}
+
+/// A copy to search for two labels: where it can be searched, entries stand in other leaves or in several, and no filter denies anything, so that these are
+/// read.
+pub fn to_search_both(random: &mut Random, ours: &Ours) -> Ours {
+    let mut ours = ours.clone();
+    let state = State::of(&ours.state);
+    let s = &state.shape;
+    if state.sound() && state.built == 1 && ours.lists.numbers.len() >= s.numbers() && ours.lists.hashes.len() >= s.hashes() {
+        ours.lists.hashes[s.entries..s.hashes()].fill(u64::MAX);
+        match random.below(3) {
+            0 => share_entries(random, &mut ours),
+            _ => move_entries(random, &mut ours),
         }
     }
     ours

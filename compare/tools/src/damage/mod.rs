@@ -1,5 +1,6 @@
 //! Damaged stores: random numbers in any part of the store and of the state.
 pub mod bare;
+pub mod both;
 pub mod calls;
 pub mod check;
 pub mod guard;

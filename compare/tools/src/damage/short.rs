@@ -3,6 +3,7 @@ use super::guard::Guarded;
 use crate::ffi::{self, Added, Asked, Filled};
 use crate::model::refusal::{self, Lent, State};
 use crate::ours::{Ours, STATE};
+use crate::parting::Name;
 
 /// The number that a search returns with a state of so many places and an answer list of so many.
 fn search(ours: &Ours, asked: Asked, places: usize, state: usize, answer: usize) -> Result<u32, String> {
@@ -28,8 +29,11 @@ pub fn short_state(ours: &Ours, added: &Added, asked: Asked, places: usize) -> R
     let withdraw = ffi::withdraw(state.get(), copy.lists.lend_mut().0, added.id);
     let mut work = ours.lists.work.clone();
     let build = ffi::build(state.get_mut(), copy.lists.lend_mut().0, &mut work);
-    let codes = [add, take_back, withdraw, build, search(ours, asked, asked.k, places, 3)?];
-    if codes == [4; 5] && state.get() == &ours.state[..places] && state.intact() {
+    let name = Name { first: &added.bytes, second: &[] };
+    let search = |label, other| search(ours, Asked { label, other, ..asked }, asked.k, places, 3);
+    let searches = [search(None, None)?, search(Some(name), None)?, search(Some(name), Some(name))?];
+    let codes = [add, take_back, withdraw, build, searches[0], searches[1], searches[2]];
+    if codes == [4; 7] && state.get() == &ours.state[..places] && state.intact() {
         return Ok(());
     }
     Err(format!("a state of {places} places: {codes:?}"))

@@ -56,9 +56,12 @@ pub fn withdraw_and_search(
         let id = id(random, &left);
         left = withdraw(&left, id, note)?;
     }
-    note("search after withdrawals", check::search(&left, Asked { label: None, ..asked }, asked.k)?);
+    note("search after withdrawals", check::search(&left, Asked { label: None, other: None, ..asked }, asked.k)?);
     if asked.label.is_some() {
-        note("search_filtered after withdrawals", check::search(&left, asked, asked.k)?);
+        note("search_filtered after withdrawals", check::search(&left, Asked { other: None, ..asked }, asked.k)?);
+    }
+    if asked.other.is_some() {
+        note("search_both after withdrawals", check::search(&left, asked, asked.k)?);
     }
     Ok(())
 }

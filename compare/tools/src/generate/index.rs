@@ -1,5 +1,6 @@
 //! Random cases: settings, documents and searches within the limits of document 01.
 use super::labels;
+use super::pairs;
 use super::vectors::Maker;
 use crate::case::{Case, Doc, Label, Query};
 use crate::model::refusal::MOST_TEXT;
@@ -35,6 +36,7 @@ pub fn case(random: &mut Random, most: Most) -> Case {
     let entries: usize = docs.iter().map(|doc: &Doc| doc.labels.len()).sum();
     let mut case = Case { shape: shape(random, dimension, n, entries, most), docs, queries };
     case.shape.text = room_for_text(&case, most.text);
+    pairs::put(&mut case, &maker, &pool);
     case
 }
 
@@ -114,23 +116,32 @@ fn ids(random: &mut Random, n: usize) -> Vec<u32> {
     }
 }
 
-fn query(random: &mut Random, maker: &Maker, pool: &[Label], docs: &[Doc]) -> Query {
-    let vector = match random.below(3) {
+/// What is asked about: a document's vector, or another.
+pub fn heard(random: &mut Random, maker: &Maker, docs: &[Doc]) -> Vec<f32> {
+    match random.below(3) {
         0 => random.of(docs).vector.clone(),
         _ => maker.vector(random),
-    };
+    }
+}
+
+/// How many hits are asked for: few, all, or any number.
+pub fn limit(random: &mut Random, n: usize) -> usize {
+    match random.below(5) {
+        0 => random.below(3),
+        1 => n + random.below(3),
+        2 => 5,
+        _ => random.from(0, n),
+    }
+}
+
+fn query(random: &mut Random, maker: &Maker, pool: &[Label], docs: &[Doc]) -> Query {
+    let vector = heard(random, maker, docs);
     let label = match random.below(7) {
         0..=2 => None,
         3 => Some("absent".into()),
         _ => Some(random.of(pool).clone()),
     };
-    let k = match random.below(5) {
-        0 => random.below(3),
-        1 => docs.len() + random.below(3),
-        2 => 5,
-        _ => random.from(0, docs.len()),
-    };
-    Query { vector, label, k }
+    Query { vector, label, other: None, k: limit(random, docs.len()) }
 }
 
 fn shape(random: &mut Random, dimension: usize, n: usize, entries: usize, most: Most) -> Shape {

@@ -1,4 +1,5 @@
 //! Random cases.
 pub mod index;
 pub mod labels;
+pub mod pairs;
 pub mod vectors;

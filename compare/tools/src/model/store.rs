@@ -1,9 +1,9 @@
-//! Calls over the numbers of a store, whatever they are: a search ('Search' and 'Search's 15' of document 01; labels by their bytes, live marks, K4 and K10 of
-//! document 02), how many entries a taking back takes, and how many bytes it leaves (K3, K4), and which vectors a withdrawal reaches (K10).
+//! Calls over the numbers of a store, whatever they are: a search ('Search' and 'Search's 15' of document 01; labels by their bytes, live marks, two labels,
+//! K4, K10 and K1 of document 02), how many entries a taking back takes, and how many bytes it leaves (K3, K4), and which vectors a withdrawal reaches (K10).
 use super::label::Filter;
 use super::number::{distance, normalized};
 use super::refusal::State;
-use super::search::{Walk, Wanted};
+use super::search::{Sought, Walk, Wanted};
 use crate::ffi::Store;
 
 /// The store is damaged: refusal 15.
@@ -38,11 +38,10 @@ impl View<'_> {
         Ok((0..count).map(|i| self.number(base + start + i)).collect())
     }
 
-    fn denies(&self, node: usize, wanted: Option<Wanted>) -> bool {
+    fn denies(&self, node: usize, sought: Sought) -> bool {
         let at = self.state.shape.entries + 4 * node;
         let words = &self.store.hashes[at..at + 4];
-        let filter = Filter([words[0], words[1], words[2], words[3]]);
-        wanted.is_some_and(|label| filter.denies(label.hash))
+        sought.denied_by(&Filter([words[0], words[1], words[2], words[3]]))
     }
 
     /// The children of a node.
@@ -65,23 +64,37 @@ impl View<'_> {
         Ok(self.store.text[start..start + length] == *label.bytes)
     }
 
-    /// The vectors that a leaf gives.
-    fn given(&self, node: usize, wanted: Option<Wanted>) -> Result<Vec<usize>, Damaged> {
+    /// The owners of a label's entries in a list. Each number of the list is an entry's.
+    fn owners_in(&self, list: &[usize], label: Wanted) -> Result<Vec<usize>, Damaged> {
+        let mut owners = Vec::new();
+        for &entry in list {
+            if self.is(entry, label)? {
+                owners.push(self.number(self.state.shape.vectors + entry));
+            }
+        }
+        Ok(owners)
+    }
+
+    /// The vectors that a leaf gives. Of two labels: the first's whose owner has an entry of the second in the leaf's list, or, where an entry of the second
+    /// `anywhere` counts, among all that are held; that is no search's definition.
+    fn given(&self, node: usize, sought: Sought, anywhere: bool) -> Result<Vec<usize>, Damaged> {
         let s = &self.state.shape;
         let at = 2 * s.vectors + s.entries + 6 * node;
-        let Some(label) = wanted else {
+        let Some(label) = sought.label else {
             let list = self.list(at + 2, s.vectors + s.entries, self.state.vectors)?;
             return below(list, self.state.vectors);
         };
         let order = 2 * s.vectors + s.entries + 7 * s.nodes;
         let entries = below(self.list(at + 4, order, self.state.entries)?, self.state.entries)?;
-        let owners = entries.iter().map(|&entry| self.number(s.vectors + entry)).collect();
-        let owners = below(owners, self.state.vectors)?;
-        let mut given = Vec::new();
-        for (entry, owner) in entries.into_iter().zip(owners) {
-            if self.is(entry, label)? {
-                given.push(owner);
+        below(entries.iter().map(|&entry| self.number(s.vectors + entry)).collect(), self.state.vectors)?;
+        let mut given = self.owners_in(&entries, label)?;
+        if let Some(other) = sought.other {
+            let mut there = self.owners_in(&entries, other)?;
+            if anywhere {
+                let whole = |&entry: &usize| self.is(entry, other).is_ok();
+                there = self.owners_in(&(0..self.state.entries).filter(whole).collect::<Vec<_>>(), other)?;
             }
+            given.retain(|owner| there.contains(owner));
         }
         Ok(given)
     }
@@ -147,10 +160,18 @@ impl View<'_> {
         self.owners()[..kept].iter().any(|&owner| owner as usize == self.state.vectors - 1)
     }
 
-    pub fn walk(&self, query: &[f32], label: Option<&[u8]>) -> Result<Walk, Damaged> {
-        let wanted = label.map(Wanted::of);
+    pub fn walk(&self, query: &[f32], sought: Sought) -> Result<Walk, Damaged> {
+        self.walk_where(query, sought, false)
+    }
+
+    /// What a walk would give if an entry of the second label counted wherever it stands.
+    pub fn walk_anywhere(&self, query: &[f32], sought: Sought) -> Result<Walk, Damaged> {
+        self.walk_where(query, sought, true)
+    }
+
+    fn walk_where(&self, query: &[f32], sought: Sought, anywhere: bool) -> Result<Walk, Damaged> {
         let q = normalized(query);
-        let most = if wanted.is_some() { self.state.entries } else { self.state.vectors };
+        let most = if sought.label.is_some() { self.state.entries } else { self.state.vectors };
         let mut pushed = vec![false; self.state.nodes];
         pushed[0] = true;
         let mut waiting = vec![self.near(&q, 0)];
@@ -162,13 +183,13 @@ impl View<'_> {
             }
             let node = super::search::take_least(&mut waiting).expect("a node waits");
             walk.opened += 1;
-            if self.denies(node, wanted) {
+            if self.denies(node, sought) {
                 continue;
             }
             let children = self.children(node)?;
             if children.is_empty() {
                 let hit = |v: usize| (self.store.numbers[v], distance(&q, self.vector(v)), v);
-                walk.raw.extend(self.given(node, wanted)?.into_iter().map(hit));
+                walk.raw.extend(self.given(node, sought, anywhere)?.into_iter().map(hit));
             }
             if walk.raw.len() > most {
                 return Err(Damaged);
