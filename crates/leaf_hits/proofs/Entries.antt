@@ -8,9 +8,8 @@ use lib.ListN.{length, getD}
 use borrow.Author.Tests.{ltb-true, not-true, not-false}
 use Rattle.lists.specs.Parts.{four-mapped}
 use Rattle.lists.specs.Lists.{part}
-use Rattle.lists.specs.Tests.{allPass, and-left, and-right, allPass-nil, allPass-cons}
+use Rattle.lists.specs.Tests.{allPass, and-left, and-right, and-false, allPass-cons, allPass-and}
 use Rattle.leaf_hits.specs.Gathering.{allPass-one}
-use Rattle.lists.specs.Tests.{and-false}
 
 -- as `all_below` joins them
 abbrev pub allFour : (ℕ → Bool) → ℕ → ℕ → ℕ → ℕ → Bool
@@ -22,19 +21,6 @@ allPass-four p a b c d =
     ∙ ap (λ (t : Bool). p a && t)
     (allPass-cons p b (c ∷ d ∷ []) ∙ ap (λ (t : Bool). p b && t) (allPass-cons p c (d ∷ []) ∙ ap (λ (t : Bool). p c && t) (allPass-one p d (p d) refl)))
 
--- a list passes two tests at once if it passes both
-and-swap : (a b c d : Bool) → ((a && b) && (c && d)) ≡ ((a && c) && (b && d))
-and-swap true true c d = refl
-and-swap true false true d = refl
-and-swap true false false d = refl
-and-swap false b c d = refl
-
-allPass-both : (p q : ℕ → Bool) (l : List ℕ) → allPass (λ x. p x && q x) l ≡ (allPass p l && allPass q l)
-allPass-both p q [] = allPass-nil (λ x. p x && q x) ∙ sym (ap₂ _&&_ (allPass-nil p) (allPass-nil q))
-allPass-both p q (x ∷ xs) =
-    allPass-cons (λ x. p x && q x) x xs ∙ ap (λ (t : Bool). (p x && q x) && t) (allPass-both p q xs) ∙ and-swap (p x) (q x) (allPass p xs) (allPass q xs)
-    ∙ sym (ap₂ _&&_ (allPass-cons p x xs) (allPass-cons q x xs))
-
 -- four numbers that stand at a place
 pub four-read : (numbers : List ℕ) (at a b c d : ℕ) → at + 4 ≤ length numbers → a ≡ getD numbers at 0 → b ≡ getD numbers (at + 1) 0 → c ≡ getD numbers (at + 2) 0
     → d ≡ getD numbers (at + 3) 0 → a ∷ b ∷ c ∷ d ∷ [] ≡ part at 4 numbers
@@ -45,7 +31,7 @@ four-read numbers at a b c d room first second third fourth =
 module _ (p q : ℕ → Bool) (l : List ℕ) (a b c d : ℕ) (is : a ∷ b ∷ c ∷ d ∷ [] ≡ l) where
   both : allPass (λ x. p x && q x) l ≡ (allFour p a b c d && allFour q a b c d)
   both =
-      ap (allPass (λ x. p x && q x)) (sym is) ∙ allPass-both p q (a ∷ b ∷ c ∷ d ∷ []) ∙ ap₂ _&&_ (allPass-four p a b c d) (allPass-four q a b c d)
+      ap (allPass (λ x. p x && q x)) (sym is) ∙ allPass-and p q (a ∷ b ∷ c ∷ d ∷ []) ∙ ap₂ _&&_ (allPass-four p a b c d) (allPass-four q a b c d)
 
   pub first-fails : (r : Bool) → r ≡ allFour p a b c d → not r ≡ true → allPass (λ x. p x && q x) l ≡ false
   first-fails r e f = both ∙ ap (λ (t : Bool). t && allFour q a b c d) (sym e ∙ not-true r f)
