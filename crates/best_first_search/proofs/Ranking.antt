@@ -26,7 +26,7 @@ use Rattle.store.specs.declared.Counts.{Counts}
 use Rattle.store.specs.Store.{live_marks}
 use Rattle.walk.specs.StoreView.{hit_at}
 use Rattle.walk.specs.Answer.{document_of, vector_of, distance_of, is_live, drop_after, drop_repeats, listed}
-use Rattle.walk.specs.AnswerLaws.{drop-nil, drop-same, drop_other}
+use Rattle.walk.proofs.AnswerLaws.{drop-nil, drop-same, drop_other}
 use Rattle.hit_queue.specs.declared.answer.Taken.{Taken}
 use Rattle.hit_queue.specs.Promises.{hits_of, within, hits_from, Measure, MeasureLent, Measured, PoppedBehind, QueuedAgain, ranked_queue, Takes}
 use Rattle.hit_queue.specs.QueueLaws.{repeats_after, document_popped, key-is, rest-same, measure-rest, numbers-same, measure-fewer}

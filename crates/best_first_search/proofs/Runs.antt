@@ -18,7 +18,7 @@ use Rattle.record_queue.specs.Sorted.{sort, insert, inserts, Least, Sorted}
 use Rattle.record_queue.specs.SortedLaws.{le_or_lt, insert_le, insert_gt, insert-least, inserts-nil, inserts-cons, inserts-insert, sort-cons, sort-append, sort-append_comm, sort-keep, sort_sorted, least_mem}
 use Rattle.record_queue.specs.RecordsLaws.{same_or_not}
 use Rattle.walk.specs.Answer.{document_of, drop_after, drop_repeats}
-use Rattle.walk.specs.AnswerLaws.{drop-nil, drop-same, drop_other}
+use Rattle.walk.proofs.AnswerLaws.{drop-nil, drop-same, drop_other}
 use Rattle.hit_queue.specs.QueueLaws.{repeats_after}
 
 -- ---- runs

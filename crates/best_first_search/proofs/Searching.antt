@@ -15,9 +15,9 @@ use Rattle.store.specs.declared.Shape.{Shape}
 use Rattle.store.specs.Store.{Limits, hits_at, work_size}
 use Rattle.store.specs.declared.Counts.{Counts}
 use Rattle.walk.specs.Walk.{View, Progress, State, damaged, going, walk}
-use Rattle.walk.specs.WalkLaws.{found-most}
+use Rattle.walk.proofs.WalkLaws.{found-most}
 use Rattle.walk.specs.Answer.{document_of, distance_of, drop_repeats, listed, ranked, answer}
-use Rattle.walk.specs.AnswerLaws.{ranked-is}
+use Rattle.walk.proofs.AnswerLaws.{ranked-is}
 use Rattle.lists.specs.Tests.{all_pass}
 use Rattle.walk.specs.Promises.{Answers, SearchEnds}
 use Rattle.walk.specs.Wanted as Wanted

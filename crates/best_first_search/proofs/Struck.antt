@@ -22,7 +22,7 @@ use Rattle.record_queue.specs.RecordsLaws.{same_or_not}
 use Rattle.store.specs.declared.Shape.{Shape}
 use Rattle.walk.specs.StoreView.{hit_at}
 use Rattle.walk.specs.Answer.{document_of, vector_of, is_live, drop_after, drop_repeats, listed}
-use Rattle.walk.specs.AnswerLaws.{drop-nil, drop-same, drop_other}
+use Rattle.walk.proofs.AnswerLaws.{drop-nil, drop-same, drop_other}
 use Rattle.hit_queue.specs.QueueLaws.{repeats_after}
 use Rattle.best_first_search.specs.Ranks.{withdrawn, CountWithdrawn}
 

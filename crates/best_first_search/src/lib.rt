@@ -1,4 +1,6 @@
 // The search over a lent store: a walk, and the first k live ones of its hits (document 01, 'Search'; 02, K10).
+#![tactic(auto)]
+
 pub mod rank;
 
 ghost use Rattle.store.specs.Lent.{lent};

@@ -12,7 +12,7 @@ use hit_queue::queue::measure;
 use store::{Counts, Shape, wide};
 
 // What is kept of a queue: how many hits, and a key up to which there are k documents among them; the highest of all keys, if there are not.
-#[derive(Drop)]
+#[derive(Clone, Copy)]
 struct Kept {
     count: usize,
     bound: u32,

@@ -17,17 +17,17 @@ use Rattle.store.specs.declared.Shape.{Shape}
 use Rattle.store.specs.Store.{Limits, marks_at}
 use Rattle.store.specs.declared.Counts.{Counts}
 use Rattle.walk.specs.Walk.{View, waiting_node, Progress, damaged, going, walk, walk_from, Shown, shown, give, children, damage}
-use Rattle.walk.specs.WalkLaws.{pushed_one}
-use Rattle.walk.specs.DifferentLaws.{Once, ChildrenBelow, once-push, different-below}
+use Rattle.walk.proofs.WalkLaws.{pushed_one}
+use Rattle.walk.proofs.DifferentLaws.{Once, ChildrenBelow, once-push, different-below}
 use Rattle.walk.specs.Promises.{Works}
 use Rattle.waiting_nodes.specs.Promises.{insert_each, PushedNodes}
 use Rattle.waiting_nodes.specs.PushLaws.{insert_each-nil, insert_each-one, insert_each-append, length-insert_each}
 use Rattle.best_first_walk.specs.Walks.{Represents}
 use Rattle.best_first_walk.specs.MarkLaws.{mark_tells, works-marked}
 use Rattle.best_first_walk.specs.ChildLaws.{child_test, push_checked, checked_give, checked_nil, checked_fails, checked_again, checked_fresh}
-use Rattle.walk.specs.KeysLaws.{waiting-length}
+use Rattle.walk.proofs.KeysLaws.{waiting-length}
 use Rattle.best_first_walk.proofs.Steps.{represents_length, represents_marked, represents_pushed, with_waiting, works-pushed}
-use Rattle.walk.specs.LentLaws.{works_refl, works_trans}
+use Rattle.walk.proofs.LentLaws.{works_refl, works_trans}
 use Rattle.best_first_walk.proofs.Walking.{Waits, Opens, nodes_fit, damage-ends}
 
 -- ---- the loop

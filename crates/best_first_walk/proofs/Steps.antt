@@ -26,15 +26,15 @@ use Rattle.lists.specs.Tests.{all_pass, all_pass-nil}
 use Rattle.walk.specs.Wanted.{Sought}
 use Rattle.store.specs.declared.Counts.{Counts}
 use Rattle.walk.specs.Walk.{View, waiting_node, node_number, Progress}
-use Rattle.walk.specs.WalkLaws.{opened_one, added_hits}
-use Rattle.walk.specs.DifferentLaws.{Once, node_numbers}
+use Rattle.walk.proofs.WalkLaws.{opened_one, added_hits}
+use Rattle.walk.proofs.DifferentLaws.{Once, node_numbers}
 use Rattle.store.specs.Lent.{store_of}
 use Rattle.walk.specs.Promises.{Works}
 use Rattle.waiting_nodes.specs.Promises.{insert_each, PushedNodes}
 use Rattle.waiting_nodes.specs.PushLaws.{insert_each-one}
 use Rattle.best_first_walk.specs.MarkLaws.{marked-one, marked-none, found_unmarked, works-root, finds-same, marked-found, finds-more}
 use Rattle.best_first_walk.specs.Walks.{found_in, found_at, found_part, Represents, BeginsWalk}
-use Rattle.walk.specs.LentLaws.{works_trans, works-front}
+use Rattle.walk.proofs.LentLaws.{works_trans, works-front}
 
 -- ---- a node is marked, and nodes are pushed
 

@@ -18,17 +18,17 @@ use Rattle.store.specs.declared.Shape.{Shape}
 use Rattle.store.specs.Store.{Limits, hits_at}
 use Rattle.store.specs.declared.Counts.{Counts}
 use Rattle.walk.specs.Walk.{View, Progress, State, damaged, going, walk, walk_from, Shown, shown, give, hits, damage, none, whole}
-use Rattle.walk.specs.WalkLaws.{opened_one, added_hits, start_progress, walk_is, walk-suc, walk-zero, step_open, some-waiting, nil-waiting, give-damage}
-use Rattle.walk.specs.BudgetLaws.{none_stays, damaged_stays}
-use Rattle.walk.specs.DifferentLaws.{Once, ChildrenBelow, once-kept, once-start, different-below}
+use Rattle.walk.proofs.WalkLaws.{opened_one, added_hits, start_progress, walk_is, walk-suc, walk-zero, step_open, some-waiting, nil-waiting, give-damage}
+use Rattle.walk.proofs.BudgetLaws.{none_stays, damaged_stays}
+use Rattle.walk.proofs.DifferentLaws.{Once, ChildrenBelow, once-kept, once-start, different-below}
 use Rattle.walk.specs.Promises.{Works}
 use Rattle.leaf_hits.specs.Promises.{Gathered, GatherDamage}
 use Rattle.best_first_walk.specs.Walks.{found_in, found_part, Represents, BeginsWalk, WalkEnds}
-use Rattle.walk.specs.KeysLaws.{waiting-length}
+use Rattle.walk.proofs.KeysLaws.{waiting-length}
 use Rattle.best_first_walk.specs.MarkLaws.{works-found}
 use Rattle.best_first_walk.specs.GatherLaws.{gather_damages, gather_room, gather_adds}
 use Rattle.best_first_walk.proofs.Steps.{represents_length, popped_waits, represents_opened, represents_hits, popped_number, least-below, works_popped}
-use Rattle.walk.specs.LentLaws.{works_refl, works_trans}
+use Rattle.walk.proofs.LentLaws.{works_refl, works_trans}
 use Rattle.best_first_walk.specs.declared.Walked.TheVariants as walked
 
 pub record Walking (s : Shape) (c : Counts) (hit : ℕ → ℕ) (view : View) (ef : ℕ) (work₀ : List ℕ) (p : Progress) (work : List ℕ) (waiting found opened : ℕ) : Type 0 where

@@ -8,7 +8,7 @@ use Rattle.store.specs.declared.Shape.{Shape}
 use Rattle.store.specs.declared.Counts.{Counts}
 use Rattle.store.specs.Store.{Store, marks_at}
 use Rattle.walk.specs.Walk.{View, Progress, State, damaged, going, give, push_all, children, damage}
-use Rattle.walk.specs.WalkLaws.{pushed_one, give-damage, give-children, push_all-nil, push_all-fresh, push_all_again}
+use Rattle.walk.proofs.WalkLaws.{pushed_one, give-damage, give-children, push_all-nil, push_all-fresh, push_all_again}
 use Rattle.walk.specs.StoreView.{children_shown}
 
 -- what a child has to pass

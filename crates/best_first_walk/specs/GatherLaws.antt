@@ -8,10 +8,10 @@ use Rattle.store.specs.declared.Shape.{Shape}
 use Rattle.store.specs.declared.Counts.{Counts}
 use Rattle.store.specs.Store.{Store}
 use Rattle.walk.specs.Wanted.{Sought, EntryRead, passes, given, most}
-use Rattle.walk.specs.WantedLaws.{given-held}
+use Rattle.walk.proofs.WantedLaws.{given-held}
 use Rattle.walk.specs.StoreView.{store_view}
 use Rattle.walk.specs.Walk.{View, Progress, damaged, going, give, hits, damage}
-use Rattle.walk.specs.WalkLaws.{added_hits, give-damage, give-hits, give_over}
+use Rattle.walk.proofs.WalkLaws.{added_hits, give-damage, give-hits, give_over}
 use Rattle.leaf_hits.specs.Promises.{Gathered, GatherDamage}
 
 -- how many hits a store's view allows

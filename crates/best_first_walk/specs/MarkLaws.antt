@@ -16,7 +16,7 @@ use Rattle.store.specs.declared.Shape.{Shape}
 use Rattle.store.specs.declared.Counts.{Counts}
 use Rattle.store.specs.Store.{Limits, marks_at, hits_at, work_size}
 use Rattle.walk.specs.Promises.{Works}
-use Rattle.walk.specs.LentLaws.{works_trans, works-sets}
+use Rattle.walk.proofs.LentLaws.{works_trans, works-sets}
 use Rattle.best_first_walk.specs.Walks.{hits_part, found_in, found_at, found_part, FindsVectors}
 
 -- ---- the marks

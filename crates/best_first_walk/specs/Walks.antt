@@ -9,7 +9,7 @@ use Rattle.store.specs.Lent.{store_of}
 use Rattle.store.specs.Store.{Store, CountsWithin, floats_size, work_size, marks_at, hits_at}
 use Rattle.store.specs.declared.Counts.{Counts}
 use Rattle.best_first_walk.specs.declared.Walked.{Walked}
-use Rattle.walk.specs.WalkLaws.{start_progress}
+use Rattle.walk.proofs.WalkLaws.{start_progress}
 use Rattle.walk.specs.Walk.{View, Progress, State, damaged, going, walk, whole}
 use Rattle.walk.specs.Wanted.{Sought}
 use Rattle.walk.specs.StoreView.{hit_at, store_view}

@@ -1,4 +1,6 @@
 // The best-first walk over a lent store, whatever numbers stand in it (document 01, 'Search').
+#![tactic(auto)]
+
 ghost use Rattle.std.specs.Prelude.{◌≡◌, ◌&&◌, ◌+◌, ◌≤◌, ltb, eqb, length, get_or, replicate, ◌++◌};
 ghost use Rattle.store.specs.Store.{Limits};
 ghost use Rattle.store.specs.Lent.{lent};
@@ -15,7 +17,7 @@ use walk::look::{Look, look_at};
 use wanted_hits::add_hits;
 
 // How a walk ended: with vectors found, each of them a hit, or at damage. It is whole if no node waited.
-#[derive(Drop)]
+#[derive(Clone, Copy)]
 pub enum Walked {
     Ended {
         hits: usize,

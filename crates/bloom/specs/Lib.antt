@@ -1,6 +1,2 @@
 -- The filter (document 01, 'Filter'), its laws, those of pooling (02, K6), and trial values.
 pub mod Filter
-pub mod FilterLaws
-pub mod PoolLaws
-pub mod Pooling
-pub mod Trials

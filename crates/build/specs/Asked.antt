@@ -12,7 +12,7 @@ use Rattle.curator.specs.Rows.{first_of, state_row, build_rows}
 use Rattle.store.specs.declared.Lengths.{Lengths}
 use Rattle.curator.specs.Calls.{facts_of}
 use Rattle.store.specs.Lent.{lengths_of}
-use Rattle.curator.specs.StateLaws.{Sound}
+use Rattle.curator.proofs.StateLaws.{Sound}
 
 -- 'Build's 15: an owner not below n', by the numbers alone
 unfoldable pub owners_bad : CuratorIndex → List ℕ → Bool

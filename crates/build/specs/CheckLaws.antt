@@ -20,8 +20,8 @@ use Rattle.curator.specs.Limits.{state_sound, index_shape}
 use Rattle.curator.specs.Rows.{Row, row, first_of, state_row, build_rows}
 use Rattle.store.specs.declared.Lengths.{Lengths}
 use Rattle.store.specs.Lent.{lists_short, lengths_of}
-use Rattle.curator.specs.RowLaws.{FirstAt, refusal_at, refused_first, fine_none, no_rows, row-stops, row-passes, rows_then}
-use Rattle.curator.specs.StateLaws.{sound_facts}
+use Rattle.curator.proofs.RowLaws.{FirstAt, refusal_at, refused_first, fine_none, no_rows, row-stops, row-passes, rows_then}
+use Rattle.curator.proofs.StateLaws.{sound_facts}
 use Rattle.curator.specs.Calls.{held_entries}
 use Rattle.curator.specs.Changes.{free_of, Left, owners_damaged, too_many_nodes, build_check}
 use Rattle.build.specs.Asked.{owners_bad, build_checked, BuildReady}

@@ -9,14 +9,14 @@ use Rattle.store.specs.Store.{Store, owners_at}
 use Rattle.store.specs.Lent.{lengths_of}
 use Rattle.cluster.specs.VectorsLaws.{length-vectors_in}
 use Rattle.tree.specs.Tree.{tree_of, size}
-use Rattle.tree.specs.LayoutLaws.{NodesFit, nodes_of-fit}
+use Rattle.tree.proofs.LayoutLaws.{NodesFit, nodes_of-fit}
 use Rattle.settings.specs.declared.Check.TheVariants.{Fine}
 use Rattle.curator.specs.declared.CuratorIndex.{CuratorIndex}
 use Rattle.curator.specs.Limits.{index_shape}
 use Rattle.curator.specs.Calls.{held_vectors, held_entries, splitting_of}
 use Rattle.curator.specs.Changes.{too_many_nodes, build_check, held_nodes}
 use Rattle.curator.specs.Rows.{Row}
-use Rattle.curator.specs.RowLaws.{NoneHolds, none_fine, fine_none}
+use Rattle.curator.proofs.RowLaws.{NoneHolds, none_fine, fine_none}
 use Rattle.build.specs.Asked.{BuildReady}
 use Rattle.build.specs.CheckLaws.{early_build_rows, full_row, check-rows, checked_rows, ready}
 use Rattle.build.specs.WrittenLaws.{held-vectors-are}

@@ -13,11 +13,11 @@ use Rattle.store.specs.declared.Shape.{Shape}
 use Rattle.store.specs.Store.{Store, centroids_at, order_at, nodes_at, links_at, entry_order_at, filters_at}
 use Rattle.tree.specs.Tree.{tree_of, size}
 use Rattle.tree.specs.Nodes.{Entries, Node, nodes_of}
-use Rattle.tree.specs.NodeLaws.{length-nodes_of, length_ids, length-links}
-use Rattle.tree.specs.NodeEntryLaws.{length-entries}
-use Rattle.tree.specs.NumberedNodes.{nodes_of-four, nodes_of-wide}
+use Rattle.tree.proofs.NodeLaws.{length-nodes_of, length_ids, length-links}
+use Rattle.tree.proofs.NodeEntryLaws.{length-entries}
+use Rattle.tree.proofs.NumberedNodes.{nodes_of-four, nodes_of-wide}
 use Rattle.tree.specs.Layout.{six_from, numbers_of, hashes_of, floats_of}
-use Rattle.tree.specs.LayoutLaws.{length_blocks, length-six_from, numbers-order, numbers-six, numbers-links, numbers-entries, floats-centroids}
+use Rattle.tree.proofs.LayoutLaws.{length_blocks, length-six_from, numbers-order, numbers-six, numbers-links, numbers-entries, floats-centroids}
 use Rattle.store.specs.declared.Counts.{Counts}
 use Rattle.lists.specs.Tests.{all_pass}
 use Rattle.curator.specs.declared.Changed.{Changed}

@@ -9,7 +9,7 @@ use Rattle.std.proofs.Math.ListN.{take}
 use Rattle.lists.specs.Frame.{Before, freed_drop}
 use Rattle.store.specs.declared.Shape.{Shape}
 use Rattle.store.specs.Store.{Store, starts_at, lengths_at, live_at}
-use Rattle.tree.specs.LayoutLaws.{NodesFit, numbers-behind}
+use Rattle.tree.proofs.LayoutLaws.{NodesFit, numbers-behind}
 use Rattle.settings.specs.declared.Check.{Check}
 use Rattle.settings.specs.declared.Check.TheVariants.{Fine, Refused}
 use Rattle.settings.specs.declared.refusal.Refusal.{Refusal}

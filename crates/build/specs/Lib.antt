@@ -9,5 +9,3 @@ pub mod HeldLaws
 pub mod LabelLaws
 -- the filters of inner nodes after a build (02, K6)
 pub mod Pooled
-pub mod PooledLaws
-pub mod Pools

@@ -16,9 +16,9 @@ use Rattle.cluster.specs.Vectors.{vectors_in}
 use Rattle.cluster.specs.VectorsLaws.{length-vectors_in}
 use Rattle.tree.specs.Tree.{tree_of, size}
 use Rattle.tree.specs.Nodes.{Entries, Node, nodes_of}
-use Rattle.tree.specs.NodeLaws.{length-nodes_of, length_ids}
+use Rattle.tree.proofs.NodeLaws.{length-nodes_of, length_ids}
 use Rattle.tree.specs.Layout.{six_from, numbers_of, hashes_of, floats_of}
-use Rattle.tree.specs.LayoutLaws.{length-six_from}
+use Rattle.tree.proofs.LayoutLaws.{length-six_from}
 use Rattle.tree.specs.Made.{made_from}
 use Rattle.build_tree.specs.declared.Made.{Made}
 use Rattle.build_tree.specs.Promises.{Whole, Overfull}

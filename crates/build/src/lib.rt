@@ -1,6 +1,8 @@
 // The entry point `build`: what it asks, the tree, and the finishing passes (document 01, 'Calls').
+#![tactic(auto)]
+
 ghost use Rattle.curator.specs.Changes.{Builds};
-ghost use Rattle.store.specs.Lent.{lent};
+ghost use Rattle.store.specs.Lent.{store_of};
 
 mod check;
 mod make;
@@ -18,9 +20,9 @@ pub fn build(
     text: &[u8],
     work: &mut [u32],
 ) -> Changed
-    ensures { Builds index (lent floats.entry numbers.entry hashes.entry text.entry) work.old
+    ensures { Builds index (store_of floats.old numbers.old hashes.old text.now) work.old
         result
-        (lent floats.exit numbers.exit hashes.exit text.entry) work.new }
+        (store_of floats.new numbers.new hashes.new text.now) work.new }
 {
     let lent = Lengths {
         floats: floats.len(),

@@ -2,7 +2,7 @@
 ghost use Rattle.std.specs.Prelude.{◌≡◌};
 ghost use Rattle.curator.specs.Calls.{built_with};
 ghost use Rattle.curator.specs.Changes.{Builds};
-ghost use Rattle.store.specs.Lent.{lent};
+ghost use Rattle.store.specs.Lent.{store_of};
 ghost use Rattle.build.specs.Asked.{BuildReady};
 
 use build_tree::Made;
@@ -35,10 +35,10 @@ pub fn make_index(
     text: &[u8],
     work: &mut [u32],
 ) -> Changed
-    requires { BuildReady index (lent floats numbers hashes text) work.old }
-    ensures { Builds index (lent floats.entry numbers.entry hashes.entry text.entry) work.old
+    requires { BuildReady index (store_of floats.old numbers.old hashes.old text.now) work.old }
+    ensures { Builds index (store_of floats.old numbers.old hashes.old text.now) work.old
         result
-        (lent floats.exit numbers.exit hashes.exit text.entry) work.new }
+        (store_of floats.new numbers.new hashes.new text.now) work.new }
 {
     let shape = limits::shape_of(index);
     let held = index.counts;

@@ -8,6 +8,7 @@ use crate::print::{
     number_of, print_answer, print_floats, print_hashes, print_kept, print_numbers,
 };
 use curator::{Changed, CuratorIndex};
+use std::io;
 
 // Where the free or written places of each list end; they start at 8, 8, 4 and 0. Nothing is free after 4, 3, 12 and of a built index; work after 15.
 fn free_ends(index: CuratorIndex, number: u32) -> Lent {
@@ -28,15 +29,22 @@ fn free_ends(index: CuratorIndex, number: u32) -> Lent {
 }
 
 // The node parts: centroids; leaf order of vectors, six per node, child links, leaf order of entries; filters.
-fn print_nodes(index: CuratorIndex, floats: &[f32; 50], numbers: &[u32; 156], hashes: &[u64; 78]) {
+fn print_nodes(
+    rt: &impl Print,
+    index: CuratorIndex,
+    floats: &[f32; 50],
+    numbers: &[u32; 156],
+    hashes: &[u64; 78],
+) -> io::Result<()> {
     let m = at_most(index.capacities.nodes, 18);
-    print_floats(floats, 8, 8 + 2 * m);
-    print_numbers(numbers, 8, starts_at(index.capacities.nodes));
-    print_hashes(hashes, 4, 4 + 4 * m);
+    print_floats(rt, floats, 8, 8 + 2 * m)?;
+    print_numbers(rt, numbers, 8, starts_at(index.capacities.nodes))?;
+    print_hashes(rt, hashes, 4, 4 + 4 * m)
 }
 
 // The answer, and whether the lists are kept.
 fn print_end(
+    rt: &impl Print,
     index: CuratorIndex,
     answer: Changed,
     garbage: Garbage,
@@ -44,21 +52,28 @@ fn print_end(
     numbers: &[u32; 156],
     hashes: &[u64; 78],
     work: &[u32; 68],
-) {
+) -> io::Result<()> {
     let mut before = held_numbers(index.capacities.nodes);
     overwrite(&mut before, garbage);
     let free = free_ends(index, number_of(answer));
-    print_answer(answer);
+    print_answer(rt, answer)?;
     print_kept(
+        rt,
         same_floats(floats, &held_floats(), 8, free.floats)
             & same_numbers(numbers, &before, 8, free.numbers)
             & same_hashes(hashes, &held_hashes(), 4, free.hashes)
             & same_numbers(work, &[900u32; 68], 0, free.work),
-    );
+    )
 }
 
 // A build of the held store: its answer, what it keeps and, if asked, the node parts.
-pub fn try_build(index: CuratorIndex, lent: Lent, garbage: Garbage, shown: bool) {
+pub fn try_build(
+    rt: &impl Print,
+    index: CuratorIndex,
+    lent: Lent,
+    garbage: Garbage,
+    shown: bool,
+) -> io::Result<()> {
     let f = at_most(lent.floats, 50);
     let n = at_most(lent.numbers, 156);
     let h = at_most(lent.hashes, 78);
@@ -78,13 +93,16 @@ pub fn try_build(index: CuratorIndex, lent: Lent, garbage: Garbage, shown: bool)
         &text[..t],
         &mut work[..w],
     );
-    print_end(index, answer, garbage, &floats, &numbers, &hashes, &work);
+    print_end(
+        rt, index, answer, garbage, &floats, &numbers, &hashes, &work,
+    )?;
     if shown {
-        print_nodes(index, &floats, &numbers, &hashes);
+        print_nodes(rt, index, &floats, &numbers, &hashes)?;
     }
+    Ok(())
 }
 
 // With two places to spare in each list.
-pub fn plain(index: CuratorIndex) {
-    try_build(index, sizes(index.capacities.nodes, 2), none(), false);
+pub fn plain(rt: &impl Print, index: CuratorIndex) -> io::Result<()> {
+    try_build(rt, index, sizes(index.capacities.nodes, 2), none(), false)
 }

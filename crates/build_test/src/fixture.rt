@@ -6,7 +6,7 @@ use settings::{Capacities, CuratorParams};
 use store::Counts;
 
 // How many places of each list are lent.
-#[derive(Drop)]
+#[derive(Clone, Copy)]
 pub struct Lent {
     pub floats: usize,
     pub numbers: usize,
@@ -16,7 +16,7 @@ pub struct Lent {
 }
 
 // A number written into the numbers beforehand; a place past the end writes nothing.
-#[derive(Drop)]
+#[derive(Clone, Copy)]
 pub struct Garbage {
     pub place: usize,
     pub value: u32,

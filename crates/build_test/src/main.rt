@@ -9,6 +9,8 @@
 //
 // The expected lines are reasoned from 01: sizes and limits from 'The store', numbers and their order from 'Refusals and what they leave', what is
 // written from 'Clusters', 'Tree', 'Entries' and 'Filter' by hand. The hashes of `a` and `b` are published FNV-1a values.
+#![tactic(auto)]
+
 use call::{plain, try_build};
 use compare::{same_floats, same_hashes, same_numbers};
 use curator::{Changed, CuratorIndex};
@@ -17,6 +19,7 @@ use lengths::list_lengths;
 use owners::owners;
 use print::{print_answer, print_kept};
 use states::states;
+use std::io;
 
 mod call;
 mod compare;
@@ -27,15 +30,15 @@ mod print;
 mod states;
 
 // Row 12, also where an owner is not below n.
-fn empty() {
-    plain(example(1, 5, 0, 0));
-    plain(example(1, 5, 0, 3));
-    plain(example(1, 5, 1, 0));
-    plain(example(1, 5, 1, 1));
+fn empty(rt: &impl Print) -> io::Result<()> {
+    plain(rt, example(1, 5, 0, 0))?;
+    plain(rt, example(1, 5, 0, 3))?;
+    plain(rt, example(1, 5, 1, 0))?;
+    plain(rt, example(1, 5, 1, 1))
 }
 
 // Built, and built again over the lists that the first build left.
-fn again(index: CuratorIndex) {
+fn again(rt: &impl Print, index: CuratorIndex) -> io::Result<()> {
     let mut floats = held_floats();
     let mut numbers = held_numbers(index.capacities.nodes);
     let mut hashes = held_hashes();
@@ -51,7 +54,7 @@ fn again(index: CuratorIndex) {
         &mut work,
     );
     let Changed::Index(built) = made else {
-        return;
+        return Ok(());
     };
     let floats_left = floats;
     let numbers_left = numbers;
@@ -65,35 +68,36 @@ fn again(index: CuratorIndex) {
         text,
         &mut work,
     );
-    print_answer(answer);
+    print_answer(rt, answer)?;
     print_kept(
+        rt,
         same_floats(&floats, &floats_left, 0, 0)
             & same_numbers(&numbers, &numbers_left, 0, 0)
             & same_hashes(&hashes, &hashes_left, 0, 0)
             & same_numbers(&work, &work_left, 0, 0),
-    );
+    )
 }
 
 // Row 13.
-fn nodes() {
-    plain(example(1, 1, 3, 3));
-    plain(example(1, 4, 3, 3));
-    try_build(example(1, 5, 3, 3), sizes(5, 2), none(), true);
-    try_build(example(1, 6, 3, 3), sizes(6, 2), none(), true);
-    plain(example(2, 2, 3, 3));
-    plain(example(2, 3, 3, 3));
-    plain(example(2, 4, 3, 3));
-    plain(example(3, 1, 3, 3));
-    plain(example(0, 16, 1, 1));
-    plain(example(0, 17, 1, 1));
-    plain(example(0, 18, 1, 1));
+fn nodes(rt: &impl Print) -> io::Result<()> {
+    plain(rt, example(1, 1, 3, 3))?;
+    plain(rt, example(1, 4, 3, 3))?;
+    try_build(rt, example(1, 5, 3, 3), sizes(5, 2), none(), true)?;
+    try_build(rt, example(1, 6, 3, 3), sizes(6, 2), none(), true)?;
+    plain(rt, example(2, 2, 3, 3))?;
+    plain(rt, example(2, 3, 3, 3))?;
+    plain(rt, example(2, 4, 3, 3))?;
+    plain(rt, example(3, 1, 3, 3))?;
+    plain(rt, example(0, 16, 1, 1))?;
+    plain(rt, example(0, 17, 1, 1))?;
+    plain(rt, example(0, 18, 1, 1))
 }
 
-fn main() {
-    states();
-    list_lengths();
-    empty();
-    owners();
-    nodes();
-    again(example(1, 5, 3, 3));
+fn main(rt: HostRuntime) -> io::Result<()> {
+    states(&rt)?;
+    list_lengths(&rt)?;
+    empty(&rt)?;
+    owners(&rt)?;
+    nodes(&rt)?;
+    again(&rt, example(1, 5, 3, 3))
 }

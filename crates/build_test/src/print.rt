@@ -1,79 +1,56 @@
 // The number and the counts of an answer, and parts of the lists.
 use curator::Changed;
-use libc::STDOUT_FILENO;
-
-fn wide(n: u32) -> u64 {
-    n as u64
-}
+use std::io;
 
 pub fn number_of(answer: Changed) -> u32 {
     match answer {
         Changed::Refused(refusal) => refusal.number(),
-        Changed::Index(index) => 0,
+        Changed::Index(_) => 0,
     }
 }
 
-fn print_number(n: u64) {
-    io::write_all(STDOUT_FILENO, b" ");
-    io::print_decimal(STDOUT_FILENO, n);
-}
-
-pub fn print_answer(answer: Changed) {
-    io::print_decimal(STDOUT_FILENO, wide(number_of(answer)));
+pub fn print_answer(rt: &impl Print, answer: Changed) -> io::Result<()> {
+    print!(rt; "{}", number_of(answer))?;
     if let Changed::Index(index) = answer {
-        print_number(index.counts.vectors as u64);
-        print_number(index.counts.entries as u64);
-        print_number(index.counts.nodes as u64);
+        let counts = index.counts;
+        print!(rt; " {} {} {}", counts.vectors, counts.entries, counts.nodes)?;
         if index.built {
-            io::write_all(STDOUT_FILENO, b" built");
+            print!(rt; " built")?;
         } else {
-            io::write_all(STDOUT_FILENO, b" unbuilt");
+            print!(rt; " unbuilt")?;
         }
     }
+    Ok(())
 }
 
-pub fn print_kept(kept: bool) {
+pub fn print_kept(rt: &impl Print, kept: bool) -> io::Result<()> {
     if kept {
-        io::write_all(STDOUT_FILENO, b" kept\n");
+        println!(rt; " kept")
     } else {
-        io::write_all(STDOUT_FILENO, b" changed\n");
+        println!(rt; " changed")
     }
 }
 
-pub fn print_floats(list: &[f32], from: usize, to: usize) {
-    io::write_all(STDOUT_FILENO, b"floats");
-    let mut i = from;
-    while i < to {
-        if i < list.len() {
-            io::write_all(STDOUT_FILENO, b" ");
-            io::print_hex(STDOUT_FILENO, float_bits::to_bits(list[i]) as u64, 8);
-        }
-        i += 1;
+pub fn print_floats(rt: &impl Print, list: &[f32], from: usize, to: usize) -> io::Result<()> {
+    print!(rt; "floats")?;
+    for x in list.iter().take(to).skip(from) {
+        print!(rt; " {:08x}", float_bits::to_bits(*x))?;
     }
-    io::write_all(STDOUT_FILENO, b"\n");
+    println!(rt; "")
 }
 
-pub fn print_numbers(list: &[u32], from: usize, to: usize) {
-    io::write_all(STDOUT_FILENO, b"numbers");
-    let mut i = from;
-    while i < to {
-        if i < list.len() {
-            print_number(wide(list[i]));
-        }
-        i += 1;
+pub fn print_numbers(rt: &impl Print, list: &[u32], from: usize, to: usize) -> io::Result<()> {
+    print!(rt; "numbers")?;
+    for n in list.iter().take(to).skip(from) {
+        print!(rt; " {n}")?;
     }
-    io::write_all(STDOUT_FILENO, b"\n");
+    println!(rt; "")
 }
 
-pub fn print_hashes(list: &[u64], from: usize, to: usize) {
-    io::write_all(STDOUT_FILENO, b"hashes");
-    let mut i = from;
-    while i < to {
-        if i < list.len() {
-            io::write_all(STDOUT_FILENO, b" ");
-            io::print_hex(STDOUT_FILENO, list[i], 1);
-        }
-        i += 1;
+pub fn print_hashes(rt: &impl Print, list: &[u64], from: usize, to: usize) -> io::Result<()> {
+    print!(rt; "hashes")?;
+    for hash in list.iter().take(to).skip(from) {
+        print!(rt; " {hash:x}")?;
     }
-    io::write_all(STDOUT_FILENO, b"\n");
+    println!(rt; "")
 }

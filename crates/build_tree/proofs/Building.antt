@@ -16,9 +16,9 @@ use Rattle.cluster.specs.Vectors.{vectors_in}
 use Rattle.waiting_groups.specs.Waiting.{headed, encoded, group_at, sixes, leaves}
 use Rattle.waiting_groups.specs.WaitingLaws.{length-headed}
 use Rattle.build_tree.specs.Promises.{splitting_with, TreeLent, Waits, MadeNode, Built}
-use Rattle.build_tree.specs.Standing.{Standing, order-length, standing_begin, standing_lent}
-use Rattle.build_tree.specs.StandingStep.{next-waits, standing_step}
-use Rattle.build_tree.specs.StandingEnd.{built-whole, built-overfull}
+use Rattle.build_tree.proofs.Standing.{Standing, order-length, standing_begin, standing_lent}
+use Rattle.build_tree.proofs.StandingStep.{next-waits, standing_step}
+use Rattle.build_tree.proofs.StandingEnd.{built-whole, built-overfull}
 use Rattle.build_tree.specs.declared.Made.TheVariants as Made'
 
 module _ {s : Shape} {n order : ℕ} {floats₀ : List Float} {numbers₀ numbers₁ work₀ : List ℕ} (lent : TreeLent s n floats₀ numbers₀ work₀)

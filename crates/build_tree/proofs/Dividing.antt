@@ -22,7 +22,7 @@ use Rattle.kmeans.specs.Promises.{Clustered}
 use Rattle.cluster.specs.ClustersLaws.{perm_clusters, length-clusters}
 use Rattle.waiting_groups.specs.Waiting.{non_empty_list, headed, sorted}
 use Rattle.waiting_groups.specs.WaitingLaws.{sorted-clusters, length-joined-headed}
-use Rattle.build_tree.specs.Standing.{vectors-end, centres-end}
+use Rattle.build_tree.proofs.Standing.{vectors-end, centres-end}
 use Rattle.build_tree.specs.Promises.{TreeLent, Splits, Clustering, Divided}
 
 -- fewer centres fit

@@ -2,3 +2,7 @@
 pub mod Dividing
 pub mod Stepping
 pub mod Building
+pub mod MadeLaws
+pub mod Standing
+pub mod StandingEnd
+pub mod StandingStep

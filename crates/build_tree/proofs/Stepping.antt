@@ -20,11 +20,11 @@ use Rattle.lists.specs.Frame.{AlikeBut, alike_refl, alike_widen}
 use Rattle.cluster.specs.VectorsLaws.{vectors_in-front}
 use Rattle.tree.specs.Tree.{Splitting}
 use Rattle.tree.specs.Layout.{start_of}
-use Rattle.tree.specs.Steps.{Group, is_leaf, child_groups, child_groups_leaf}
+use Rattle.tree.proofs.Steps.{Group, is_leaf, child_groups, child_groups_leaf}
 use Rattle.waiting_groups.specs.Waiting.{non_empty_list, headed, encoded, group_at, leaf_by, stands, six}
 use Rattle.waiting_groups.specs.WaitingLaws.{group_size, group_levels, head_cleared, leaf_by_size, inner_levels, children-encoded, children-count}
-use Rattle.build_tree.specs.MadeLaws.{own_leaf, own_inner}
-use Rattle.build_tree.specs.Standing.{vectors-end, centroid-end, centres-end}
+use Rattle.build_tree.proofs.MadeLaws.{own_leaf, own_inner}
+use Rattle.build_tree.proofs.Standing.{vectors-end, centroid-end, centres-end}
 use Rattle.build_tree.specs.Promises.{splitting_with, TreeLent, Waits, Splits, Divided, MadeNode}
 use Rattle.build_tree.proofs.Dividing.{lent_by_ends, length-headed-clusters}
 

@@ -1,6 +1,2 @@
 -- The build of a tree, one node at a time: what waits, and what the functions write.
 pub mod Promises
-pub mod MadeLaws
-pub mod Standing
-pub mod StandingStep
-pub mod StandingEnd

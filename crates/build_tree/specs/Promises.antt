@@ -11,7 +11,7 @@ use Rattle.tree.specs.Tree.{Splitting, tree_of, size}
 use Rattle.tree.specs.Nodes.{Entries, nodes_of}
 use Rattle.tree.specs.Layout.{floats_of}
 use Rattle.tree.specs.Made.{made_from}
-use Rattle.tree.specs.Steps.{Group}
+use Rattle.tree.proofs.Steps.{Group}
 use Rattle.waiting_groups.specs.Waiting.{non_empty_list, headed, own, stands, six}
 use Rattle.build_tree.specs.declared.Made.{Made}
 use Rattle.build_tree.specs.declared.Made.TheVariants as Made'

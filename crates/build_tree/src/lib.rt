@@ -1,5 +1,7 @@
 // The tree of an index, made node by node (document 01, 'Tree'). While it is being made, what waits stands in the store's own parts: the leaf order
 // holds first the leaves made so far and then the groups that wait to become nodes, left to right, each with a header in its first place.
+#![tactic(auto)]
+
 ghost use Rattle.std.specs.Prelude.{◌+◌};
 ghost use Rattle.store.specs.Store.{order_at};
 ghost use Rattle.waiting_groups.specs.Waiting.{group_at};
@@ -11,7 +13,7 @@ use waiting_groups::{begin, is_leaf, take_header};
 pub mod split;
 
 // What a build comes to: how many nodes were made, or that the tree has more than the store has room for.
-#[derive(Drop)]
+#[derive(Clone, Copy)]
 pub enum Made {
     Nodes(usize),
     TooMany,

@@ -9,7 +9,7 @@ ghost use Rattle.centre_blocks.specs.Blocks.{four_list, lanes, stepped, column};
 use distance::Four;
 
 // One value for each of sixteen centres.
-#[derive(Drop)]
+#[derive(Clone, Copy)]
 pub struct Sixteen {
     pub a: Four,
     pub b: Four,

@@ -1,5 +1,7 @@
 // The nearest of centres that are laid out in blocks of sixteen: a vector is compared with sixteen
 // centres side by side.
+#![tactic(auto)]
+
 pub mod lanes;
 pub mod layout;
 

@@ -8,7 +8,8 @@ use lib.Seq.{sets, drop-length, drop-cons, take-take, drop-drop, drop-set-lt, ge
 use Rattle.lists.specs.Lists.{part}
 use Rattle.lists.specs.Counting.{sum_of}
 use Rattle.lists.specs.Parts.{part-cons, part-set-before, drop-take, sets-append, sets_comm}
-use Rattle.tree.specs.Links.{Linked, link_up, length-linked}
+use Rattle.tree.specs.Links.{Linked, link_up}
+use Rattle.tree.proofs.LinksLaws.{length-linked}
 use Rattle.child_links.specs.Promises.{ChildCounts}
 
 -- every node but the roots has been linked

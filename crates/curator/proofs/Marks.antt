@@ -1,5 +1,5 @@
 -- The marks of the vectors with an id are written vector by vector, and that is what a withdrawal writes. Assumes nothing.
-use Prim.Native.Nat.{ℕ, suc, ◌+◌, ◌≤◌, ◌<◌}
+use Prim.Native.Nat.{ℕ, ◌+◌, ◌≤◌, ◌<◌}
 use mathlib.Core.Bool.{Bool, true, false, not, cond, ◌||◌}
 use mathlib.Core.List.{List, [], ◌∷◌, ◌++◌}
 use mathlib.Core.Path.{◌≡◌, refl, sym, ap, ap₂, ◌∙◌}
@@ -22,12 +22,12 @@ use Rattle.settings.specs.declared.refusal.InputRefusal.TheVariants.{UnknownDocu
 use Rattle.curator.specs.declared.CuratorIndex.{CuratorIndex}
 use Rattle.curator.specs.Limits.{index_shape}
 use Rattle.curator.specs.Rows.{row, first_of, withdraw_rows}
-use Rattle.curator.specs.RowLaws.{no_rows, row-stops, row-passes, check_then, rows_then, fine_none}
-use Rattle.curator.specs.StateLaws.{Sound, sound_facts}
+use Rattle.curator.proofs.RowLaws.{no_rows, row-stops, row-passes, check_then, rows_then, fine_none}
+use Rattle.curator.proofs.StateLaws.{Sound, sound_facts}
 use Rattle.curator.specs.Calls.{held_documents, held_marks}
 use Rattle.curator.specs.Changes.{holds_document, withdraw_check, marks_withdrawn, withdrawn_from}
 use Rattle.curator.specs.Lent.{lent_rows, MarksWritten}
-use Rattle.curator.specs.WithdrawLaws.{marks-append, marks-none, length-withdrawn}
+use Rattle.curator.proofs.WithdrawLaws.{marks-append, marks-none, length-withdrawn}
 
 -- the marks of the first i vectors are written, and it is known whether one of them has the id
 pub record Marking (document at count : ℕ) (numbers₀ numbers : List ℕ) (held : Bool) (i : ℕ) : Type 0 where

@@ -8,17 +8,3 @@ pub mod Calls
 pub mod Changes
 pub mod Searches
 pub mod Lent
-pub mod RowLaws
-pub mod BuildRowLaws
-pub mod SearchRowLaws
-pub mod StateLaws
-pub mod AddLaws
-pub mod HeldLaws
-pub mod Parted
-pub mod TakeBackLaws
-pub mod WithdrawLaws
-pub mod Withdrawn
-pub mod SearchHeldLaws
-pub mod Twice
-pub mod BeamLaws
-pub mod Trials

@@ -7,7 +7,7 @@ ghost use Rattle.curator.specs.Changes.{with_mark, Wrote};
 ghost use Rattle.curator.specs.Lent.{adding, add_checked, AddRoom, LabelsRoom, VectorAt};
 ghost use Rattle.label.specs.Names.{summed_pairs, starts_by_lengths};
 ghost use Rattle.store.specs.Store.{starts_at, lengths_at};
-ghost use Rattle.store.specs.Lent.{lent};
+ghost use Rattle.store.specs.Lent.{store_of};
 
 use crate::{CuratorIndex, VectorCheck, check, limits};
 use settings::Check;
@@ -112,11 +112,11 @@ pub fn write_add(
     lengths: &[u8],
     bytes: &[u8],
 )
-    requires add_room { AddRoom index (lent floats numbers hashes text) (adding doc_id vector lengths bytes) }
+    requires add_room { AddRoom index (store_of floats.old numbers.old hashes.old text.old) (adding doc_id vector lengths bytes) }
     requires squares_value { squares ≡ dot vector.now vector.now }
-    ensures { Wrote index (lent floats.entry numbers.entry hashes.entry text.entry)
+    ensures { Wrote index (store_of floats.old numbers.old hashes.old text.old)
         (adding doc_id vector.entry lengths.entry bytes.entry)
-        (lent floats.exit numbers.exit hashes.exit text.exit) }
+        (store_of floats.new numbers.new hashes.new text.new) }
 {
     let held = index.counts;
     let shape = limits::shape_of(index);

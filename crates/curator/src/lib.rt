@@ -1,8 +1,10 @@
 // The index: settings, state, refusals and the entry points.
+#![tactic(auto)]
+
 ghost use Rattle.curator.specs.Changes.{Creates, Adds, TakesBack, Withdraws};
 ghost use Rattle.curator.specs.Lent.{adding};
 ghost use Rattle.curator.specs.Calls.{with_counts};
-ghost use Rattle.store.specs.Lent.{lent};
+ghost use Rattle.store.specs.Lent.{lent, store_of};
 ghost use Rattle.std.specs.Prelude.{◌≡◌};
 
 mod add;
@@ -16,7 +18,7 @@ use settings::{Capacities, Check, CuratorParams};
 use store::{Counts, Lengths};
 
 // The state of an index. It goes by value; what it holds stands in lists that the caller lends.
-#[derive(Drop)]
+#[derive(Clone, Copy)]
 pub struct CuratorIndex {
     pub dimension: usize,
     pub params: CuratorParams,
@@ -26,21 +28,21 @@ pub struct CuratorIndex {
 }
 
 // What `new`, `add`, `take_back`, `withdraw` and `build` answer: the index from now on, or why not.
-#[derive(Drop)]
+#[derive(Clone, Copy)]
 pub enum Changed {
     Index(CuratorIndex),
     Refused(Refusal),
 }
 
 // What the rows of a call with a vector come to: the sum of its squares, from the pass that looked for what is not finite, or why not.
-#[derive(Drop)]
+#[derive(Clone, Copy)]
 pub enum VectorCheck {
     Squares(f32),
     Refused(Refusal),
 }
 
 // What a search answers: how many hits it put into the answer lists, how many nodes it opened, and whether it ended because no node waited.
-#[derive(Drop)]
+#[derive(Clone, Copy)]
 pub enum Found {
     Hits {
         count: usize,
@@ -105,10 +107,10 @@ impl CuratorIndex {
         lengths: &[u8],
         bytes: &[u8],
     ) -> Changed
-        ensures { Adds self (lent floats.entry numbers.entry hashes.entry text.entry)
+        ensures { Adds self (store_of floats.old numbers.old hashes.old text.old)
             (adding doc_id vector.entry lengths.entry bytes.entry)
             result
-            (lent floats.exit numbers.exit hashes.exit text.exit) }
+            (store_of floats.new numbers.new hashes.new text.new) }
     {
         let lent = Lengths {
             floats: floats.len(),
@@ -161,9 +163,9 @@ impl CuratorIndex {
         text: &[u8],
         doc_id: u32,
     ) -> Changed
-        ensures { Withdraws self (lent floats.entry numbers.entry hashes.entry text.entry) doc_id
+        ensures { Withdraws self (store_of floats.now numbers.old hashes.now text.now) doc_id
             result
-            (lent floats.entry numbers.exit hashes.entry text.entry) }
+            (store_of floats.now numbers.new hashes.now text.now) }
     {
         let lent = Lengths {
             floats: floats.len(),

@@ -12,7 +12,7 @@ use Rattle.curator.specs.declared.Found.{Found}
 use Rattle.curator.specs.Limits.{state_sound}
 use Rattle.curator.specs.Outcome.{changed_number, found_number, found_values, ChangeRefused}
 use Rattle.curator.specs.Rows.{state_row, add_rows, take_back_rows, withdraw_rows, build_rows, search_rows}
-use Rattle.curator.specs.RowLaws.{row-stops}
+use Rattle.curator.proofs.RowLaws.{row-stops}
 use Rattle.curator.specs.Calls.{facts_of}
 use Rattle.store.specs.Lent.{lengths_of}
 use Rattle.curator.specs.Changes.{AddsBy, add_check, Adds, take_back_check, TakesBackBy, TakesBack, holds_document, withdraw_check, WithdrawsBy, Withdraws, owners_damaged, too_many_nodes, BuildsBy, build_check, Builds, free_of}

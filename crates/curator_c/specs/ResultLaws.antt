@@ -13,7 +13,7 @@ use Rattle.settings.specs.declared.refusal.Refusal.{Refusal}
 use Rattle.curator.specs.Limits.{state_sound}
 use Rattle.curator.specs.Outcome.{found_values}
 use Rattle.curator.specs.Rows.{first_of, state_row, search_rows}
-use Rattle.curator.specs.RowLaws.{fine_none}
+use Rattle.curator.proofs.RowLaws.{fine_none}
 use Rattle.curator.specs.Calls.{facts_of}
 use Rattle.store.specs.Lent.{lengths_of}
 use Rattle.curator.specs.Searches.{SearchEnd, Untouched, SearchesBy, search_check, Searches}

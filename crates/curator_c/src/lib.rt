@@ -1,9 +1,11 @@
 // The index for C and Rust: each function returns 0, or the number of the refusal. The state is a lent list of numbers.
+#![tactic(auto)]
+
 ghost use Rattle.std.specs.Prelude.{◌≡◌, ◌<◌, ◌≤◌, ◌^◌, length};
 ghost use Rattle.std.proofs.lemmas.List.Edits.{sets};
 ghost use Rattle.curator.specs.Lent.{adding};
 ghost use Rattle.label.specs.Fnv.{fnv_from};
-ghost use Rattle.store.specs.Lent.{lent};
+ghost use Rattle.store.specs.Lent.{lent, store_of};
 ghost use Rattle.curator.specs.Outcome.{changed_number, found_number, found_values};
 ghost use Rattle.search.specs.Lent.{filtered, both, unfiltered};
 ghost use Rattle.settings.specs.Given.{params_of, capacities_of};
@@ -86,10 +88,10 @@ pub extern "C" fn curator_add(
     lengths: &[u8],
     bytes: &[u8],
 ) -> u32
-    ensures { AddResult state.old (lent floats.entry numbers.entry hashes.entry text.entry)
+    ensures { AddResult state.old (store_of floats.old numbers.old hashes.old text.old)
         (adding doc_id vector.entry lengths.entry bytes.entry)
         result
-        state.new (lent floats.exit numbers.exit hashes.exit text.exit) }
+        state.new (store_of floats.new numbers.new hashes.new text.new) }
 {
     match state::state_in(state) {
         StateRead::Nothing => INVALID_STATE,
@@ -141,9 +143,9 @@ pub extern "C" fn curator_withdraw(
     text: &[u8],
     doc_id: u32,
 ) -> u32
-    ensures { WithdrawResult state.now (lent floats.entry numbers.entry hashes.entry text.entry) doc_id
+    ensures { WithdrawResult state.now (store_of floats.now numbers.old hashes.now text.now) doc_id
         result
-        (lent floats.entry numbers.exit hashes.entry text.entry) }
+        (store_of floats.now numbers.new hashes.now text.now) }
 {
     match state::state_in(state) {
         StateRead::Nothing => INVALID_STATE,
@@ -161,9 +163,9 @@ pub extern "C" fn curator_build(
     text: &[u8],
     work: &mut [u32],
 ) -> u32
-    ensures { BuildResult state.old (lent floats.entry numbers.entry hashes.entry text.entry) work.old
+    ensures { BuildResult state.old (store_of floats.old numbers.old hashes.old text.now) work.old
         result
-        state.new (lent floats.exit numbers.exit hashes.exit text.entry) work.new }
+        state.new (store_of floats.new numbers.new hashes.new text.now) work.new }
 {
     match state::state_in(state) {
         StateRead::Nothing => INVALID_STATE,
@@ -221,7 +223,7 @@ pub extern "C" fn curator_search_filtered(
     answer: &mut [usize],
 ) -> u32
     ensures { SearchResult state.now (lent floats.entry numbers.entry hashes.entry text.entry) work.old
-        (filtered query.entry first.entry second.entry k ids.entry distances.entry) answer.old
+        (filtered query.entry first.entry second.entry k ids.old distances.old) answer.old
         result
         work.new ids.new distances.new answer.new }
 {
@@ -260,7 +262,7 @@ pub extern "C" fn curator_search_both(
     answer: &mut [usize],
 ) -> u32
     ensures { SearchResult state.now (lent floats.entry numbers.entry hashes.entry text.entry) work.old
-        (both query.entry first.entry second.entry other_first.entry other_second.entry k ids.entry distances.entry) answer.old
+        (both query.entry first.entry second.entry other_first.entry other_second.entry k ids.old distances.old) answer.old
         result
         work.new ids.new distances.new answer.new }
 {
@@ -307,7 +309,7 @@ pub extern "C" fn curator_search(
     answer: &mut [usize],
 ) -> u32
     ensures { SearchResult state.now (lent floats.entry numbers.entry hashes.entry text.entry) work.old
-        (unfiltered query.entry k ids.entry distances.entry) answer.old
+        (unfiltered query.entry k ids.old distances.old) answer.old
         result
         work.new ids.new distances.new answer.new }
 {

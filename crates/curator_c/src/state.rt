@@ -11,7 +11,7 @@ use store::Counts;
 pub const STATE: usize = 14;
 
 // What a list holds: a state, sound or not, or none.
-#[derive(Drop)]
+#[derive(Clone, Copy)]
 pub enum StateRead {
     State(CuratorIndex),
     Nothing,

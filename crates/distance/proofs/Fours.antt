@@ -1,6 +1,5 @@
 -- What is proved of one sum, for four side by side, each conjunct of a contract in its order; and of four and four, for eight. Assumes nothing.
-use Prim.Native.Nat.{ℕ, ◌+◌, ◌-◌, ◌≤◌, ◌<◌}
-use native.Mathlib.Omega.{arith}
+use Prim.Native.Nat.{ℕ, ◌+◌, ◌-◌, ◌≤◌}
 use mathlib.Core.Path.{◌≡◌, sym, ap, ◌∙◌}
 use mathlib.Core.Bool.{Bool, true, ◌&&◌}
 use mathlib.Core.List.{List}
@@ -19,15 +18,37 @@ use Rattle.distance.proofs.Steps.{Due, due-four}
 
 -- four facts, of four values or vectors
 abbrev pub FourOf : Type 0 → Type 0 → Type 0 → Type 0 → Type 0
-FourOf A B C D = A × (B × (C × D))
+FourOf A B C D = record { a_value : A; b_value : B; c_value : C; d_value : D }
 
--- four facts and those of four others are those of eight
-pub eight : {A B C D R : Type 0} → FourOf A B C D → R → A × (B × (C × (D × R)))
-eight x rest = (x.0, (x.1.0, (x.1.1.0, (x.1.1.1, rest))))
+-- and those of four others
+abbrev pub EightOf : Type 0 → Type 0 → Type 0 → Type 0 → Type 0 → Type 0 → Type 0 → Type 0 → Type 0
+EightOf A B C D E F G H =
+    record { a_value : A; b_value : B; c_value : C; d_value : D; a_value_2 : E; b_value_2 : F; c_value_2 : G; d_value_2 : H }
+
+module _ {A B C D E F G H : Type 0} where
+  -- four facts and those of four others are those of eight
+  pub eight : FourOf A B C D → FourOf E F G H → EightOf A B C D E F G H
+  eight x y =
+      record {
+        a_value = x.a_value;
+        b_value = x.b_value;
+        c_value = x.c_value;
+        d_value = x.d_value;
+        a_value_2 = y.a_value;
+        b_value_2 = y.b_value;
+        c_value_2 = y.c_value;
+        d_value_2 = y.d_value;
+      }
+
+  pub front_of : EightOf A B C D E F G H → FourOf A B C D
+  front_of x = record { a_value = x.a_value; b_value = x.b_value; c_value = x.c_value; d_value = x.d_value }
+
+  pub back_of : EightOf A B C D E F G H → FourOf E F G H
+  back_of x = record { a_value = x.a_value_2; b_value = x.b_value_2; c_value = x.c_value_2; d_value = x.d_value_2 }
 
 -- the lengths are equal, as `all_equal` tests it
 abbrev pub Equal : ℕ → ℕ → ℕ → ℕ → ℕ → Type 0
-Equal n a b c d = FourOf (a ≡ n) (b ≡ n) (c ≡ n) (d ≡ n)
+Equal n a b c d = record { a_len : a ≡ n; b_len : b ≡ n; c_len : c ≡ n; d_len : d ≡ n }
 
 abbrev equals : ℕ → ℕ → ℕ → ℕ → ℕ → Bool
 equals n a b c d = eqb n a && (eqb n b && (eqb n c && eqb n d))
@@ -36,13 +57,13 @@ pub equal : (n a b c d : ℕ) (r : Bool) → r ≡ equals n a b c d → r ≡ tr
 equal n a b c d r is holds =
     let all : equals n a b c d ≡ true = sym is ∙ holds in
     let more = and_right (eqb n a) (eqb n b && (eqb n c && eqb n d)) all in
-    let last = and_right (eqb n b) (eqb n c && eqb n d) more in (
-      sym (eqb-true n a (and_left (eqb n a) (eqb n b && (eqb n c && eqb n d)) all)),
-      (
-        sym (eqb-true n b (and_left (eqb n b) (eqb n c && eqb n d) more)),
-        (sym (eqb-true n c (and_left (eqb n c) (eqb n d) last)), sym (eqb-true n d (and_right (eqb n c) (eqb n d) last))),
-      ),
-    )
+    let last = and_right (eqb n b) (eqb n c && eqb n d) more in
+    record {
+      a_len = sym (eqb-true n a (and_left (eqb n a) (eqb n b && (eqb n c && eqb n d)) all));
+      b_len = sym (eqb-true n b (and_left (eqb n b) (eqb n c && eqb n d) more));
+      c_len = sym (eqb-true n c (and_left (eqb n c) (eqb n d) last));
+      d_len = sym (eqb-true n d (and_right (eqb n c) (eqb n d) last));
+    }
 
 -- a field: what `from_one` gives for the field's sum
 field : (xs ys : List Float) (r s : Float) → length ys ≡ length xs → s ≡ dot xs ys → r ≡ sub binary32 one32 s → r ≡ distance xs ys
@@ -76,59 +97,43 @@ module _ (q a b c d : List Float) where
   abbrev pub Distances : Four → Type 0
   Distances s = FourOf (s.a ≡ distance q a) (s.b ≡ distance q b) (s.c ≡ distance q c) (s.d ≡ distance q d)
 
-  -- a component that a turn reads is there
-  abbrev pub Inside : ℕ → Type 0
-  Inside j = (j < length q) × FourOf (j < length a) (j < length b) (j < length c) (j < length d)
-
-  pub inside : (s : Four) (i j : ℕ) → Dues s i → 4 ≤ length q - i → j < i + 4 → Inside j
-  inside s i j due more h = (
-    omega (arith, more, h),
-    (
-      omega (arith, more, h, due.0.0),
-      (omega (arith, more, h, due.1.0.0), (omega (arith, more, h, due.1.1.0.0), omega (arith, more, h, due.1.1.1.0))),
-    ),
-  )
-
   -- a turn
   pub dues_turn : (s t u v w : Four) (i : ℕ) → Dues s i → 4 ≤ length q - i
       → Stepped s t i → Stepped t u (i + 1) → Stepped u v (i + 2) → Stepped v w (i + 3) → Dues w (i + 4)
-  dues_turn s t u v w i due more ft fu fv fw = (
-    due-four _ _ _ _ _ _ q a i due.0 more ft.0 fu.0 fv.0 fw.0,
-    (
-      due-four _ _ _ _ _ _ q b i due.1.0 more ft.1.0 fu.1.0 fv.1.0 fw.1.0,
-      (
-        due-four _ _ _ _ _ _ q c i due.1.1.0 more ft.1.1.0 fu.1.1.0 fv.1.1.0 fw.1.1.0,
-        due-four _ _ _ _ _ _ q d i due.1.1.1 more ft.1.1.1 fu.1.1.1 fv.1.1.1 fw.1.1.1,
-      ),
-    ),
-  )
+  dues_turn s t u v w i due more ft fu fv fw =
+      record {
+        a_value = due-four _ _ _ _ _ _ q a i due.a_value more ft.a_value fu.a_value fv.a_value fw.a_value;
+        b_value = due-four _ _ _ _ _ _ q b i due.b_value more ft.b_value fu.b_value fv.b_value fw.b_value;
+        c_value = due-four _ _ _ _ _ _ q c i due.c_value more ft.c_value fu.c_value fv.c_value fw.c_value;
+        d_value = due-four _ _ _ _ _ _ q d i due.d_value more ft.d_value fu.d_value fv.d_value fw.d_value;
+      }
 
   pub dots : (s t : Four) (i : ℕ) → Dues s i → Rest s t i → Dots t
-  dots s t i due rest = (
-    rest.0 ∙ sym due.0.1,
-    (rest.1.0 ∙ sym due.1.0.1, (rest.1.1.0 ∙ sym due.1.1.0.1, rest.1.1.1 ∙ sym due.1.1.1.1)),
-  )
+  dots s t i due rest =
+      record {
+        a_value = rest.a_value ∙ sym due.a_value.1;
+        b_value = rest.b_value ∙ sym due.b_value.1;
+        c_value = rest.c_value ∙ sym due.c_value.1;
+        d_value = rest.d_value ∙ sym due.d_value.1;
+      }
 
   pub distances : (s t : Four) → Equal (length q) (length a) (length b) (length c) (length d) → Dots s → FromOnes s t → Distances t
-  distances s t same sums ones = (
-    field q a _ _ same.0 sums.0 ones.0,
-    (
-      field q b _ _ same.1.0 sums.1.0 ones.1.0,
-      (
-        field q c _ _ same.1.1.0 sums.1.1.0 ones.1.1.0,
-        field q d _ _ same.1.1.1 sums.1.1.1 ones.1.1.1,
-      ),
-    ),
-  )
+  distances s t same sums ones =
+      record {
+        a_value = field q a _ _ same.a_len sums.a_value ones.a_value;
+        b_value = field q b _ _ same.b_len sums.b_value ones.b_value;
+        c_value = field q c _ _ same.c_len sums.c_value ones.c_value;
+        d_value = field q d _ _ same.d_len sums.d_value ones.d_value;
+      }
 
 -- the vectors at four places are the parts that are lent
 pub lent-four : (q l : List Float) (n a b c d : ℕ) (s : Four)
     → Distances q (take (a + n - a) (drop a l)) (take (b + n - b) (drop b l)) (take (c + n - c) (drop c l)) (take (d + n - d) (drop d l)) s
     → Distances q (part a n l) (part b n l) (part c n l) (part d n l) s
-lent-four q l n a b c d s e = (
-  e.0 ∙ ap (distance q) (lent-run a n l),
-  (
-    e.1.0 ∙ ap (distance q) (lent-run b n l),
-    (e.1.1.0 ∙ ap (distance q) (lent-run c n l), e.1.1.1 ∙ ap (distance q) (lent-run d n l)),
-  ),
-)
+lent-four q l n a b c d s e =
+    record {
+      a_value = e.a_value ∙ ap (distance q) (lent-run a n l);
+      b_value = e.b_value ∙ ap (distance q) (lent-run b n l);
+      c_value = e.c_value ∙ ap (distance q) (lent-run c n l);
+      d_value = e.d_value ∙ ap (distance q) (lent-run d n l);
+    }

@@ -1,4 +1,6 @@
 // The distance of two vectors, and of one from four or eight, by IEEE 754's binary32: each operation rounded once.
+#![tactic(auto)]
+
 ghost use Rattle.std.specs.Prelude.{◌≡◌, ◌&&◌, eqb, ◌<◌, length, drop};
 ghost use Rattle.std.specs.Float.{binary32};
 ghost use Rattle.std.specs.Float.Ieee.{sub};
@@ -28,7 +30,7 @@ pub fn cosine_distance_normalized(a: &[f32], b: &[f32]) -> f32
 }
 
 // One value for each of four vectors.
-#[derive(Drop)]
+#[derive(Clone, Copy)]
 pub struct Four {
     pub a: f32,
     pub b: f32,
@@ -37,7 +39,7 @@ pub struct Four {
 }
 
 // One value for each of eight vectors.
-#[derive(Drop)]
+#[derive(Clone, Copy)]
 pub struct Eight {
     pub front: Four,
     pub back: Four,

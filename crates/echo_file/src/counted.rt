@@ -6,7 +6,7 @@ use crate::skip::Skipped;
 use crate::{number, skip};
 
 // The bytes that are counted, by their places, or the file ends inside them.
-#[derive(Drop)]
+#[derive(Clone, Copy)]
 pub enum Counted {
     Cut,
     Part { from: usize, to: usize },

@@ -1,4 +1,6 @@
 // The records of an echo file (document 01, 'The echo file and its printer'), read one at a time.
+#![tactic(auto)]
+
 ghost use Rattle.echo_file.specs.Reads.{Reads};
 
 mod body;
@@ -10,13 +12,13 @@ mod skip;
 use skip::Skipped;
 
 // What the reader has to know of the records before: the dimension, 0 before settings.
-#[derive(Drop)]
+#[derive(Clone, Copy)]
 pub struct Known {
     pub dimension: usize,
 }
 
 // A record by the places of its lists in the file. A list ends where the next one starts, the floats at `next`, where the next record starts.
-#[derive(Drop)]
+#[derive(Clone, Copy)]
 pub enum Located {
     Settings {
         dimension: usize,
@@ -47,7 +49,7 @@ pub enum Located {
 }
 
 // What the reader answers: the record, or that the file has an unknown mark there or ends inside the record (refusal 16).
-#[derive(Drop)]
+#[derive(Clone, Copy)]
 pub enum Reading {
     Bad,
     Found(Located),

@@ -3,7 +3,7 @@ ghost use Rattle.std.specs.Prelude.{◌≡◌, ◌*◌};
 ghost use Rattle.echo_file.specs.Places.{skipped};
 
 // The place after some bytes, or the file ends before it.
-#[derive(Drop)]
+#[derive(Clone, Copy)]
 pub enum Skipped {
     Past,
     To(usize),

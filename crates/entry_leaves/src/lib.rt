@@ -1,4 +1,6 @@
 // The leaf of each vector, and of each label entry.
+#![tactic(auto)]
+
 ghost use Rattle.std.specs.Prelude.{◌≡◌, ℕ, ◌+◌, ◌*◌, ◌<◌, ◌≤◌, ◌^◌, length, get_or};
 ghost use Rattle.node_table.specs.Table.{cell, written, sum_to};
 ghost use Rattle.entry_leaves.specs.Leaves.{marked, leaves_marked};

@@ -1,4 +1,6 @@
 // Bit patterns of f32, NaN included: every NaN pattern is the one NaN, whose pattern is 7FC00000.
+#![tactic(auto)]
+
 ghost use Rattle.std.specs.Prelude.{◌≡◌};
 ghost use Rattle.std.specs.Float.{nan, binary32};
 ghost use Rattle.std.specs.Float.Ieee.{of_bits, to_bits};

@@ -25,7 +25,7 @@ use Rattle.walk.specs.Answer.{hit_of}
 use Rattle.hit_queue.specs.Promises.{within, Measured, Measure, NumberAt, Listed}
 use Rattle.walk.specs.StoreView.{hit_at}
 use Rattle.walk.specs.Promises.{VectorsLent}
-use Rattle.walk.specs.LentLaws.{vector-within}
+use Rattle.walk.proofs.LentLaws.{vector-within}
 use Rattle.hit_queue.specs.QueueLaws.{key-is}
 
 -- ---- hits are added

@@ -20,7 +20,7 @@ use Rattle.record_queue.specs.RecordsLaws.{value-is, records-zero}
 use Rattle.record_queue.specs.Queue.{Popped}
 use Rattle.total_order.specs.TotalOrder.{of_key}
 use Rattle.walk.specs.Answer.{document_of, vector_of, distance_of, is_live, drop_after}
-use Rattle.walk.specs.AnswerLaws.{drop-nil, drop-same, drop_other}
+use Rattle.walk.proofs.AnswerLaws.{drop-nil, drop-same, drop_other}
 use Rattle.hit_queue.specs.Promises.{ranked_queue, Takes}
 use Rattle.hit_queue.specs.QueueLaws.{repeats_after, document_popped, key-is}
 

@@ -9,7 +9,7 @@ use Rattle.record_queue.specs.Records.{value, records, Heap}
 use Rattle.record_queue.specs.RecordsLaws.{value-is}
 use Rattle.store.specs.declared.Counts.{Counts}
 use Rattle.walk.specs.Answer.{document_of, drop_after, drop_repeats}
-use Rattle.walk.specs.AnswerLaws.{drop-nil, drop_other, repeats_nil, repeats_cons}
+use Rattle.walk.proofs.AnswerLaws.{drop-nil, drop_other, repeats_nil, repeats_cons}
 use Rattle.hit_queue.specs.Promises.{Measure, Measured}
 
 -- no document id is 2 ^ 32

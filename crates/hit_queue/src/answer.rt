@@ -11,7 +11,7 @@ use record_queue::{Record, pop};
 use total_order::from_key;
 
 // What was taken of a queue: how many hits, how many records are left, and the last document id, or 2 ^ 32 before the first.
-#[derive(Drop)]
+#[derive(Clone, Copy)]
 pub struct Taken {
     pub hits: usize,
     pub left: usize,

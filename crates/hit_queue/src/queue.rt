@@ -14,7 +14,7 @@ use store::{Counts, Shape, wide};
 use total_order::key;
 
 // The hits of four vectors.
-#[derive(Drop)]
+#[derive(Clone, Copy)]
 struct FourHits {
     a: Record,
     b: Record,
@@ -23,7 +23,7 @@ struct FourHits {
 }
 
 // The hits of eight vectors.
-#[derive(Drop)]
+#[derive(Clone, Copy)]
 struct EightHits {
     front: FourHits,
     back: FourHits,

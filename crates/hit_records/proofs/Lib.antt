@@ -1,2 +1,1 @@
--- What only the proof of `curator_hits` needs.
-pub mod Lent
+pub mod HitsLaws

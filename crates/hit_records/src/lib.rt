@@ -1,12 +1,11 @@
-// Hit records: a lent list of structs of id and distance, filled from the two lists that a search filled.
-//
-// The borrow checker covers no function over a slice of structs, so `curator_hits` is proved by hand. It is kept thin: what
-// is to be decided or computed stands in covered functions.
+// Hit records: a lent list of structs of id and distance, filled from the two lists that a search filled. The crate `hit_records_c` offers it to C.
+#![tactic(auto)]
+
 ghost use Rattle.std.specs.Prelude.{◌≡◌, ◌<◌, length};
 ghost use Rattle.hit_records.specs.Hits.{Fills, hit_record_at, hits_number, hits_stored, list_short};
 
 #[repr(C)]
-#[derive(Drop)]
+#[derive(Clone, Copy)]
 pub struct Hit {
     pub id: u32,
     pub distance: f32,
@@ -43,13 +42,7 @@ fn hit_at(ids: &[u32], distances: &[f32], i: usize) -> Hit
 
 // Fills the first places of `hits` with the records of the first places of `ids` and `distances`, as many as the hit count.
 // Answers 0; or 14, with nothing written, where a list is shorter than the count.
-#[unsafe(no_mangle)]
-pub extern "C" fn curator_hits(
-    hits: &mut [Hit],
-    ids: &[u32],
-    distances: &[f32],
-    count: usize,
-) -> u32
+pub fn curator_hits(hits: &mut [Hit], ids: &[u32], distances: &[f32], count: usize) -> u32
     ensures { Fills hits.old ids.now distances.now count result hits.new }
 {
     let number = hits_number(hits.len(), ids.len(), distances.len(), count);

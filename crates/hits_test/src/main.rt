@@ -1,11 +1,13 @@
 // Hit records of a real search: three echoes are added, the index is built and searched, and a list of eight records is filled from the answer. Every place of
 // the list is printed, so that those from the hit count on are seen to keep what they held; then the same for a count that the two lists do not have.
+#![tactic(auto)]
+
 ghost use Rattle.hit_records.specs.Hits.{Fills};
 
 use curator::{Changed, CuratorIndex, Found};
 use hit_records::Hit;
-use libc::STDOUT_FILENO;
 use settings::{Capacities, CuratorParams};
+use std::io;
 
 // The number that filling a list gave, and the list.
 #[derive(Drop)]
@@ -14,7 +16,7 @@ struct Filled {
     hits: [Hit; 8],
 }
 
-// Lends a list of records to be filled. It holds a slice of structs, so it is proved by hand; its callers are covered.
+// Lends a list of records to be filled.
 fn fill(hits: [Hit; 8], ids: &[u32], distances: &[f32], count: usize) -> Filled
     ensures { Fills hits ids.now distances.now count result.number result.hits }
 {
@@ -23,32 +25,26 @@ fn fill(hits: [Hit; 8], ids: &[u32], distances: &[f32], count: usize) -> Filled
     Filled { number, hits }
 }
 
-fn print_record(hit: Hit) {
-    io::print_decimal(STDOUT_FILENO, hit.id as u64);
-    io::write_all(STDOUT_FILENO, b" ");
-    io::print_hex(STDOUT_FILENO, float_bits::to_bits(hit.distance) as u64, 8);
-    io::write_all(STDOUT_FILENO, b"\n");
+fn print_record(rt: &impl Print, hit: Hit) -> io::Result<()> {
+    println!(rt; "{} {:08x}", hit.id, float_bits::to_bits(hit.distance))
 }
 
 // The number, and every place of the list.
-fn print_filled(filled: Filled) {
-    io::print_decimal(STDOUT_FILENO, filled.number as u64);
-    io::write_all(STDOUT_FILENO, b"\n");
-    let hits = filled.hits;
-    let mut i = 0;
-    while i < 8 {
-        print_record(hits[i]);
-        i += 1;
+fn print_filled(rt: &impl Print, filled: Filled) -> io::Result<()> {
+    println!(rt; "{}", filled.number)?;
+    for hit in &filled.hits {
+        print_record(rt, *hit)?;
     }
+    Ok(())
 }
 
 // A list of eight places that hold something is filled, and printed.
-fn fill_and_print(ids: &[u32], distances: &[f32], count: usize) {
+fn fill_and_print(rt: &impl Print, ids: &[u32], distances: &[f32], count: usize) -> io::Result<()> {
     let held = Hit {
         id: 99,
         distance: 2.0,
     };
-    print_filled(fill([held; 8], ids, distances, count));
+    print_filled(rt, fill([held; 8], ids, distances, count))
 }
 
 // The index with a vector added under a document id; a refused call leaves it.
@@ -85,13 +81,14 @@ fn three_built(
 
 // The records of the four nearest to 1 and 0.
 fn print_nearest(
+    rt: &impl Print,
     built: CuratorIndex,
     floats: &[f32; 50],
     numbers: &[u32; 63],
     hashes: &[u64; 24],
     text: &[u8; 4],
     work: &mut [u32; 27],
-) {
+) -> io::Result<()> {
     let mut ids = [0u32; 4];
     let mut distances = [0.0f32; 4];
     let found = search::search(
@@ -107,17 +104,13 @@ fn print_nearest(
         &mut distances,
     );
     match found {
-        Found::Refused(refusal) => (),
-        Found::Hits {
-            count,
-            opened,
-            whole,
-        } => fill_and_print(&ids, &distances, count),
+        Found::Refused(_) => (),
+        Found::Hits { count, .. } => fill_and_print(rt, &ids, &distances, count)?,
     }
-    fill_and_print(&ids, &distances, 5);
+    fill_and_print(rt, &ids, &distances, 5)
 }
 
-fn records_of_a_search(fresh: CuratorIndex) {
+fn records_of_a_search(rt: &impl Print, fresh: CuratorIndex) -> io::Result<()> {
     let mut floats = [0.0f32; 50];
     let mut numbers = [0u32; 63];
     let mut hashes = [0u64; 24];
@@ -132,12 +125,12 @@ fn records_of_a_search(fresh: CuratorIndex) {
         &mut work,
     );
     let Changed::Index(built) = changed else {
-        return;
+        return Ok(());
     };
-    print_nearest(built, &floats, &numbers, &hashes, &text, &mut work);
+    print_nearest(rt, built, &floats, &numbers, &hashes, &text, &mut work)
 }
 
-fn main() {
+fn main(rt: HostRuntime) -> io::Result<()> {
     let capacities = Capacities {
         vectors: 4,
         entries: 4,
@@ -146,7 +139,7 @@ fn main() {
     };
     let made = CuratorIndex::new(2, CuratorParams::default(), capacities);
     let Changed::Index(fresh) = made else {
-        return;
+        return Ok(());
     };
-    records_of_a_search(fresh);
+    records_of_a_search(&rt, fresh)
 }

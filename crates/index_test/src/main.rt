@@ -1,88 +1,65 @@
 // Every refusal of `new`, `add`, `take_back` and `withdraw` at its boundary, and what the lists hold after each add and each withdrawal. The lists are longer
 // than their sizes and marked beforehand, so that a surplus place that is written shows. A line has the number that is returned, 0 where the call is accepted,
 // and then the counts of vectors, entries and bytes; after an add or a withdrawal follow the four lists.
+#![tactic(auto)]
+
 ghost use Rattle.std.specs.Prelude.{◌≤◌};
 
 use curator::{Changed, CuratorIndex};
 use settings::{Capacities, CuratorParams};
+use std::io;
 use store::Counts;
 
-fn print_number(n: u64) {
-    io::print_decimal(1, n);
-    io::write_all(1, b" ");
-}
-
-// The bits of an f32, and a space.
-fn print_bits(x: f32) {
-    let mut word = [b' '; 9];
-    text::write_hex(&mut word, 0, float_bits::to_bits(x));
-    io::write_all(1, &word);
-}
-
-fn print_floats(list: &[f32]) {
-    let mut i = 0;
-    while i < list.len() {
-        print_bits(list[i]);
-        i += 1;
+fn print_floats(rt: &impl Print, list: &[f32]) -> io::Result<()> {
+    for x in list {
+        print!(rt; "{:08x} ", float_bits::to_bits(*x))?;
     }
-    io::write_all(1, b"\n");
+    println!(rt; "")
 }
 
-fn wide(x: u32) -> u64 {
-    x as u64
-}
-
-fn print_numbers(list: &[u32]) {
-    let mut i = 0;
-    while i < list.len() {
-        print_number(wide(list[i]));
-        i += 1;
+fn print_numbers(rt: &impl Print, list: &[u32]) -> io::Result<()> {
+    for n in list {
+        print!(rt; "{n} ")?;
     }
-    io::write_all(1, b"\n");
+    println!(rt; "")
 }
 
-fn print_hashes(list: &[u64]) {
-    let mut i = 0;
-    while i < list.len() {
-        io::print_hex(1, list[i], 16);
-        io::write_all(1, b" ");
-        i += 1;
+fn print_hashes(rt: &impl Print, list: &[u64]) -> io::Result<()> {
+    for hash in list {
+        print!(rt; "{hash:016x} ")?;
     }
-    io::write_all(1, b"\n");
+    println!(rt; "")
 }
 
-fn wide_byte(x: u8) -> u64 {
-    x as u64
-}
-
-fn print_bytes(list: &[u8]) {
-    let mut i = 0;
-    while i < list.len() {
-        print_number(wide_byte(list[i]));
-        i += 1;
+fn print_bytes(rt: &impl Print, list: &[u8]) -> io::Result<()> {
+    for byte in list {
+        print!(rt; "{byte} ")?;
     }
-    io::write_all(1, b"\n");
+    println!(rt; "")
 }
 
-fn print_lists(floats: &[f32; 10], numbers: &[u32; 23], hashes: &[u64; 8], text: &[u8; 6]) {
-    print_floats(floats);
-    print_numbers(numbers);
-    print_hashes(hashes);
-    print_bytes(text);
+fn print_lists(
+    rt: &impl Print,
+    floats: &[f32; 10],
+    numbers: &[u32; 23],
+    hashes: &[u64; 8],
+    text: &[u8; 6],
+) -> io::Result<()> {
+    print_floats(rt, floats)?;
+    print_numbers(rt, numbers)?;
+    print_hashes(rt, hashes)?;
+    print_bytes(rt, text)
 }
 
 // The number of an answer, and the counts of vectors, entries and bytes where there are any.
-fn print_answer(answer: Changed) {
+fn print_answer(rt: &impl Print, answer: Changed) -> io::Result<()> {
     match answer {
-        Changed::Refused(r) => print_number(wide(r.number())),
+        Changed::Refused(refusal) => println!(rt; "{} ", refusal.number()),
         Changed::Index(index) => {
-            print_number(0);
-            print_number(index.counts.vectors as u64);
-            print_number(index.counts.entries as u64);
-            print_number(index.counts.bytes as u64);
+            let counts = index.counts;
+            println!(rt; "0 {} {} {} ", counts.vectors, counts.entries, counts.bytes)
         }
     }
-    io::write_all(1, b"\n");
 }
 
 fn params(
@@ -108,52 +85,58 @@ fn capacities(vectors: usize, entries: usize, nodes: usize, text: usize) -> Capa
     }
 }
 
-fn new_dimension(dimension: usize) {
-    print_answer(CuratorIndex::new(dimension, CuratorParams::default(), capacities(1, 0, 1, 0)));
+fn new_dimension(rt: &impl Print, dimension: usize) -> io::Result<()> {
+    print_answer(
+        rt,
+        CuratorIndex::new(dimension, CuratorParams::default(), capacities(1, 0, 1, 0)),
+    )
 }
 
-fn new_params(p: CuratorParams) {
-    print_answer(CuratorIndex::new(2, p, capacities(1, 0, 1, 0)));
+fn new_params(rt: &impl Print, p: CuratorParams) -> io::Result<()> {
+    print_answer(rt, CuratorIndex::new(2, p, capacities(1, 0, 1, 0)))
 }
 
-fn new_capacities(c: Capacities) {
-    print_answer(CuratorIndex::new(2, CuratorParams::default(), c));
+fn new_capacities(rt: &impl Print, c: Capacities) -> io::Result<()> {
+    print_answer(rt, CuratorIndex::new(2, CuratorParams::default(), c))
 }
 
-fn dimensions() {
-    new_dimension(0);
-    new_dimension(1);
-    new_dimension(128);
-    new_dimension(129);
+fn dimensions(rt: &impl Print) -> io::Result<()> {
+    new_dimension(rt, 0)?;
+    new_dimension(rt, 1)?;
+    new_dimension(rt, 128)?;
+    new_dimension(rt, 129)
 }
 
-fn settings() {
-    new_params(params(0, 128, 256, 4));
-    new_params(params(1, 128, 256, 4));
-    new_params(params(64, 128, 256, 4));
-    new_params(params(65, 128, 256, 4));
-    new_params(params(16, 0, 0, 0));
-    new_params(params(16, 4096, 256, 4));
-    new_params(params(16, 4097, 256, 4));
-    new_params(params(16, 128, 65537, 4));
-    new_params(params(16, 128, 65538, 4));
-    new_params(params(16, 128, 256, 65535));
-    new_params(params(16, 128, 256, 65536));
+fn settings(rt: &impl Print) -> io::Result<()> {
+    new_params(rt, params(0, 128, 256, 4))?;
+    new_params(rt, params(1, 128, 256, 4))?;
+    new_params(rt, params(64, 128, 256, 4))?;
+    new_params(rt, params(65, 128, 256, 4))?;
+    new_params(rt, params(16, 0, 0, 0))?;
+    new_params(rt, params(16, 4096, 256, 4))?;
+    new_params(rt, params(16, 4097, 256, 4))?;
+    new_params(rt, params(16, 128, 65537, 4))?;
+    new_params(rt, params(16, 128, 65538, 4))?;
+    new_params(rt, params(16, 128, 256, 65535))?;
+    new_params(rt, params(16, 128, 256, 65536))
 }
 
-fn sizes() {
-    new_capacities(capacities(0, 0, 1, 0));
-    new_capacities(capacities(4096, 0, 1, 0));
-    new_capacities(capacities(4097, 0, 1, 0));
-    new_capacities(capacities(1, 16384, 1, 0));
-    new_capacities(capacities(1, 16385, 1, 0));
-    new_capacities(capacities(1, 0, 0, 0));
-    new_capacities(capacities(1, 0, 65537, 0));
-    new_capacities(capacities(1, 0, 65538, 0));
-    new_capacities(capacities(1, 0, 1, 1));
-    new_capacities(capacities(1, 0, 1, 4177920));
-    new_capacities(capacities(1, 0, 1, 4177921));
-    print_answer(CuratorIndex::new(0, params(0, 128, 256, 4), capacities(0, 0, 0, 4177921)));
+fn sizes(rt: &impl Print) -> io::Result<()> {
+    new_capacities(rt, capacities(0, 0, 1, 0))?;
+    new_capacities(rt, capacities(4096, 0, 1, 0))?;
+    new_capacities(rt, capacities(4097, 0, 1, 0))?;
+    new_capacities(rt, capacities(1, 16384, 1, 0))?;
+    new_capacities(rt, capacities(1, 16385, 1, 0))?;
+    new_capacities(rt, capacities(1, 0, 0, 0))?;
+    new_capacities(rt, capacities(1, 0, 65537, 0))?;
+    new_capacities(rt, capacities(1, 0, 65538, 0))?;
+    new_capacities(rt, capacities(1, 0, 1, 1))?;
+    new_capacities(rt, capacities(1, 0, 1, 4177920))?;
+    new_capacities(rt, capacities(1, 0, 1, 4177921))?;
+    print_answer(
+        rt,
+        CuratorIndex::new(0, params(0, 128, 256, 4), capacities(0, 0, 0, 4177921)),
+    )
 }
 
 // A state with D 2, B 1, V 2, E 2, M 1 and 4 bytes of label text: 8 floats, 21 numbers, 6 hashes.
@@ -174,6 +157,7 @@ fn state(vectors: usize, entries: usize, nodes: usize, bytes: usize, built: bool
 
 // An add to lists of the lengths given, of document 77.
 fn try_add(
+    rt: &impl Print,
     index: CuratorIndex,
     f: usize,
     n: usize,
@@ -182,55 +166,79 @@ fn try_add(
     vector: &[f32],
     lengths: &[u8],
     bytes: &[u8],
-)
+) -> io::Result<()>
     requires { (f ≤ 10) × (n ≤ 23) × (h ≤ 8) × (t ≤ 6) }
 {
     let mut floats = [9.0f32; 10];
     let mut numbers = [9u32; 23];
     let mut hashes = [9u64; 8];
     let mut text = [9u8; 6];
-    print_answer(index.add(
-        &mut floats[..f],
-        &mut numbers[..n],
-        &mut hashes[..h],
-        &mut text[..t],
-        77,
-        vector,
-        lengths,
-        bytes,
-    ));
-    print_lists(&floats, &numbers, &hashes, &text);
+    print_answer(
+        rt,
+        index.add(
+            &mut floats[..f],
+            &mut numbers[..n],
+            &mut hashes[..h],
+            &mut text[..t],
+            77,
+            vector,
+            lengths,
+            bytes,
+        ),
+    )?;
+    print_lists(rt, &floats, &numbers, &hashes, &text)
 }
 
-fn states(vector: &[f32]) {
-    try_add(state(3, 0, 0, 0, false), 10, 23, 8, 6, vector, b"", b"");
-    try_add(state(0, 3, 0, 0, false), 10, 23, 8, 6, vector, b"", b"");
-    try_add(state(1, 0, 2, 0, true), 10, 23, 8, 6, vector, b"", b"");
-    try_add(state(0, 0, 1, 0, true), 10, 23, 8, 6, vector, b"", b"");
-    try_add(state(1, 0, 0, 0, true), 10, 23, 8, 6, vector, b"", b"");
-    try_add(state(1, 0, 1, 0, false), 10, 23, 8, 6, vector, b"", b"");
-    try_add(state(0, 0, 0, 5, false), 10, 23, 8, 6, vector, b"", b"");
-    try_add(state(3, 0, 0, 0, false), 0, 0, 0, 0, vector, b"", b"");
+fn states(rt: &impl Print, vector: &[f32]) -> io::Result<()> {
+    try_add(rt, state(3, 0, 0, 0, false), 10, 23, 8, 6, vector, b"", b"")?;
+    try_add(rt, state(0, 3, 0, 0, false), 10, 23, 8, 6, vector, b"", b"")?;
+    try_add(rt, state(1, 0, 2, 0, true), 10, 23, 8, 6, vector, b"", b"")?;
+    try_add(rt, state(0, 0, 1, 0, true), 10, 23, 8, 6, vector, b"", b"")?;
+    try_add(rt, state(1, 0, 0, 0, true), 10, 23, 8, 6, vector, b"", b"")?;
+    try_add(rt, state(1, 0, 1, 0, false), 10, 23, 8, 6, vector, b"", b"")?;
+    try_add(rt, state(0, 0, 0, 5, false), 10, 23, 8, 6, vector, b"", b"")?;
+    try_add(rt, state(3, 0, 0, 0, false), 0, 0, 0, 0, vector, b"", b"")
 }
 
-fn lists(vector: &[f32]) {
-    try_add(state(0, 0, 0, 0, false), 7, 21, 6, 4, vector, b"", b"");
-    try_add(state(0, 0, 0, 0, false), 8, 20, 6, 4, vector, b"", b"");
-    try_add(state(0, 0, 0, 0, false), 8, 21, 5, 4, vector, b"", b"");
-    try_add(state(0, 0, 0, 0, false), 8, 21, 6, 3, vector, b"", b"");
-    try_add(state(0, 0, 0, 0, false), 8, 21, 6, 4, vector, b"", b"");
-    try_add(state(1, 0, 1, 0, true), 8, 21, 5, 4, vector, b"", b"");
-    try_add(state(1, 0, 1, 0, true), 8, 21, 6, 3, vector, b"", b"");
-    try_add(state(1, 0, 1, 0, true), 8, 21, 6, 4, &[3.0f32], b"", b"");
+fn lists(rt: &impl Print, vector: &[f32]) -> io::Result<()> {
+    try_add(rt, state(0, 0, 0, 0, false), 7, 21, 6, 4, vector, b"", b"")?;
+    try_add(rt, state(0, 0, 0, 0, false), 8, 20, 6, 4, vector, b"", b"")?;
+    try_add(rt, state(0, 0, 0, 0, false), 8, 21, 5, 4, vector, b"", b"")?;
+    try_add(rt, state(0, 0, 0, 0, false), 8, 21, 6, 3, vector, b"", b"")?;
+    try_add(rt, state(0, 0, 0, 0, false), 8, 21, 6, 4, vector, b"", b"")?;
+    try_add(rt, state(1, 0, 1, 0, true), 8, 21, 5, 4, vector, b"", b"")?;
+    try_add(rt, state(1, 0, 1, 0, true), 8, 21, 6, 3, vector, b"", b"")?;
+    try_add(
+        rt,
+        state(1, 0, 1, 0, true),
+        8,
+        21,
+        6,
+        4,
+        &[3.0f32],
+        b"",
+        b"",
+    )
 }
 
-fn vectors() {
+fn vectors(rt: &impl Print) -> io::Result<()> {
     let least = -1.4e-45f32;
     let greatest = 3.4028235e38f32;
     let infinity = greatest * 2.0;
     let nan = infinity - infinity;
-    try_add(state(0, 0, 0, 0, false), 10, 23, 8, 6, &[3.0f32], b"", b"");
     try_add(
+        rt,
+        state(0, 0, 0, 0, false),
+        10,
+        23,
+        8,
+        6,
+        &[3.0f32],
+        b"",
+        b"",
+    )?;
+    try_add(
+        rt,
         state(0, 0, 0, 0, false),
         10,
         23,
@@ -239,8 +247,9 @@ fn vectors() {
         &[nan, nan, nan],
         b"",
         b"",
-    );
+    )?;
     try_add(
+        rt,
         state(0, 0, 0, 0, false),
         10,
         23,
@@ -249,8 +258,9 @@ fn vectors() {
         &[greatest, 0.0],
         b"",
         b"",
-    );
+    )?;
     try_add(
+        rt,
         state(0, 0, 0, 0, false),
         10,
         23,
@@ -259,8 +269,9 @@ fn vectors() {
         &[1e30, -1e30],
         b"",
         b"",
-    );
+    )?;
     try_add(
+        rt,
         state(0, 0, 0, 0, false),
         10,
         23,
@@ -269,8 +280,9 @@ fn vectors() {
         &[0.0, least],
         b"",
         b"",
-    );
+    )?;
     try_add(
+        rt,
         state(0, 0, 0, 0, false),
         10,
         23,
@@ -279,8 +291,9 @@ fn vectors() {
         &[infinity, 0.0],
         b"",
         b"",
-    );
+    )?;
     try_add(
+        rt,
         state(0, 0, 0, 0, false),
         10,
         23,
@@ -289,8 +302,9 @@ fn vectors() {
         &[0.0, -infinity],
         b"",
         b"",
-    );
+    )?;
     try_add(
+        rt,
         state(0, 0, 0, 0, false),
         10,
         23,
@@ -299,12 +313,13 @@ fn vectors() {
         &[0.0, nan],
         b"\x01",
         b"",
-    );
+    )
 }
 
 // One length, an odd list; two lengths that are not the bytes; two and four that are, with empty parts; three that are, an odd list.
-fn labels(vector: &[f32]) {
+fn labels(rt: &impl Print, vector: &[f32]) -> io::Result<()> {
     try_add(
+        rt,
         state(0, 0, 0, 0, false),
         10,
         23,
@@ -313,9 +328,20 @@ fn labels(vector: &[f32]) {
         vector,
         b"\x01",
         b"a",
-    );
-    try_add(state(0, 0, 0, 0, false), 10, 23, 8, 6, vector, b"\x00", b"");
+    )?;
     try_add(
+        rt,
+        state(0, 0, 0, 0, false),
+        10,
+        23,
+        8,
+        6,
+        vector,
+        b"\x00",
+        b"",
+    )?;
+    try_add(
+        rt,
         state(0, 0, 0, 0, false),
         10,
         23,
@@ -324,8 +350,9 @@ fn labels(vector: &[f32]) {
         vector,
         b"\x01\x00",
         b"",
-    );
+    )?;
     try_add(
+        rt,
         state(0, 0, 0, 0, false),
         10,
         23,
@@ -334,8 +361,9 @@ fn labels(vector: &[f32]) {
         vector,
         b"\x01\x00",
         b"ab",
-    );
+    )?;
     try_add(
+        rt,
         state(0, 0, 0, 0, false),
         10,
         23,
@@ -344,8 +372,9 @@ fn labels(vector: &[f32]) {
         vector,
         b"\x01\x00",
         b"a",
-    );
+    )?;
     try_add(
+        rt,
         state(0, 0, 0, 0, false),
         10,
         23,
@@ -354,8 +383,9 @@ fn labels(vector: &[f32]) {
         vector,
         b"\x00\x01",
         b"a",
-    );
+    )?;
     try_add(
+        rt,
         state(0, 0, 0, 0, false),
         10,
         23,
@@ -364,8 +394,9 @@ fn labels(vector: &[f32]) {
         vector,
         b"\x01\x01",
         b"ab",
-    );
+    )?;
     try_add(
+        rt,
         state(0, 0, 0, 0, false),
         10,
         23,
@@ -374,8 +405,9 @@ fn labels(vector: &[f32]) {
         vector,
         b"\x02\x00",
         b"ab",
-    );
+    )?;
     try_add(
+        rt,
         state(0, 0, 0, 0, false),
         10,
         23,
@@ -384,8 +416,9 @@ fn labels(vector: &[f32]) {
         vector,
         b"\x01\x00\x00\x00",
         b"a",
-    );
+    )?;
     try_add(
+        rt,
         state(0, 0, 0, 0, false),
         10,
         23,
@@ -394,9 +427,20 @@ fn labels(vector: &[f32]) {
         vector,
         b"\x01\x01\x00",
         b"ab",
-    );
-    try_add(state(2, 0, 0, 0, false), 10, 23, 8, 6, vector, b"", b"a");
+    )?;
     try_add(
+        rt,
+        state(2, 0, 0, 0, false),
+        10,
+        23,
+        8,
+        6,
+        vector,
+        b"",
+        b"a",
+    )?;
+    try_add(
+        rt,
         state(2, 0, 0, 0, false),
         10,
         23,
@@ -405,13 +449,14 @@ fn labels(vector: &[f32]) {
         vector,
         b"\x01",
         b"a",
-    );
+    )
 }
 
-fn room(vector: &[f32]) {
-    try_add(state(1, 0, 0, 0, false), 10, 23, 8, 6, vector, b"", b"");
-    try_add(state(2, 0, 0, 0, false), 10, 23, 8, 6, vector, b"", b"");
+fn room(rt: &impl Print, vector: &[f32]) -> io::Result<()> {
+    try_add(rt, state(1, 0, 0, 0, false), 10, 23, 8, 6, vector, b"", b"")?;
+    try_add(rt, state(2, 0, 0, 0, false), 10, 23, 8, 6, vector, b"", b"")?;
     try_add(
+        rt,
         state(2, 2, 0, 0, false),
         10,
         23,
@@ -420,9 +465,10 @@ fn room(vector: &[f32]) {
         vector,
         b"\x01\x00",
         b"a",
-    );
-    try_add(state(1, 2, 0, 0, false), 10, 23, 8, 6, vector, b"", b"");
+    )?;
+    try_add(rt, state(1, 2, 0, 0, false), 10, 23, 8, 6, vector, b"", b"")?;
     try_add(
+        rt,
         state(1, 1, 0, 0, false),
         10,
         23,
@@ -431,8 +477,9 @@ fn room(vector: &[f32]) {
         vector,
         b"\x01\x01",
         b"ab",
-    );
+    )?;
     try_add(
+        rt,
         state(1, 1, 0, 0, false),
         10,
         23,
@@ -441,15 +488,33 @@ fn room(vector: &[f32]) {
         vector,
         b"\x01\x00\x01\x00",
         b"ab",
-    );
+    )?;
     let three = b"\x00\x00\x00\x00\x00\x00";
-    try_add(state(0, 0, 0, 0, false), 10, 23, 8, 6, vector, three, b"");
+    try_add(
+        rt,
+        state(0, 0, 0, 0, false),
+        10,
+        23,
+        8,
+        6,
+        vector,
+        three,
+        b"",
+    )
 }
 
 // An add with these labels to a state with so many counts, with all of the lists.
-fn try_text(vectors: usize, entries: usize, held: usize, lengths: &[u8], bytes: &[u8]) {
+fn try_text(
+    rt: &impl Print,
+    vectors: usize,
+    entries: usize,
+    held: usize,
+    lengths: &[u8],
+    bytes: &[u8],
+) -> io::Result<()> {
     let vector = [3.0f32, 4.0];
     try_add(
+        rt,
         state(vectors, entries, 0, held, false),
         10,
         23,
@@ -458,25 +523,25 @@ fn try_text(vectors: usize, entries: usize, held: usize, lengths: &[u8], bytes: 
         &vector,
         lengths,
         bytes,
-    );
+    )
 }
 
 // Label text: what fits and what does not, with and without bytes held; 9, 10 and 11 before 20.
-fn label_text() {
-    try_text(0, 0, 0, b"\x03\x00\x00\x01", b"abcd");
-    try_text(0, 0, 0, b"\x03\x00\x00\x02", b"abcde");
-    try_text(1, 0, 2, b"\x01\x01", b"ab");
-    try_text(1, 0, 3, b"\x01\x01", b"ab");
-    try_text(1, 1, 4, b"\x00\x00", b"");
-    try_text(1, 1, 4, b"\x01\x00", b"a");
-    try_text(1, 1, 1, b"\x00\x03", b"abc");
-    try_text(0, 0, 0, b"\x05", b"abcde");
-    try_text(2, 0, 4, b"\x01\x00", b"a");
-    try_text(1, 2, 4, b"\x01\x00", b"a");
+fn label_text(rt: &impl Print) -> io::Result<()> {
+    try_text(rt, 0, 0, 0, b"\x03\x00\x00\x01", b"abcd")?;
+    try_text(rt, 0, 0, 0, b"\x03\x00\x00\x02", b"abcde")?;
+    try_text(rt, 1, 0, 2, b"\x01\x01", b"ab")?;
+    try_text(rt, 1, 0, 3, b"\x01\x01", b"ab")?;
+    try_text(rt, 1, 1, 4, b"\x00\x00", b"")?;
+    try_text(rt, 1, 1, 4, b"\x01\x00", b"a")?;
+    try_text(rt, 1, 1, 1, b"\x00\x03", b"abc")?;
+    try_text(rt, 0, 0, 0, b"\x05", b"abcde")?;
+    try_text(rt, 2, 0, 4, b"\x01\x00", b"a")?;
+    try_text(rt, 1, 2, 4, b"\x01\x00", b"a")
 }
 
 // The owners of two entries, and where their labels start.
-#[derive(Drop)]
+#[derive(Clone, Copy)]
 struct Entries {
     owner: u32,
     next_owner: u32,
@@ -494,7 +559,15 @@ fn owned_by(owner: u32, next_owner: u32) -> Entries {
 }
 
 // A taking back from lists of the lengths given, with these two entries.
-fn try_take_back(index: CuratorIndex, f: usize, n: usize, h: usize, t: usize, entries: Entries)
+fn try_take_back(
+    rt: &impl Print,
+    index: CuratorIndex,
+    f: usize,
+    n: usize,
+    h: usize,
+    t: usize,
+    entries: Entries,
+) -> io::Result<()>
     requires { (f ≤ 10) × (n ≤ 23) × (h ≤ 8) × (t ≤ 6) }
 {
     let floats = [9.0f32; 10];
@@ -505,44 +578,68 @@ fn try_take_back(index: CuratorIndex, f: usize, n: usize, h: usize, t: usize, en
     numbers[3] = entries.next_owner;
     numbers[15] = entries.start;
     numbers[16] = entries.next_start;
-    print_answer(index.take_back(&floats[..f], &numbers[..n], &hashes[..h], &text[..t]));
+    print_answer(
+        rt,
+        index.take_back(&floats[..f], &numbers[..n], &hashes[..h], &text[..t]),
+    )
 }
 
-fn back_refused() {
+fn back_refused(rt: &impl Print) -> io::Result<()> {
     let entries = owned_by(0, 0);
-    try_take_back(state(3, 0, 0, 0, false), 0, 0, 0, 0, entries);
-    try_take_back(state(0, 0, 1, 0, false), 10, 23, 8, 6, entries);
-    try_take_back(state(0, 0, 0, 5, false), 10, 23, 8, 6, entries);
-    try_take_back(state(1, 0, 1, 0, true), 7, 21, 6, 4, entries);
-    try_take_back(state(1, 0, 0, 0, false), 8, 20, 6, 4, entries);
-    try_take_back(state(0, 0, 0, 0, false), 8, 21, 5, 4, entries);
-    try_take_back(state(0, 0, 0, 0, false), 8, 21, 6, 3, entries);
-    try_take_back(state(1, 0, 1, 0, true), 8, 21, 6, 4, entries);
-    try_take_back(state(0, 0, 0, 0, false), 8, 21, 6, 4, entries);
-    try_take_back(state(0, 2, 0, 0, false), 8, 21, 6, 4, entries);
+    try_take_back(rt, state(3, 0, 0, 0, false), 0, 0, 0, 0, entries)?;
+    try_take_back(rt, state(0, 0, 1, 0, false), 10, 23, 8, 6, entries)?;
+    try_take_back(rt, state(0, 0, 0, 5, false), 10, 23, 8, 6, entries)?;
+    try_take_back(rt, state(1, 0, 1, 0, true), 7, 21, 6, 4, entries)?;
+    try_take_back(rt, state(1, 0, 0, 0, false), 8, 20, 6, 4, entries)?;
+    try_take_back(rt, state(0, 0, 0, 0, false), 8, 21, 5, 4, entries)?;
+    try_take_back(rt, state(0, 0, 0, 0, false), 8, 21, 6, 3, entries)?;
+    try_take_back(rt, state(1, 0, 1, 0, true), 8, 21, 6, 4, entries)?;
+    try_take_back(rt, state(0, 0, 0, 0, false), 8, 21, 6, 4, entries)?;
+    try_take_back(rt, state(0, 2, 0, 0, false), 8, 21, 6, 4, entries)
 }
 
 // A taking back from a state with so many vectors, entries and bytes.
-fn back_from(vectors: usize, entries: usize, held: usize, stored: Entries) {
-    try_take_back(state(vectors, entries, 0, held, false), 8, 21, 6, 4, stored);
+fn back_from(
+    rt: &impl Print,
+    vectors: usize,
+    entries: usize,
+    held: usize,
+    stored: Entries,
+) -> io::Result<()> {
+    try_take_back(
+        rt,
+        state(vectors, entries, 0, held, false),
+        8,
+        21,
+        6,
+        4,
+        stored,
+    )
 }
 
-fn back_accepted() {
-    back_from(1, 0, 4, owned_by(0, 0));
-    back_from(1, 2, 4, owned_by(0, 0));
-    back_from(2, 0, 4, owned_by(1, 1));
-    back_from(2, 1, 4, owned_by(1, 1));
-    back_from(2, 2, 4, owned_by(1, 1));
-    back_from(2, 2, 4, owned_by(0, 1));
-    back_from(2, 2, 4, owned_by(1, 0));
-    back_from(2, 2, 4, owned_by(0, 0));
-    back_from(2, 2, 4, owned_by(1, 2));
-    back_from(2, 2, 4, owned_by(4294967295, 1));
+fn back_accepted(rt: &impl Print) -> io::Result<()> {
+    back_from(rt, 1, 0, 4, owned_by(0, 0))?;
+    back_from(rt, 1, 2, 4, owned_by(0, 0))?;
+    back_from(rt, 2, 0, 4, owned_by(1, 1))?;
+    back_from(rt, 2, 1, 4, owned_by(1, 1))?;
+    back_from(rt, 2, 2, 4, owned_by(1, 1))?;
+    back_from(rt, 2, 2, 4, owned_by(0, 1))?;
+    back_from(rt, 2, 2, 4, owned_by(1, 0))?;
+    back_from(rt, 2, 2, 4, owned_by(0, 0))?;
+    back_from(rt, 2, 2, 4, owned_by(1, 2))?;
+    back_from(rt, 2, 2, 4, owned_by(4294967295, 1))
 }
 
 // The start of the first entry that goes, against the bytes held.
-fn back_to(held: usize, owner: u32, start: u32, next_start: u32) {
+fn back_to(
+    rt: &impl Print,
+    held: usize,
+    owner: u32,
+    start: u32,
+    next_start: u32,
+) -> io::Result<()> {
     back_from(
+        rt,
         2,
         2,
         held,
@@ -552,20 +649,20 @@ fn back_to(held: usize, owner: u32, start: u32, next_start: u32) {
             start,
             next_start,
         },
-    );
+    )
 }
 
-fn back_bytes() {
-    back_to(4, 0, 0, 5);
-    back_to(4, 0, 0, 4);
-    back_to(4, 0, 9, 0);
-    back_to(4, 1, 2, 0);
-    back_to(4, 1, 4294967295, 0);
-    back_to(0, 0, 0, 3);
+fn back_bytes(rt: &impl Print) -> io::Result<()> {
+    back_to(rt, 4, 0, 0, 5)?;
+    back_to(rt, 4, 0, 0, 4)?;
+    back_to(rt, 4, 0, 9, 0)?;
+    back_to(rt, 4, 1, 2, 0)?;
+    back_to(rt, 4, 1, 4294967295, 0)?;
+    back_to(rt, 0, 0, 0, 3)
 }
 
 // The document ids of two vectors, and their live marks.
-#[derive(Drop)]
+#[derive(Clone, Copy)]
 struct Documents {
     id: u32,
     next_id: u32,
@@ -583,7 +680,15 @@ fn of_ids(id: u32, next_id: u32, mark: u32, next_mark: u32) -> Documents {
 }
 
 // A withdrawal of document 77 from lists of the lengths given, with these two vectors.
-fn try_withdraw(index: CuratorIndex, f: usize, n: usize, h: usize, t: usize, stored: Documents)
+fn try_withdraw(
+    rt: &impl Print,
+    index: CuratorIndex,
+    f: usize,
+    n: usize,
+    h: usize,
+    t: usize,
+    stored: Documents,
+) -> io::Result<()>
     requires { (f ≤ 10) × (n ≤ 23) × (h ≤ 8) × (t ≤ 6) }
 {
     let floats = [9.0f32; 10];
@@ -594,76 +699,145 @@ fn try_withdraw(index: CuratorIndex, f: usize, n: usize, h: usize, t: usize, sto
     numbers[1] = stored.next_id;
     numbers[19] = stored.mark;
     numbers[20] = stored.next_mark;
-    print_answer(index.withdraw(
-        &floats[..f],
-        &mut numbers[..n],
-        &hashes[..h],
-        &text[..t],
-        77,
-    ));
-    print_lists(&floats, &numbers, &hashes, &text);
+    print_answer(
+        rt,
+        index.withdraw(
+            &floats[..f],
+            &mut numbers[..n],
+            &hashes[..h],
+            &text[..t],
+            77,
+        ),
+    )?;
+    print_lists(rt, &floats, &numbers, &hashes, &text)
 }
 
 // Rows 4 and 3 before 24, whether a vector has the id or not; built or not makes no difference.
-fn withdraw_refused() {
+fn withdraw_refused(rt: &impl Print) -> io::Result<()> {
     let both = of_ids(77, 77, 1, 1);
     let none = of_ids(76, 78, 1, 1);
-    try_withdraw(state(3, 0, 0, 0, false), 0, 0, 0, 0, both);
-    try_withdraw(state(3, 0, 0, 0, false), 10, 23, 8, 6, none);
-    try_withdraw(state(0, 0, 1, 0, false), 10, 23, 8, 6, both);
-    try_withdraw(state(2, 0, 0, 0, true), 10, 23, 8, 6, both);
-    try_withdraw(state(2, 0, 0, 5, false), 10, 23, 8, 6, both);
-    try_withdraw(state(2, 0, 0, 0, false), 7, 21, 6, 4, both);
-    try_withdraw(state(2, 0, 1, 0, true), 8, 20, 6, 4, both);
-    try_withdraw(state(2, 0, 0, 0, false), 8, 21, 5, 4, none);
-    try_withdraw(state(0, 0, 0, 0, false), 8, 21, 6, 3, none);
-    try_withdraw(state(0, 0, 0, 0, false), 8, 21, 6, 4, both);
-    try_withdraw(state(2, 0, 0, 0, false), 8, 21, 6, 4, none);
-    try_withdraw(state(2, 0, 1, 0, true), 10, 23, 8, 6, none);
-    try_withdraw(state(1, 0, 0, 0, false), 10, 23, 8, 6, of_ids(76, 77, 1, 1));
+    try_withdraw(rt, state(3, 0, 0, 0, false), 0, 0, 0, 0, both)?;
+    try_withdraw(rt, state(3, 0, 0, 0, false), 10, 23, 8, 6, none)?;
+    try_withdraw(rt, state(0, 0, 1, 0, false), 10, 23, 8, 6, both)?;
+    try_withdraw(rt, state(2, 0, 0, 0, true), 10, 23, 8, 6, both)?;
+    try_withdraw(rt, state(2, 0, 0, 5, false), 10, 23, 8, 6, both)?;
+    try_withdraw(rt, state(2, 0, 0, 0, false), 7, 21, 6, 4, both)?;
+    try_withdraw(rt, state(2, 0, 1, 0, true), 8, 20, 6, 4, both)?;
+    try_withdraw(rt, state(2, 0, 0, 0, false), 8, 21, 5, 4, none)?;
+    try_withdraw(rt, state(0, 0, 0, 0, false), 8, 21, 6, 3, none)?;
+    try_withdraw(rt, state(0, 0, 0, 0, false), 8, 21, 6, 4, both)?;
+    try_withdraw(rt, state(2, 0, 0, 0, false), 8, 21, 6, 4, none)?;
+    try_withdraw(rt, state(2, 0, 1, 0, true), 10, 23, 8, 6, none)?;
+    try_withdraw(
+        rt,
+        state(1, 0, 0, 0, false),
+        10,
+        23,
+        8,
+        6,
+        of_ids(76, 77, 1, 1),
+    )
 }
 
 // One vector or both, held or not, with marks of any number; 0 stays.
-fn withdraw_accepted() {
-    try_withdraw(state(2, 0, 0, 0, false), 8, 21, 6, 4, of_ids(77, 77, 1, 1));
-    try_withdraw(state(2, 0, 1, 0, true), 8, 21, 6, 4, of_ids(77, 77, 1, 1));
-    try_withdraw(state(2, 2, 0, 4, false), 10, 23, 8, 6, of_ids(77, 78, 1, 1));
-    try_withdraw(state(2, 0, 1, 0, true), 10, 23, 8, 6, of_ids(76, 77, 1, 1));
-    try_withdraw(state(1, 0, 0, 0, false), 10, 23, 8, 6, of_ids(77, 77, 1, 1));
+fn withdraw_accepted(rt: &impl Print) -> io::Result<()> {
     try_withdraw(
+        rt,
+        state(2, 0, 0, 0, false),
+        8,
+        21,
+        6,
+        4,
+        of_ids(77, 77, 1, 1),
+    )?;
+    try_withdraw(
+        rt,
+        state(2, 0, 1, 0, true),
+        8,
+        21,
+        6,
+        4,
+        of_ids(77, 77, 1, 1),
+    )?;
+    try_withdraw(
+        rt,
+        state(2, 2, 0, 4, false),
+        10,
+        23,
+        8,
+        6,
+        of_ids(77, 78, 1, 1),
+    )?;
+    try_withdraw(
+        rt,
+        state(2, 0, 1, 0, true),
+        10,
+        23,
+        8,
+        6,
+        of_ids(76, 77, 1, 1),
+    )?;
+    try_withdraw(
+        rt,
+        state(1, 0, 0, 0, false),
+        10,
+        23,
+        8,
+        6,
+        of_ids(77, 77, 1, 1),
+    )?;
+    try_withdraw(
+        rt,
         state(2, 0, 0, 0, false),
         10,
         23,
         8,
         6,
         of_ids(77, 77, 2, 4294967295),
-    );
-    try_withdraw(state(2, 0, 0, 0, false), 10, 23, 8, 6, of_ids(77, 77, 0, 1));
-    try_withdraw(state(2, 0, 1, 0, true), 10, 23, 8, 6, of_ids(77, 76, 0, 0));
+    )?;
     try_withdraw(
+        rt,
+        state(2, 0, 0, 0, false),
+        10,
+        23,
+        8,
+        6,
+        of_ids(77, 77, 0, 1),
+    )?;
+    try_withdraw(
+        rt,
+        state(2, 0, 1, 0, true),
+        10,
+        23,
+        8,
+        6,
+        of_ids(77, 76, 0, 0),
+    )?;
+    try_withdraw(
+        rt,
         state(2, 0, 0, 0, false),
         10,
         23,
         8,
         6,
         of_ids(65613, 77, 3, 3),
-    );
+    )
 }
 
-fn main() {
-    dimensions();
-    settings();
-    sizes();
+fn main(rt: HostRuntime) -> io::Result<()> {
+    dimensions(&rt)?;
+    settings(&rt)?;
+    sizes(&rt)?;
     let vector = [3.0f32, 4.0];
-    states(&vector);
-    lists(&vector);
-    vectors();
-    labels(&vector);
-    room(&vector);
-    label_text();
-    back_refused();
-    back_accepted();
-    back_bytes();
-    withdraw_refused();
-    withdraw_accepted();
+    states(&rt, &vector)?;
+    lists(&rt, &vector)?;
+    vectors(&rt)?;
+    labels(&rt, &vector)?;
+    room(&rt, &vector)?;
+    label_text(&rt)?;
+    back_refused(&rt)?;
+    back_accepted(&rt)?;
+    back_bytes(&rt)?;
+    withdraw_refused(&rt)?;
+    withdraw_accepted(&rt)
 }

@@ -1,6 +1,8 @@
 // Three rounds of k-means over the vectors of ids. The centres stand in the float list behind the
 // vectors, `count` of which are held. Of the work list the first n places, which hold the marks of
 // the n ids, are written.
+#![tactic(auto)]
+
 pub mod blocks;
 pub mod marks;
 pub mod means;

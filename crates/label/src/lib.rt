@@ -1,4 +1,6 @@
 // Label hashes: FNV-1a of 64 bits.
+#![tactic(auto)]
+
 ghost use Rattle.std.specs.Prelude.{◌≡◌, ◌*◌, ◌%◌, ◌^◌, ◌++◌};
 ghost use Rattle.label.specs.Fnv.{prime, fnv_step, fnv_from, fnv};
 

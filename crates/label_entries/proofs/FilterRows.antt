@@ -13,19 +13,19 @@ use Rattle.lists.specs.Parts.{get_d_part, part-part, get_d_sets_before, part-set
 use Rattle.store.specs.declared.Shape.{Shape}
 use Rattle.store.specs.Store.{nodes_at, links_at, entry_order_at, filters_at, numbers_size, hashes_size, node_field}
 use Rattle.bloom.specs.Filter.{empty_filter, insert_all, union_all}
-use Rattle.tree.specs.Tree.{Splitting, tree_of, size}
+use Rattle.tree.specs.Tree.{Splitting, tree_of}
 use Rattle.tree.specs.Nodes.{Entries, Node, no_node, nodes_of}
 use Rattle.tree.specs.Layout.{start_of, numbers_of, hashes_of}
-use Rattle.tree.specs.TreeLaws.{fair_tree_of}
-use Rattle.tree.specs.NodeLaws.{length-nodes_of}
-use Rattle.tree.specs.NodeEntryLaws.{entry_below}
-use Rattle.tree.specs.NumberedNodes.{node-entries, node-filter-length, nodes_of-children, filter-at}
-use Rattle.tree.specs.LayoutLaws.{block_at, NodesFit, six_of, length-numbers_of, field_read, start-at, count_at, children-read, entries-read, start-end, length_blocks, row_read_lem}
+use Rattle.tree.proofs.TreeLaws.{fair_tree_of}
+use Rattle.tree.proofs.NodeLaws.{length-nodes_of}
+use Rattle.tree.proofs.NodeEntryLaws.{entry_below}
+use Rattle.tree.proofs.NumberedNodes.{node-entries, node-filter-length, nodes_of-children, filter-at}
+use Rattle.tree.proofs.LayoutLaws.{block_at, NodesFit, six_of, length-numbers_of, field_read, start-at, count_at, children-read, entries-read, start-end, length_blocks, row_read_lem}
 use Rattle.node_table.specs.Table.{places_of, cell}
 use Rattle.node_filters.specs.Filters.{entry_block, child_block, filter_made, filters_made}
 use Rattle.node_filters.specs.Promises.{RowFits}
 use Rattle.lists.specs.Maps.{map_same}
-use Rattle.node_filters.specs.FiltersLaws.{made-next, made_none}
+use Rattle.node_filters.proofs.FiltersLaws.{made-next, made_none}
 
 -- a part of a run that was written
 part_in_run : (l : List ℕ) (at : ℕ) (vs : List ℕ) (i n : ℕ) → at + length vs ≤ length l → i + n ≤ length vs → part (at + i) n (sets l at vs) ≡ part i n vs

@@ -13,10 +13,11 @@ use Rattle.store.specs.declared.Shape.{Shape}
 use Rattle.store.specs.Store.{owners_at, order_at, nodes_at, links_at, entry_order_at, work_size}
 use Rattle.tree.specs.Nodes.{Entries, Node, no_node}
 use Rattle.tree.specs.Layout.{six_from, numbers_of}
-use Rattle.tree.specs.NodeLaws.{length_ids, length-nodes_of}
-use Rattle.tree.specs.NodeEntryLaws.{perm_entries}
-use Rattle.tree.specs.Links.{Linked, link_up, link_up-nodes_of, length-linked}
-use Rattle.tree.specs.LayoutLaws.{block_at, block_read, block-end, NodesFit, nodes_of-fit}
+use Rattle.tree.proofs.NodeLaws.{length_ids, length-nodes_of}
+use Rattle.tree.proofs.NodeEntryLaws.{perm_entries}
+use Rattle.tree.specs.Links.{Linked, link_up}
+use Rattle.tree.proofs.LinksLaws.{link_up-nodes_of, length-linked}
+use Rattle.tree.proofs.LayoutLaws.{block_at, block_read, block-end, NodesFit, nodes_of-fit}
 use Rattle.tree.specs.Made.{made_from}
 use Rattle.node_table.specs.Table.{written, cell_at, cell, cells, column, sum_to, block_start}
 use Rattle.child_links.specs.Promises.{ChildCounts}

@@ -16,8 +16,8 @@ use Rattle.lists.specs.Tests.{which}
 use Rattle.lists.specs.Partition.{Permᴰ·symm, perm_Memᴰ, count-one-place, Different, once_perm, once-count_from}
 use Rattle.tree.specs.Tree.{Splitting, tree_of}
 use Rattle.tree.specs.Nodes.{Entries, Node, nodes_of, entries_of}
-use Rattle.tree.specs.NodeLaws.{perm_ids, length_ids, id_one_leaf}
-use Rattle.tree.specs.NumberedNodes.{node-entries}
+use Rattle.tree.proofs.NodeLaws.{perm_ids, length_ids, id_one_leaf}
+use Rattle.tree.proofs.NumberedNodes.{node-entries}
 use Rattle.node_table.specs.Table.{written, sum_to}
 use Rattle.entry_leaves.specs.Leaves.{marked}
 use Rattle.node_table.specs.TableLaws.{DistinctPlaces, last_or_below, get_d_written_other, get_d_written-same, sum_to-next}

@@ -17,7 +17,7 @@ use Rattle.lists.specs.Partition.{count}
 use Rattle.lists.specs.Parts.{get_d_part, part-append_right, get_d_sets_before, get_d_sets-after, get_d_sets_in}
 use Rattle.tree.specs.Nodes.{Node, no_node}
 use Rattle.tree.specs.Layout.{start_of, six_from}
-use Rattle.tree.specs.LayoutLaws.{block_at, six_of, six_get_d, length-six_from}
+use Rattle.tree.proofs.LayoutLaws.{block_at, six_of, six_get_d, length-six_from}
 use Rattle.tree.specs.Made.{made_from}
 use Rattle.node_table.specs.Table.{cell_at, cell, cells, column, sum_to, start_at, block_start}
 use Rattle.entry_order.specs.EntryOrder.{class_start}

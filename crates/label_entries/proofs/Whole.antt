@@ -30,14 +30,14 @@ abbrev pub linked_at : ℕ → List ℕ → Places → List ℕ
 linked_at rows numbers p =
     sets (column p.table rows (block_start p.table numbers) numbers) p.links (link_up 0 (cells (p.table + 1) rows numbers)).links
 
-abbrev pub LeavesAsk : ℕ → ℕ → ℕ → ℕ → Places → List ℕ → Type 0
-LeavesAsk at e rows size p l =
-    (at + e ≤ size)
-    × ((p.table + 3 + 6 * rows ≤ length l + 5)
-    × ((rows < 2 ^ 32)
-    × ((p.vectors + sum_to (cell (p.table + 3) l) rows ≤ length l)
-    × (((k : ℕ) → k < sum_to (cell (p.table + 3) l) rows → get_or l (p.vectors + k) 0 < at)
-    × ((p.owners + e ≤ length l) × ((k : ℕ) → k < e → get_or l (p.owners + k) 0 < at))))))
+pub record LeavesAsk (at e rows size : ℕ) (p : Places) (l : List ℕ) : Type 0 where
+  pub entries_in_bounds : at + e ≤ size
+  pub nodes_in_bounds : p.table + 3 + 6 * rows ≤ length l + 5
+  pub nodes_bound : rows < 2 ^ 32
+  pub nodes_in_bounds_2 : p.vectors + sum_to (cell (p.table + 3) l) rows ≤ length l
+  pub by_index : (k : ℕ) → k < sum_to (cell (p.table + 3) l) rows → get_or l (p.vectors + k) 0 < at
+  pub entries_in_bounds_2 : p.owners + e ≤ length l
+  pub by_index_2 : (k : ℕ) → k < e → get_or l (p.owners + k) 0 < at
 
 abbrev pub sorted_at : ℕ → List ℕ → List ℕ → Places → List ℕ
 sorted_at rows leaves l p =
@@ -152,7 +152,15 @@ module _ (g : Given) where
           let g = ids-sum s n e rows numbers hashes work room made in
           let h = long in
           let base : LeavesAsk s.vectors e rows (length work₁) (places_of s) l =
-          (omega arith, (omega arith, (omega arith, (omega arith, (places-below s n e rows numbers hashes work room made, (omega arith, owner-below s n e rows numbers hashes work room made))))))
+          record {
+            entries_in_bounds = omega arith;
+            nodes_in_bounds = omega arith;
+            nodes_bound = omega arith;
+            nodes_in_bounds_2 = omega arith;
+            by_index = places-below s n e rows numbers hashes work room made;
+            entries_in_bounds_2 = omega arith;
+            by_index_2 = owner-below s n e rows numbers hashes work room made;
+          }
           in
           subst (λ (r : List ℕ). LeavesAsk s.vectors e rows (length work₁) p r) (sym numbers-linked)
           (subst (λ (q : Places). LeavesAsk s.vectors e rows (length work₁) q l) (sym is) base)

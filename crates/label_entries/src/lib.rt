@@ -1,4 +1,6 @@
 // The finishing passes of a build: block starts, child links, label entries by leaf, filters (document 01, 'The store' and 'Entries').
+#![tactic(auto)]
+
 ghost use Rattle.label_entries.specs.Promises.{Room, AllMade, Finished};
 
 use child_links::link_nodes;

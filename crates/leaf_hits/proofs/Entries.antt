@@ -1,11 +1,11 @@
 -- Four entries of a leaf's list at once: what both tests of all four together say of each. Assumes nothing.
 use Prim.Native.Nat.{ℕ, ◌+◌, ◌≤◌, ◌<◌}
 use mathlib.Core.Path.{◌≡◌, refl, sym, ap, ap₂, ◌∙◌}
-use mathlib.Core.Bool.{Bool, true, false, ◌&&◌, not}
+use mathlib.Core.Bool.{Bool, true, false, ◌&&◌}
 use mathlib.Core.List.{List, [], ◌∷◌, map-id}
 use lib.Dec.{ltb}
 use lib.ListN.{length, get_or}
-use borrow.Author.Tests.{ltb-true, not-true, not-false}
+use borrow.Author.Tests.{ltb-true}
 use Rattle.lists.specs.Parts.{four_mapped}
 use Rattle.lists.specs.Lists.{part}
 use Rattle.lists.specs.Tests.{all_pass, and_left, and_right, and_false, all_pass-cons, all_pass_and}
@@ -33,17 +33,17 @@ module _ (p q : ℕ → Bool) (l : List ℕ) (a b c d : ℕ) (is : a ∷ b ∷ c
   both =
       ap (all_pass (λ x. p x && q x)) (sym is) ∙ all_pass_and p q (a ∷ b ∷ c ∷ d ∷ []) ∙ ap₂ ◌&&◌ (all_pass-four p a b c d) (all_pass-four q a b c d)
 
-  pub first_fails : (r : Bool) → r ≡ all_four p a b c d → not r ≡ true → all_pass (λ x. p x && q x) l ≡ false
-  first_fails r e f = both ∙ ap (λ (t : Bool). t && all_four q a b c d) (sym e ∙ not-true r f)
+  pub first_fails : (r : Bool) → r ≡ all_four p a b c d → r ≡ false → all_pass (λ x. p x && q x) l ≡ false
+  first_fails r e f = both ∙ ap (λ (t : Bool). t && all_four q a b c d) (sym e ∙ f)
 
-  pub second_fails : (r : Bool) → r ≡ all_four q a b c d → not r ≡ true → all_pass (λ x. p x && q x) l ≡ false
-  second_fails r e f = both ∙ ap (λ (t : Bool). all_four p a b c d && t) (sym e ∙ not-true r f) ∙ and_false (all_four p a b c d)
+  pub second_fails : (r : Bool) → r ≡ all_four q a b c d → r ≡ false → all_pass (λ x. p x && q x) l ≡ false
+  second_fails r e f = both ∙ ap (λ (t : Bool). all_four p a b c d && t) (sym e ∙ f) ∙ and_false (all_four p a b c d)
 
 -- if all pass, so does each
-pub all-below : (bound a b c d : ℕ) (r : Bool) → r ≡ all_four (λ x. ltb x bound) a b c d → not r ≡ false → (a < bound) × (b < bound) × (c < bound) × (d < bound)
+pub all-below : (bound a b c d : ℕ) (r : Bool) → r ≡ all_four (λ x. ltb x bound) a b c d → r ≡ true → (a < bound) × (b < bound) × (c < bound) × (d < bound)
 all-below bound a b c d r e f =
     let low : ℕ → Bool = λ x. ltb x bound in
-    let all : all_four low a b c d ≡ true = sym e ∙ not-false r f in
+    let all : all_four low a b c d ≡ true = sym e ∙ f in
     let later : (low b && (low c && low d)) ≡ true = and_right (low a) (low b && (low c && low d)) all in
     let last : (low c && low d) ≡ true = and_right (low b) (low c && low d) later in (
       ltb-true a bound (and_left (low a) (low b && (low c && low d)) all),

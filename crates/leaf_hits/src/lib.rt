@@ -1,4 +1,6 @@
 // The vectors of a leaf's list, or the owners of a label's entries in it, are added to those found (documents 01, 'Search', and 02, K4).
+#![tactic(auto)]
+
 ghost use Rattle.std.specs.Prelude.{◌≡◌, ◌+◌, ◌-◌, ◌^◌, ◌<◌, ◌≤◌, min, length, get_or, set, drop, eqb, ltb, ◌&&◌, cond, ◌++◌};
 ghost use Rattle.lists.specs.Lists.{part, same_list};
 ghost use Rattle.walk.specs.Wanted.{with_label};
@@ -7,7 +9,7 @@ ghost use Rattle.leaf_hits.specs.Promises.{AddHits, AddLent, GatherLent, KeepLen
 use store::{Counts, Shape, wide};
 
 // The vectors found after those of a leaf, or damage.
-#[derive(Drop)]
+#[derive(Clone, Copy)]
 pub enum Added {
     Damaged,
     Hits(usize),

@@ -1,6 +1,6 @@
 -- Laws of `map`: of functions that agree on a list, and of an element.
 use Rattle.std.specs.Prelude.{◌≡◌, refl, ℕ, zero, suc, ◌<◌, length, get_or, take, replicate}
-use Rattle.std.proofs.Common.{ap, ap₂, not-suc-le-zero, le_of_suc-le-suc, arith}
+use Rattle.std.proofs.Common.{inl, inr, ap, ap₂, not-suc-le-zero, le_of_suc-le-suc, arith}
 use mathlib.Core.List.Memᴰ
 use mathlib.Core.List.{List, [], ◌∷◌, map, Memᴰ}
 use Rattle.lists.specs.Lists.{count_from}
@@ -35,8 +35,10 @@ count_from-suc i (suc n) = ap (λ (l : List ℕ). suc i ∷ l) (count_from-suc (
 -- an element of a mapped list is that of an element
 pub Memᴰ-map {ℓ κ} : {A : Type ℓ} {B : Type κ} (f : A → B) {y : B} {l : List A} → Memᴰ y (map f l) → (x : A) × Memᴰ x l × (y ≡ f x)
 Memᴰ-map f {l = []} m = absurd (Memᴰ.not-nil m)
-Memᴰ-map f {l = x ∷ xs} (Memᴰ.head e) = (x, Memᴰ.head refl, e)
-Memᴰ-map f {l = x ∷ xs} (Memᴰ.tail m) = let (z, k, e) = Memᴰ-map f m in (z, Memᴰ.tail k, e)
+Memᴰ-map f {l = x ∷ xs} m = elim (Memᴰ.cases_cons m) [
+  | inl e ↦ (x, Memᴰ.head refl, e)
+  | inr k ↦ let r = Memᴰ-map f k in (r.0, Memᴰ.tail r.1, r.2)
+]
 
 -- one of a first part is one of the list
 pub take-Memᴰ {ℓ} : {A : Type ℓ} (k : ℕ) (l : List A) {x : A} → Memᴰ x (take k l) → Memᴰ x l

@@ -1,1 +1,2 @@
 // Laws on lists that several crates share: specs/ alone, no code.
+#![tactic(auto)]

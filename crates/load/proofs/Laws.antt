@@ -13,9 +13,6 @@ use Rattle.lists.specs.Lists.{total, pieces}
 use Rattle.lists.specs.Parts.{length_part}
 use Rattle.label.specs.Names.{whole_lengths}
 use Rattle.label.specs.NameLaws.{length_whole, names-whole, whole-fit}
-use types.Run.{OneOf, miss}
-use denote.Enum.Declared.{tag_of}
-use Rattle.echo_file.specs.contracts.Located.{the_type as located-type}
 use Rattle.curator.specs.declared.CuratorIndex.{CuratorIndex}
 use Rattle.curator.specs.declared.Changed.{Changed}
 use Rattle.curator.specs.declared.Changed.TheVariants as Changed'
@@ -48,23 +45,6 @@ use Rattle.load.specs.declared.task.Task.TheVariants.{Done, Add, Find}
 use Rattle.load.specs.Step.{LoadLists, known, opened_by, found_by, search_end, SearchesBuilt, KeepsLists, CarriesOut, CarriesRead, CarriesAt, Carries}
 use Rattle.load.specs.Code.{floats_at, add_at, CarriesFirst, CarriesNext, Asks, task_of}
 
--- ---- settings
-
-pub open_refused : (x : Changed) (r : Refusal) (d next : ℕ) → x ≡ Changed'.Refused r → Refused r ≡ opened_by x d next
-open_refused x r d next e = ap (λ (y : Changed). opened_by y d next) (sym e)
-
-pub open_wide : (x : Changed) (index : CuratorIndex) (d next : ℕ) → x ≡ Changed'.Index index → 16 < d
-    → Refused (Settings InvalidConfig) ≡ opened_by x d next
-open_wide x index d next e h =
-    ap (λ (b : Bool). cond b (Refused (Settings InvalidConfig)) (Silent (Running index) next)) (sym (lt-ltb 16 d h))
-    ∙ ap (λ (y : Changed). opened_by y d next) (sym e)
-
-pub open_narrow : (x : Changed) (index : CuratorIndex) (d next : ℕ) → x ≡ Changed'.Index index → d ≤ 16
-    → Silent (Running index) next ≡ opened_by x d next
-open_narrow x index d next e h =
-    ap (λ (b : Bool). cond b (Refused (Settings InvalidConfig)) (Silent (Running index) next)) (sym (le-ltb 16 d h))
-    ∙ ap (λ (y : Changed). opened_by y d next) (sym e)
-
 -- ---- the record at a place
 
 pub stands-carried : (file : List ℕ) (at : ℕ) (loading : Loading) (lent : LoadLists) (carried : Carried) (lent' : LoadLists) (r : format.FileRecord) (next : ℕ)
@@ -81,52 +61,7 @@ bad_carried file at loading lent carried lent' b never keeps =
     subst (λ (d : Decoded format.FileRecord). CarriesRead d file at loading lent carried lent')
     (sym ((none_exactly (known loading) (drop at file) (bytes_drop at file b)).1 never)) keeps
 
--- ---- a build, and the search after it
-
-pub build_refused : (index : CuratorIndex) (call : LoadLists → SearchCall) (next : ℕ) (lent lent' : LoadLists) (answer : Changed) (r : Refusal)
-    → Builds index lent.store lent.work answer lent'.store lent'.work → answer ≡ Changed'.Refused r → lent'.ids ≡ lent.ids
-    → lent'.distances ≡ lent.distances
-    → SearchesBuilt index call next lent (Refused r) lent'
-build_refused index call next lent lent' answer r b e i d =
-    record {
-      answer = Changed'.Refused r;
-      work = lent'.work;
-      builds = subst (λ (x : Changed). Builds index lent.store lent.work x lent'.store lent'.work) e b;
-      searches = (refl, refl, i, d);
-    }
-
-pub build_searched : (index : CuratorIndex) (call : LoadLists → SearchCall) (next : ℕ) (lent lent' : LoadLists) (answer : Changed) (ready : CuratorIndex)
-    (work : List ℕ) (reply : Reply) (carried : Carried) → Builds index lent.store lent.work answer lent'.store work → answer ≡ Changed'.Index ready
-    → Searches ready lent'.store work (call lent) (search_end reply lent') → carried ≡ found_by ready reply next
-    → SearchesBuilt index call next lent carried lent'
-build_searched index call next lent lent' answer ready work reply carried b e s f =
-    record {
-      answer = Changed'.Index ready;
-      work = work;
-      builds = subst (λ (x : Changed). Builds index lent.store lent.work x lent'.store work) e b;
-      searches = (reply, s, f);
-    }
-
 -- ---- what a record asks for
-
--- what was written into the first n places stands in front
-written-front : {A : Type 0} (out rest written : List A) {n : ℕ} → out ≡ written → length written ≡ n
-    → (n ≤ length (out ++ rest)) × (take n (out ++ rest) ≡ written)
-written-front out rest written {n} h e =
-    let size : length out ≡ n = ap length h ∙ e in
-    (omega (arith, size, length-append out rest), take_at out rest n size ∙ h)
-
--- floats that were read
-pub floats-front : (out rest : List Float) (file : List ℕ) (at : ℕ) {m n : ℕ} → m ≡ n → out ≡ floats (numbers m (drop at file))
-    → (n ≤ length (out ++ rest)) × (take n (out ++ rest) ≡ floats_at n file at)
-floats-front out rest file at {m} {n} e h =
-    written-front out rest (floats_at n file at) (h ∙ ap (λ (k : ℕ). floats (numbers k (drop at file))) e)
-    (length-map (numbers n (drop at file)) (of_bits binary32) ∙ length-numbers n (drop at file))
-
--- lengths that were made of those read
-pub lengths-front : (out rest lengths : List ℕ) {n : ℕ} → 2 * length lengths ≡ n → out ≡ whole_lengths lengths
-    → (n ≤ length (out ++ rest)) × (take n (out ++ rest) ≡ whole_lengths lengths)
-lengths-front out rest lengths e h = written-front out rest (whole_lengths lengths) h (length_whole lengths ∙ e)
 
 -- the names of an add are the labels that were read
 read_names : (document : ℕ) (vector : List Float) (labels : List (List ℕ)) {lengths bytes : List ℕ} → lengths ≡ map length labels → bytes ≡ format.label_bytes labels
@@ -181,55 +116,16 @@ task_asks index file at (Search k place next) n s =
           stands-carried file at (Running index) lent carried lent' (format.unfiltered k (patterns_at (known (Running index)) file place)) next s.stands a;
     }
 
--- what comes to one thing comes to what follows from it
-pub asks_as : (file : List ℕ) (P Q : LoadLists → Carried → LoadLists → Type 0)
-    → ((lent : LoadLists) (carried : Carried) (lent' : LoadLists) → P lent carried lent' → Q lent carried lent')
-    → (task : Task) → Asks file P task → Asks file Q task
-asks_as file P Q to (Done carried) a = λ lent. to lent carried lent (a lent)
-asks_as file P Q to (Add index v) a = record { stands = a.stands; comes = λ lent carried store h. to lent carried _ (a.comes lent carried store h) }
-asks_as file P Q to (Find index q) a = record { stands = a.stands; comes = λ lent carried lent' h. to lent carried lent' (a.comes lent carried lent' h) }
-
 -- a first record that is not settings
 pub first_misplaced : (file : List ℕ) (at : ℕ) (lent : LoadLists) (carried : Carried) (located : Located)
-    → OneOf (1 ∷ 2 ∷ 3 ∷ []) (tag_of located-type located)
+    → ((d b l e w next : ℕ) → located ≡ SettingsAt d b l e w next → ⊥)
     → Reads (known Unset) file at (Found located) → carried ≡ Refused (Input SettingsOrder)
     → CarriesRead (decode (known Unset) (drop at file)) file at Unset lent carried lent
-first_misplaced file at lent carried (SettingsAt d b l e w next) o s k = absurd (miss (1 ∷ 2 ∷ 3 ∷ []) 0 tt o)
+first_misplaced file at lent carried (SettingsAt d b l e w next) o s k = absurd (o d b l e w next refl)
 first_misplaced file at lent carried (Vector document lengths-at labels-at floats-at next) o s k =
     stands-carried file at Unset lent carried lent _ next s.stands (k, refl)
 first_misplaced file at lent carried (Filtered n label_at floats-at next) o s k = stands-carried file at Unset lent carried lent _ next s.stands (k, refl)
 first_misplaced file at lent carried (Search n floats-at next) o s k = stands-carried file at Unset lent carried lent _ next s.stands (k, refl)
-
--- ---- the place in the file
-
-module _ (file : List ℕ) (at : ℕ) (loading : Loading) where
-  pub carries-long : (lent : LoadLists) (carried : Carried) (lent' : LoadLists) → 65536 < length file → KeepsLists lent (Refused (Input FileTooLong)) carried lent'
-      → Carries file at loading lent carried lent'
-  carries-long lent carried lent' h k =
-      subst (λ (b : Bool). CarriesAt b (leb (length file) at) file at loading lent carried lent') (sym (lt-ltb 65536 (length file) h)) k
-
-  inside : (lent : LoadLists) (carried : Carried) (lent' : LoadLists) (b : Bool) → length file ≤ 65536 → leb (length file) at ≡ b
-      → CarriesAt false b file at loading lent carried lent' → Carries file at loading lent carried lent'
-  inside lent carried lent' b h e k =
-      subst (λ (x : Bool). CarriesAt x (leb (length file) at) file at loading lent carried lent') (sym (le-ltb 65536 (length file) h))
-      (subst (λ (x : Bool). CarriesAt false x file at loading lent carried lent') (sym e) k)
-
-  pub carries-end : (lent : LoadLists) (carried : Carried) (lent' : LoadLists) → length file ≤ 65536 → length file ≤ at → KeepsLists lent End carried lent'
-      → Carries file at loading lent carried lent'
-  carries-end lent carried lent' h l k = inside lent carried lent' true h (le-leb (length file) at l) k
-
-  pub carries-first : (lent : LoadLists) (carried : Carried) → length file ≤ 65536 → at < length file → loading ≡ Unset → CarriesFirst file at carried
-      → Carries file at loading lent carried lent
-  carries-first lent carried h l e k =
-      inside lent carried lent false h (lt-leb (length file) at l)
-      (subst (λ (x : Loading). CarriesRead (decode (known x) (drop at file)) file at x lent carried lent) (sym e) (k lent))
-
-  pub carries-next : (lent : LoadLists) (carried : Carried) (lent' : LoadLists) (index : CuratorIndex) → length file ≤ 65536 → at < length file
-      → loading ≡ Running index → CarriesNext index file at lent carried lent'
-      → Carries file at loading lent carried lent'
-  carries-next lent carried lent' index h l e k =
-      inside lent carried lent' false h (lt-leb (length file) at l)
-      (subst (λ (x : Loading). CarriesRead (decode (known x) (drop at file)) file at x lent carried lent') (sym e) k)
 
 -- ---- what is written
 

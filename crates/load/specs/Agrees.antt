@@ -34,7 +34,7 @@ use Rattle.settings.specs.declared.refusal.SettingsRefusal.TheVariants.{InvalidC
 use Rattle.settings.specs.declared.refusal.InputRefusal.TheVariants.{SettingsOrder}
 use Rattle.curator.specs.Outcome.{changed_number}
 use Rattle.settings.specs.Refusals.{number, check_number}
-use Rattle.curator.specs.RowLaws.{number-positive, creates-is}
+use Rattle.curator.proofs.RowLaws.{number-positive, creates-is}
 use Rattle.curator.specs.Changes.{Creates}
 use Rattle.curator.specs.Arguments.{AddCall, SearchCall, Asked, everything, labelled}
 use Rattle.curator.specs.Searches.{Searches}
@@ -43,13 +43,13 @@ use Rattle.runs.specs.Model.{Setting, Model, empty_model, change_check, changed_
 use Rattle.runs.specs.Run.{found, Lent, next_index, Changes, SearchStep}
 use Rattle.runs.specs.Theorem.{AnsweredWith, reply_of, Matches}
 use Rattle.store.specs.Fronts.{nothing, join_nothing}
-use Rattle.runs.specs.State.{Allowed, created-is}
-use Rattle.runs.specs.Refusals.{SearchRoom, search-room}
-use Rattle.runs.specs.Invariant.{Invariant, begins}
-use Rattle.runs.specs.ChangeLaws.{ChangeEnds}
-use Rattle.runs.specs.Builds.{build-lengths}
-use Rattle.runs.specs.Reached.{change-keeps, search-step}
-use Rattle.runs.specs.Contents.{alike-expected}
+use Rattle.runs.proofs.State.{Allowed, created-is}
+use Rattle.runs.proofs.Refusals.{SearchRoom, search-room}
+use Rattle.runs.proofs.Invariant.{Invariant, begins}
+use Rattle.runs.proofs.ChangeLaws.{ChangeEnds}
+use Rattle.runs.proofs.Builds.{build-lengths}
+use Rattle.runs.proofs.Reached.{change-keeps, search-step}
+use Rattle.runs.proofs.Contents.{alike-expected}
 use Rattle.echo_file.specs.Format.{FileRecord, settings, vector, filtered, unfiltered}
 use Rattle.text.specs.Lines.{hit_lines, hit_line_at, hit_line, closing_line, refused_line}
 use Rattle.load.specs.declared.Loading.{Loading}

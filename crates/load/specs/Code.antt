@@ -1,13 +1,12 @@
 -- What the functions of the code promise; `Steps` is made of it.
 use Rattle.std.specs.Prelude.{ℕ, ◌+◌, ◌*◌, ◌≤◌, Bool, true, false, List, ◌≡◌, Float, length, drop}
-use Rattle.std.specs.Borrow.{Bor}
 use Rattle.label.specs.Names.{whole_lengths}
 use Rattle.store.specs.Store.{Store}
 use Rattle.curator.specs.declared.CuratorIndex.{CuratorIndex}
 use Rattle.curator.specs.declared.Changed.{Changed}
 use Rattle.settings.specs.declared.refusal.Refusal.TheVariants.{Input}
 use Rattle.settings.specs.declared.refusal.InputRefusal.TheVariants.{SettingsOrder}
-use Rattle.store.specs.Lent as store
+use Rattle.store.specs.Lent.{store_of}
 use Rattle.curator.specs.Changes.{Adds}
 use Rattle.curator.specs.Arguments.{AddCall, add_of, SearchCall, Asked, everything, labelled}
 use Rattle.echo_file.specs.declared.Located.{Located}
@@ -28,9 +27,9 @@ use Rattle.load.specs.File.{floats}
 use Rattle.load.specs.Step.{LoadLists, known, added_by, SearchesBuilt, search_with, CarriesRead}
 
 -- the lists that a step is lent
-abbrev pub lists : Bor (List Float) → Bor (List ℕ) → Bor (List ℕ) → Bor (List ℕ) → Bor (List ℕ) → Bor (List ℕ) → Bor (List Float) → LoadLists
+abbrev pub lists : List Float → List ℕ → List ℕ → List ℕ → List ℕ → List ℕ → List Float → LoadLists
 lists floats numbers hashes labels work ids distances =
-    record { store = store.lent floats numbers hashes labels; work = work.now; ids = ids.now; distances = distances.now }
+    record { store = store_of floats numbers hashes labels; work = work; ids = ids; distances = distances }
 
 -- what a search asks for: a label where it is filtered
 abbrev pub asked_for : Bool → List ℕ → Asked

@@ -16,13 +16,13 @@ use Rattle.curator.specs.declared.Changed.{Changed}
 use Rattle.curator.specs.declared.Changed.TheVariants as Changed'
 use Rattle.settings.specs.declared.refusal.Refusal.TheVariants.{Input}
 use Rattle.settings.specs.declared.refusal.InputRefusal.TheVariants.{BadRecord, SettingsOrder, FileTooLong}
-use Rattle.curator.specs.RowLaws.{is-created}
+use Rattle.curator.proofs.RowLaws.{is-created}
 use Rattle.curator.specs.Changes.{created, Builds}
 use Rattle.curator.specs.Arguments.{AddCall, SearchCall, everything, labelled}
 use Rattle.store.specs.Fronts.{zeros}
 use Rattle.runs.specs.Calls.{add, build}
-use Rattle.runs.specs.Reached.{change_laws}
-use Rattle.runs.specs.Exists.{search-outcome}
+use Rattle.runs.proofs.Reached.{change_laws}
+use Rattle.runs.proofs.Exists.{search-outcome}
 use Rattle.echo_file.specs.Format.{FileRecord, settings, vector, filtered, unfiltered, encode, Bytes}
 use Rattle.echo_file.specs.FieldLaws.{bytes_drop}
 use Rattle.echo_file.specs.Decode.{Decoded, none, found, decode}

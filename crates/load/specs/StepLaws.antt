@@ -21,14 +21,14 @@ use Rattle.settings.specs.declared.refusal.Refusal.TheVariants.{Settings, Input}
 use Rattle.settings.specs.declared.refusal.SettingsRefusal.TheVariants.{InvalidConfig}
 use Rattle.settings.specs.declared.refusal.InputRefusal.TheVariants.{BadRecord, SettingsOrder, FileTooLong}
 use Rattle.curator.specs.Rows.{state_row, search_rows}
-use Rattle.curator.specs.RowLaws.{fine_none}
+use Rattle.curator.proofs.RowLaws.{fine_none}
 use Rattle.curator.specs.Calls.{facts_of}
 use Rattle.store.specs.Lent.{lengths_of}
 use Rattle.curator.specs.Limits.{state_sound}
 use Rattle.curator.specs.Changes.{Adds, AddsBy, add_check, Builds, BuildsBy, BuildsFine, build_check, Creates}
 use Rattle.curator.specs.Arguments.{AddCall, everything, labelled, SearchCall, asking_of}
 use Rattle.curator.specs.Searches.{SearchEnd, Searches, SearchesBy, search_check, WalkedTo}
-use Rattle.runs.specs.State.{created-is}
+use Rattle.runs.proofs.State.{created-is}
 use Rattle.echo_file.specs.Format as format
 use Rattle.echo_file.specs.Decode.{Decoded, none, found, decode}
 use Rattle.load.specs.declared.Loading.{Loading}

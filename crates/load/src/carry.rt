@@ -1,7 +1,7 @@
 // A record carried out on the index.
 ghost use Rattle.std.specs.Prelude.{◌+◌, ◌-◌, ◌*◌, ◌≤◌, length, take, ◌≡◌};
 ghost use Rattle.label.specs.Names.{whole_lengths};
-ghost use Rattle.store.specs.Lent.{lent};
+ghost use Rattle.store.specs.Lent.{lent, store_of};
 ghost use Rattle.curator.specs.Searches.{Searches};
 ghost use Rattle.search.specs.Lent.{leaving};
 ghost use Rattle.echo_file.specs.Reads.{bytes_between};
@@ -15,7 +15,7 @@ use echo_file::floats::read_floats;
 use settings::refusal::Refusal;
 
 // What came of a record: a refusal, after which the file is left; nothing to print; or an answer. `End` where no record is left.
-#[derive(Drop)]
+#[derive(Clone, Copy)]
 pub enum Carried {
     End,
     Refused(Refusal),
@@ -101,7 +101,7 @@ fn add_vector(
 ) -> Carried
     requires { VectorIn file.now index.dimension vector }
     ensures { AddsAt index file.now vector
-        (lent floats.entry numbers.entry hashes.entry labels.entry) result (lent floats.exit numbers.exit hashes.exit labels.exit) }
+        (store_of floats.old numbers.old hashes.old labels.old) result (store_of floats.new numbers.new hashes.new labels.new) }
 {
     let count = index.dimension;
     let lengths_at = vector.lengths_at;
@@ -141,8 +141,8 @@ fn find(
     requires { QueryIn file.now count query }
     ensures { Searches index (lent floats.entry numbers.entry hashes.entry labels.entry) work.old
         (search_at count file.now query
-        (lists floats.entry numbers.entry hashes.entry labels.entry work.entry ids.entry distances.entry))
-        (leaving result work.exit ids.exit distances.exit) }
+        (lists floats.now numbers.now hashes.now labels.now work.old ids.old distances.old))
+        (leaving result work.new ids.new distances.new) }
 {
     let filtered = query.filtered;
     let label_at = query.label_at;
@@ -196,8 +196,8 @@ fn look_up(
 ) -> Carried
     requires { QueryIn file.now index.dimension query }
     ensures { SearchesAt index file.now query
-        (lists floats.entry numbers.entry hashes.entry labels.entry work.entry ids.entry distances.entry) result
-        (lists floats.exit numbers.exit hashes.exit labels.entry work.exit ids.exit distances.exit) }
+        (lists floats.old numbers.old hashes.old labels.now work.old ids.old distances.old) result
+        (lists floats.new numbers.new hashes.new labels.now work.new ids.new distances.new) }
 {
     let built = build::build(index, floats, numbers, hashes, labels, work);
     match built {
@@ -236,8 +236,8 @@ pub fn carry(
 ) -> Carried
     requires { Narrow loading }
     ensures { Carries file.now at loading
-        (lists floats.entry numbers.entry hashes.entry labels.entry work.entry ids.entry distances.entry) result
-        (lists floats.exit numbers.exit hashes.exit labels.exit work.exit ids.exit distances.exit) }
+        (lists floats.old numbers.old hashes.old labels.old work.old ids.old distances.old) result
+        (lists floats.new numbers.new hashes.new labels.new work.new ids.new distances.new) }
 {
     let task = task::task_at(loading, file, at);
     match task {

@@ -1,4 +1,6 @@
 // The load of an echo file: one step reads one record, carries it out on the index and writes what is printed of it.
+#![tactic(auto)]
+
 ghost use Rattle.std.specs.Prelude.{◌+◌, ◌*◌, ◌≤◌, length, ◌≡◌};
 ghost use Rattle.load.specs.Step.{Steps, step_of};
 ghost use Rattle.load.specs.Code.{lists, Narrow, NarrowStep};
@@ -11,14 +13,14 @@ mod print;
 mod task;
 
 // How far a file has come: to its settings or not.
-#[derive(Drop)]
+#[derive(Clone, Copy)]
 pub enum Loading {
     Unset,
     Running(CuratorIndex),
 }
 
 // How many bytes were printed, and where the file goes on.
-#[derive(Drop)]
+#[derive(Clone, Copy)]
 pub enum LoadStep {
     Ended {
         printed: usize,
@@ -68,8 +70,8 @@ pub fn load_record(
     requires ids_in_bounds { 20 * length ids.old + 27 ≤ length text.old }
     ensures narrow { NarrowStep result }
     ensures steps { Steps file.now at loading
-        (lists floats.entry numbers.entry hashes.entry labels.entry work.entry ids.entry distances.entry) text.old result
-        (lists floats.exit numbers.exit hashes.exit labels.exit work.exit ids.exit distances.exit) text.new }
+        (lists floats.old numbers.old hashes.old labels.old work.old ids.old distances.old) text.old result
+        (lists floats.new numbers.new hashes.new labels.new work.new ids.new distances.new) text.new }
 {
     let carried = carry::carry(
         loading, file, at, floats, numbers, hashes, labels, work, ids, distances,

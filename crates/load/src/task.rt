@@ -11,7 +11,7 @@ use settings::refusal::{InputRefusal, Refusal, SettingsRefusal};
 use settings::{Capacities, CuratorParams};
 
 // A vector to be added: where its length bytes, label bytes and floats start in the file, and where the file goes on.
-#[derive(Drop)]
+#[derive(Clone, Copy)]
 pub struct Vector {
     pub doc_id: u32,
     pub lengths_at: usize,
@@ -21,7 +21,7 @@ pub struct Vector {
 }
 
 // A search, for a label where it is filtered: where its label and floats start, and where the file goes on.
-#[derive(Drop)]
+#[derive(Clone, Copy)]
 pub struct Query {
     pub filtered: bool,
     pub k: usize,
@@ -31,7 +31,7 @@ pub struct Query {
 }
 
 // What there is to do of a record: no more than what came of it, an add or a search.
-#[derive(Drop)]
+#[derive(Clone, Copy)]
 pub enum Task {
     Done(Carried),
     Add(CuratorIndex, Vector),

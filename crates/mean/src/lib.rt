@@ -1,4 +1,6 @@
 // The mean of the vectors of ids.
+#![tactic(auto)]
+
 pub mod part;
 
 ghost use Rattle.std.specs.Prelude.{◌≡◌};

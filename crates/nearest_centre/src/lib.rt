@@ -1,4 +1,6 @@
 // The nearest centre of a vector.
+#![tactic(auto)]
+
 ghost use Rattle.std.specs.Prelude.{◌+◌, ◌*◌, ◌≤◌, ◌<◌, ◌^◌, ◌≡◌, cond, List, ◌∷◌, length, drop, Float};
 ghost use Rattle.std.specs.Float.Ieee.{lt};
 ghost use Rattle.lists.specs.Lists.{part};
@@ -8,7 +10,7 @@ ghost use Rattle.cluster.specs.Vectors.{vectors_from};
 use distance::places::{distance_at, distances_at};
 
 // The centre chosen so far and its distance.
-#[derive(Drop)]
+#[derive(Clone, Copy)]
 pub struct Best {
     pub number: usize,
     pub least: f32,

@@ -10,7 +10,7 @@ use Rattle.lists.specs.Lists.{part}
 use Rattle.lists.specs.Maps.{map_same}
 use Rattle.lists.specs.Parts.{length_part, get_d_sets_before, part-sets-same, part-sets-after, sets-sets-same, sets_self, lent-part, lent-run}
 use Rattle.bloom.specs.Filter.{empty_filter, insert_hash, insert_all, union, union_all}
-use Rattle.bloom.specs.FilterLaws.{insert_all-append, insert_all-four, union-four}
+use Rattle.bloom.proofs.FilterLaws.{insert_all-append, insert_all-four, union-four}
 use Rattle.node_table.specs.declared.Places.{Places}
 use Rattle.node_filters.specs.Filters.{filter_made, entry_block, child_block}
 

@@ -1,2 +1,3 @@
 -- What only the proofs of `node_filters` need.
 pub mod Filtering
+pub mod FiltersLaws

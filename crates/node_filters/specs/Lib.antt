@@ -1,4 +1,3 @@
 -- The filters of the nodes.
 pub mod Filters
 pub mod Promises
-pub mod FiltersLaws

@@ -1,4 +1,6 @@
 // The filters of the nodes.
+#![tactic(auto)]
+
 ghost use Rattle.std.specs.Prelude.{◌≡◌, map, ℕ, ◌+◌, ◌*◌, ◌<◌, ◌≤◌, length, get_or};
 ghost use Rattle.std.proofs.lemmas.List.Edits.{sets};
 ghost use Rattle.lists.specs.Lists.{part};
@@ -11,7 +13,7 @@ use store::wide;
 
 // Inserts the hash of each of `entries` into the filter at `at`.
 fn insert_hashes(hashes: &mut [u64], at: usize, entries: &[u32])
-    requires* at_bound { do ⌜ at + 4 ≤ (← ⟦hashes.len()⟧) ⌝ }
+    requires at_bound { at + 4 ≤ length hashes.old }
     requires by_index { (k : ℕ) → k < length entries.now → get_or entries.now k 0 < at }
     ensures { hashes.new ≡ sets hashes.old at (insert_all (part at 4 hashes.old) (map (λ x. get_or hashes.old x 0) entries.now)) }
 {
@@ -27,7 +29,7 @@ fn insert_hashes(hashes: &mut [u64], at: usize, entries: &[u32])
 
 // Adds to the filter at `at` those of `children`, which stand after it; the filter of node 0 is at `filters`.
 fn unite_children(hashes: &mut [u64], filters: usize, at: usize, children: &[u32])
-    requires* at_bound { do ⌜ at + 4 ≤ (← ⟦hashes.len()⟧) ⌝ }
+    requires at_bound { at + 4 ≤ length hashes.old }
     requires by_index { (k : ℕ) → k < length children.now → at + 4 ≤ filters + 4 * get_or children.now k 0 }
     requires by_index_2 { (k : ℕ) → k < length children.now → filters + 4 * get_or children.now k 0 + 4 ≤ length hashes.old }
     ensures { hashes.new ≡ sets hashes.old at (union_all (part at 4 hashes.old) (map (λ c. part (filters + 4 * c) 4 hashes.old) children.now)) }
@@ -42,7 +44,7 @@ fn unite_children(hashes: &mut [u64], filters: usize, at: usize, children: &[u32
 }
 
 // The ends of a block of numbers.
-#[derive(Drop)]
+#[derive(Clone, Copy)]
 struct BlockEnds {
     from: usize,
     to: usize,
@@ -65,7 +67,7 @@ fn block_ends(numbers: &[u32], first: usize, start_at: usize, count_at: usize) -
 
 // Makes the filter of a node from those of its children and the hashes of its entries.
 fn make_filter(hashes: &mut [u64], numbers: &[u32], places: Places, nodes: usize, node: usize)
-    requires* nodes_bound { do ⌜ places.filters + 4 * nodes ≤ (← ⟦hashes.len()⟧) ⌝ }
+    requires nodes_bound { places.filters + 4 * nodes ≤ length hashes.old }
     requires nodes_in_bounds { places.table + 6 * nodes ≤ length numbers.now }
     requires node_lt_nodes { node < nodes }
     requires row_fits { RowFits places numbers.now nodes node }
@@ -98,7 +100,7 @@ fn make_filter(hashes: &mut [u64], numbers: &[u32], places: Places, nodes: usize
 
 // Makes all filters, from the last node to the first: a node stands before its children.
 pub fn make_filters(hashes: &mut [u64], numbers: &[u32], places: Places, nodes: usize)
-    requires* nodes_bound { do ⌜ places.filters + 4 * nodes ≤ (← ⟦hashes.len()⟧) ⌝ }
+    requires nodes_bound { places.filters + 4 * nodes ≤ length hashes.old }
     requires nodes_in_bounds { places.table + 6 * nodes ≤ length numbers.now }
     requires by_index { (i : ℕ) → i < nodes → RowFits places numbers.now nodes i }
     ensures { hashes.new ≡ filters_made places numbers.now nodes hashes.old }

@@ -1,4 +1,6 @@
 // The table of six numbers per node, and where the parts of an index start.
+#![tactic(auto)]
+
 ghost use Rattle.std.specs.Prelude.{◌≡◌, ◌+◌, ◌*◌, ◌<◌, ◌≤◌, ◌^◌, ◌∷◌, [], length};
 ghost use Rattle.std.proofs.lemmas.List.Edits.{sets};
 ghost use Rattle.store.specs.Store.{Limits};
@@ -7,7 +9,7 @@ ghost use Rattle.node_table.specs.Table.{cell, column, sum_to, start_at, block_s
 use store::Shape;
 
 // Where the parts of an index start: entry owners, leaf order of vectors, six per node, child links, leaf order of entries; filters.
-#[derive(Drop)]
+#[derive(Clone, Copy)]
 pub struct Places {
     pub owners: usize,
     pub vectors: usize,
@@ -40,7 +42,7 @@ fn start_of(at: u32, count: u32) -> u32
 
 // Writes the start of each node's block into the column at `at`; the counts stand in the column after it.
 pub fn set_starts(numbers: &mut [u32], at: usize, nodes: usize)
-    requires* nodes_bound { do ⌜ at + 6 * nodes ≤ (← ⟦numbers.len()⟧) + 4 ⌝ }
+    requires nodes_bound { at + 6 * nodes ≤ length numbers.old + 4 }
     requires nodes_bound_2 { sum_to (cell (at + 1) numbers.old) nodes < 2 ^ 32 }
     ensures { numbers.new ≡ column at nodes (block_start at numbers.old) numbers.old }
 {
@@ -73,7 +75,7 @@ pub fn write_six(numbers: &mut [u32], at: usize, children: usize, start: usize, 
 
 // Copies `source` to the place `at` of the numbers.
 pub fn copy_to(numbers: &mut [u32], at: usize, source: &[u32])
-    requires* { do ⌜ at + (← ⟦source.len()⟧) ≤ (← ⟦numbers.len()⟧) ⌝ }
+    requires { at + length source.now ≤ length numbers.old }
     ensures { numbers.new ≡ sets numbers.old at source.now }
 {
     let mut k = 0;

@@ -1,11 +1,13 @@
 // Prints an echo file: one record after the other is carried out, and its lines are written to standard output.
-ghost use Rattle.std.specs.Prelude.{◌+◌, ◌^◌, ◌<◌, length, ◌≡◌};
+#![tactic(auto)]
+
+ghost use Rattle.std.specs.Prelude.{◌+◌, ◌^◌, ◌<◌, length, ◌≡◌, IfOk};
 ghost use Rattle.load.specs.File.{file_text};
 ghost use Rattle.load.specs.Step.{printed_of};
 ghost use Rattle.printer.specs.Due.{Due};
 
-use libc::STDOUT_FILENO;
 use load::{LoadStep, Loading};
+use std::io;
 
 // The bytes that a step wrote.
 fn printed_of(step: LoadStep) -> usize
@@ -22,18 +24,18 @@ fn printed_of(step: LoadStep) -> usize
 }
 
 // Writes the next text of what is printed of a file, after `done` bytes of it; how many those are with it. Nothing is written elsewhere.
-fn print_next(file: &[u8], done: usize, text: &[u8]) -> usize
+fn print_next(rt: &impl Print, file: &[u8], done: usize, text: &[u8]) -> io::Result<usize>
     requires due { Due file.now done text.now }
     requires text_bound { done + length text.now < 2 ^ 64 }
-    ensures { result ≡ done + length text.now }
+    ensures { IfOk result (λ n. n ≡ done + length text.now) }
 {
-    io::write_all(STDOUT_FILENO, text);
-    done + text.len()
+    rt.write_all(text)?;
+    Ok(done + text.len())
 }
 
 // How many bytes were printed: all of them. The lists have room for V 128, E 256, M 512, D 16 and B 64, 65,280 bytes of label text, answers of 256 places and the lines of one.
-pub fn print_file(file: &[u8]) -> usize
-    ensures { result ≡ length (file_text file.now) }
+pub fn print_file(rt: &impl Print, file: &[u8]) -> io::Result<usize>
+    ensures { IfOk result (λ n. n ≡ length (file_text file.now)) }
 {
     let mut floats = [0.0f32; 11264];
     let mut numbers = [0u32; 4992];
@@ -61,14 +63,14 @@ pub fn print_file(file: &[u8]) -> usize
             &mut text,
         );
         let end = printed_of(step);
-        done = print_next(file, done, &text[..end]);
+        done = print_next(rt, file, done, &text[..end])?;
         let LoadStep::Next {
             loading: running,
             at: next,
             ..
         } = step
         else {
-            return done;
+            return Ok(done);
         };
         loading = running;
         at = next;

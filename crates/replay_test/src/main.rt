@@ -1,53 +1,41 @@
 // Prints each of the echo files on standard input, and a line with a dash after each. Before a file stands its length in four bytes, low byte first. The
 // files and what must be printed of them are put together by tools/replay.py.
-ghost use Rattle.std.specs.Prelude.{◌≤◌, ◌<◌};
+#![tactic(auto)]
 
-use libc::{STDIN_FILENO, STDOUT_FILENO};
+use std::io;
+use std::io::Read;
 
-fn wide(b: u8) -> usize
-    ensures { result < 256 }
-{
-    b as usize
-}
-
-// The length of a file.
-fn length_of(head: &[u8; 4]) -> usize {
-    wide(head[0]) + 256 * wide(head[1]) + 65536 * wide(head[2]) + 16777216 * wide(head[3])
-}
-
-fn at_most(n: usize, most: usize) -> usize
-    ensures { result ≤ most }
-{
-    if n < most {
-        return n;
-    }
-    most
-}
-
-// Prints the file that fills the space.
-fn replay_file(space: &mut [u8]) {
-    let n = io::read_full(STDIN_FILENO, space);
-    printer::print_file(&space[..n]);
-    io::write_all(STDOUT_FILENO, b"-\n");
+// Prints the file of so many bytes, or of those that are left where they are fewer.
+fn replay_file(
+    rt: &(impl Print + AllocGlobal),
+    input: &mut impl Read,
+    length: u64,
+) -> io::Result<()> {
+    let mut file = Vec::new(rt.alloc());
+    input.take(length).read_to_end(&mut file)?;
+    printer::print_file(rt, &file)?;
+    println!(rt; "-")
 }
 
 // The next file; whether there was one.
-fn replay_next() -> bool {
-    let mut head = [0u8; 4];
-    if io::read_full(STDIN_FILENO, &mut head) < 4 {
-        return false;
-    }
-    let mut space = [0u8; 65537];
-    let start = 0;
-    let end = at_most(length_of(&head), 65537);
-    replay_file(&mut space[start..end]);
-    true
+fn replay_next(rt: &(impl Print + AllocGlobal), input: &mut impl Read) -> io::Result<bool> {
+    let mut head = Vec::new(rt.alloc());
+    input.by_ref().take(4).read_to_end(&mut head)?;
+    let [a, b, c, d] = head.as_slice() else {
+        return Ok(false);
+    };
+    let length = u64::from(u32::from_le_bytes([*a, *b, *c, *d]));
+    replay_file(rt, input, length.min(65537))?;
+    Ok(true)
 }
 
-// A proved loop has to end, so it counts its turns down, from a number that no input uses up.
-fn main() {
-    let mut turns = u64::MAX;
-    while turns > 0 && replay_next() {
-        turns -= 1;
+// A proved loop has to end, so it counts its turns, up to a number that no input uses up.
+fn main(rt: HostRuntime) -> io::Result<()> {
+    let mut input = rt.reader();
+    for _ in 0..u64::MAX {
+        if !replay_next(&rt, &mut input)? {
+            break;
+        }
     }
+    Ok(())
 }

@@ -27,11 +27,11 @@ use Rattle.store.specs.Lent.{lengths_of}
 use Rattle.store.specs.Store.{work_part}
 use Rattle.curator.specs.Limits.{state_sound, index_shape}
 use Rattle.settings.specs.Limits.{built_allowed}
-use Rattle.curator.specs.RowLaws.{NoneHolds, fine_none}
+use Rattle.curator.proofs.RowLaws.{NoneHolds, fine_none}
 use Rattle.curator.specs.Rows.{Row, state_row, search_rows}
 use Rattle.curator.specs.Searches.{wanted_of, SearchEnd, search_check, WalkedTo, SearchWalked, SearchesBy, Searches}
 use Rattle.curator.specs.Arguments.{SearchCall, asking_of}
-use Rattle.curator.specs.StateLaws.{sound_facts}
+use Rattle.curator.proofs.StateLaws.{sound_facts}
 use Rattle.lists.specs.Tests.{and_both, or_left, or_right}
 use Rattle.search.specs.Lent.{SearchReady, found_of}
 use Rattle.store.specs.LentLaws.{lists-long}

@@ -30,25 +30,25 @@ abbrev pub asking_with : Bor (List Float) → ℕ → ℕ → ℕ → Asking
 asking_with query k ids distances = record { query = query.now; k = k; ids = ids; distances = distances }
 
 -- what a search brings, once it is known what it asks for
-abbrev pub looking : Bor (List Float) → ℕ → Bor (List ℕ) → Bor (List Float) → Asked → SearchCall
+abbrev pub looking : Bor (List Float) → ℕ → List ℕ → List Float → Asked → SearchCall
 looking query k ids distances asked =
-    record { question = record { query = query.now; asked = asked }; k = k; ids = ids.now; distances = distances.now }
+    record { question = record { query = query.now; asked = asked }; k = k; ids = ids; distances = distances }
 
 -- `search_filtered` asks for those with a label, joined from its two parts, `search` for every vector
-abbrev pub filtered : Bor (List Float) → Bor (List ℕ) → Bor (List ℕ) → ℕ → Bor (List ℕ) → Bor (List Float) → SearchCall
+abbrev pub filtered : Bor (List Float) → Bor (List ℕ) → Bor (List ℕ) → ℕ → List ℕ → List Float → SearchCall
 filtered query first second k ids distances = looking query k ids distances (labelled (first.now ++ second.now))
 
 -- `search_both` for those with each of two labels, joined from two parts each (02, K1)
-abbrev pub both : Bor (List Float) → Bor (List ℕ) → Bor (List ℕ) → Bor (List ℕ) → Bor (List ℕ) → ℕ → Bor (List ℕ) → Bor (List Float) → SearchCall
+abbrev pub both : Bor (List Float) → Bor (List ℕ) → Bor (List ℕ) → Bor (List ℕ) → Bor (List ℕ) → ℕ → List ℕ → List Float → SearchCall
 both query first second otherFirst otherSecond k ids distances =
     looking query k ids distances (labelled_both (first.now ++ second.now) (otherFirst.now ++ otherSecond.now))
 
-abbrev pub unfiltered : Bor (List Float) → ℕ → Bor (List ℕ) → Bor (List Float) → SearchCall
+abbrev pub unfiltered : Bor (List Float) → ℕ → List ℕ → List Float → SearchCall
 unfiltered query k ids distances = looking query k ids distances everything
 
 -- what a search leaves
-abbrev pub leaving : Found → Bor (List ℕ) → Bor (List ℕ) → Bor (List Float) → SearchEnd
-leaving answer work ids distances = record { answer = answer; work = work.now; ids = ids.now; distances = distances.now }
+abbrev pub leaving : Found → List ℕ → List ℕ → List Float → SearchEnd
+leaving answer work ids distances = record { answer = answer; work = work; ids = ids; distances = distances }
 
 -- ---- inside
 

@@ -1,4 +1,6 @@
 // The searches of an index: the refusals, the query normalised, and the walk (document 01, 'Search'; 02, K1).
+#![tactic(auto)]
+
 ghost use Rattle.std.specs.Prelude.{◌≡◌, ◌++◌};
 ghost use Rattle.vector.specs.Vector.{dot};
 ghost use Rattle.store.specs.Lent.{lent};
@@ -85,8 +87,8 @@ fn walk_from(
     requires search_ready { SearchReady index (lent floats numbers hashes text) work.old query.now k ids.old distances.old }
     requires squares_value { squares ≡ dot query.now query.now }
     ensures { WalkedFor index (lent floats.entry numbers.entry hashes.entry text.entry) work.old (sought wanted (first.now ++ second.now) (other_first.now ++ other_second.now))
-        (looking query.entry k ids.entry distances.entry)
-        (leaving result work.exit ids.exit distances.exit) }
+        (looking query.entry k ids.old distances.old)
+        (leaving result work.new ids.new distances.new) }
 {
     let start = 0;
     let end = query.len();
@@ -133,8 +135,8 @@ fn search_wanted(
     distances: &mut [f32],
 ) -> Found
     ensures { SearchesFor index (lent floats.entry numbers.entry hashes.entry text.entry) work.old (sought wanted (first.now ++ second.now) (other_first.now ++ other_second.now))
-        (looking query.entry k ids.entry distances.entry)
-        (leaving result work.exit ids.exit distances.exit) }
+        (looking query.entry k ids.old distances.old)
+        (leaving result work.new ids.new distances.new) }
 {
     let lent = Lengths {
         floats: floats.len(),
@@ -190,8 +192,8 @@ pub fn search_filtered(
     distances: &mut [f32],
 ) -> Found
     ensures { Searches index (lent floats.entry numbers.entry hashes.entry text.entry) work.old
-        (filtered query.entry first.entry second.entry k ids.entry distances.entry)
-        (leaving result work.exit ids.exit distances.exit) }
+        (filtered query.entry first.entry second.entry k ids.old distances.old)
+        (leaving result work.new ids.new distances.new) }
 {
     let start = 0;
     let none = &text[start..start];
@@ -220,8 +222,8 @@ pub fn search_both(
     distances: &mut [f32],
 ) -> Found
     ensures { Searches index (lent floats.entry numbers.entry hashes.entry text.entry) work.old
-        (both query.entry first.entry second.entry other_first.entry other_second.entry k ids.entry distances.entry)
-        (leaving result work.exit ids.exit distances.exit) }
+        (both query.entry first.entry second.entry other_first.entry other_second.entry k ids.old distances.old)
+        (leaving result work.new ids.new distances.new) }
 {
     let hash = label::hash_name(first, second);
     let others = label::hash_name(other_first, other_second);
@@ -259,8 +261,8 @@ pub fn search(
     distances: &mut [f32],
 ) -> Found
     ensures { Searches index (lent floats.entry numbers.entry hashes.entry text.entry) work.old
-        (unfiltered query.entry k ids.entry distances.entry)
-        (leaving result work.exit ids.exit distances.exit) }
+        (unfiltered query.entry k ids.old distances.old)
+        (leaving result work.new ids.new distances.new) }
 {
     let start = 0;
     let none = &text[start..start];

@@ -1,4 +1,6 @@
 // Settings and capacities of an index, their limits, and why a call is refused.
+#![tactic(auto)]
+
 ghost use Rattle.std.specs.Prelude.{◌≡◌};
 ghost use Rattle.settings.specs.Limits.{usual};
 
@@ -8,7 +10,7 @@ pub mod refusal;
 use refusal::Refusal;
 
 // The settings of an index beside its dimension. `beam_width` is kept and read by no build or search.
-#[derive(Drop)]
+#[derive(Clone, Copy)]
 pub struct CuratorParams {
     pub branching_factor: usize,
     pub max_leaf_size: usize,
@@ -39,7 +41,7 @@ impl CuratorParams {
 }
 
 // How many vectors, label entries, nodes and bytes of label text the lent lists have room for.
-#[derive(Drop)]
+#[derive(Clone, Copy)]
 pub struct Capacities {
     pub vectors: usize,
     pub entries: usize,
@@ -48,7 +50,7 @@ pub struct Capacities {
 }
 
 // What the refusals of a call come to.
-#[derive(Drop)]
+#[derive(Clone, Copy)]
 pub enum Check {
     Fine,
     Refused(Refusal),

@@ -2,7 +2,7 @@
 ghost use Rattle.std.specs.Prelude.{◌≡◌};
 ghost use Rattle.settings.specs.Refusals.{settings_number, state_number, input_number, store_number, number};
 
-#[derive(Drop)]
+#[derive(Clone, Copy)]
 pub enum SettingsRefusal {
     InvalidDimension,
     InvalidConfig,
@@ -19,7 +19,7 @@ impl SettingsRefusal {
     }
 }
 
-#[derive(Drop)]
+#[derive(Clone, Copy)]
 pub enum StateRefusal {
     InvalidState,
     AlreadyBuilt,
@@ -42,7 +42,7 @@ impl StateRefusal {
     }
 }
 
-#[derive(Drop)]
+#[derive(Clone, Copy)]
 pub enum InputRefusal {
     DimensionMismatch,
     NonFiniteInput,
@@ -71,7 +71,7 @@ impl InputRefusal {
     }
 }
 
-#[derive(Drop)]
+#[derive(Clone, Copy)]
 pub enum StoreRefusal {
     ListTooShort,
     VectorsFull,
@@ -96,7 +96,7 @@ impl StoreRefusal {
     }
 }
 
-#[derive(Drop)]
+#[derive(Clone, Copy)]
 pub enum Refusal {
     Settings(SettingsRefusal),
     State(StateRefusal),

@@ -1,6 +1,8 @@
 // The square root of an f32, rounded to nearest, ties to even, from whole numbers alone.
 // The input, in units of 2^-300, is a radicand of 49 or 50 binary digits times an even power of two. Its integer root has 25 digits, of which the
 // last one rounds: a half of the power's exponent goes to the root's exponent.
+#![tactic(auto)]
+
 ghost use Rattle.std.specs.Prelude.{◌+◌, ◌*◌, ◌^◌, ◌%◌, ◌<◌, ◌≤◌, ◌≡◌};
 ghost use Rattle.square_root.specs.Root.{Root, Nearest, magnitude};
 

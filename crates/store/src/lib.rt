@@ -1,11 +1,13 @@
 // The sizes and the parts of the lent lists (document 01, 'The store'). A list's parts stand in the order in which 01 names them; a vector, a
 // centroid or a centre is the part of the floats that starts at its number times the dimension.
+#![tactic(auto)]
+
 ghost use Rattle.std.specs.Prelude.{◌≡◌, ◌^◌, ◌<◌};
 ghost use Rattle.store.specs.Lent.{store_short, lists_short};
 ghost use Rattle.store.specs.Store.{Limits, centroids_at, centres_at, floats_size, owners_at, order_at, nodes_at, links_at, entry_order_at, starts_at, lengths_at, live_at, numbers_size, filters_at, hashes_size, marks_at, hits_at, work_size};
 
 // What fixes the sizes of a store: the dimension D, the branching factor B, and the capacities V, E and M and that of label text.
-#[derive(Drop)]
+#[derive(Clone, Copy)]
 pub struct Shape {
     pub dimension: usize,
     pub branching: usize,
@@ -16,7 +18,7 @@ pub struct Shape {
 }
 
 // How many vectors, label entries, nodes and bytes of label text a store holds.
-#[derive(Drop)]
+#[derive(Clone, Copy)]
 pub struct Counts {
     pub vectors: usize,
     pub entries: usize,
@@ -25,7 +27,7 @@ pub struct Counts {
 }
 
 // The lengths of the lent lists of a store.
-#[derive(Drop)]
+#[derive(Clone, Copy)]
 pub struct Lengths {
     pub floats: usize,
     pub numbers: usize,

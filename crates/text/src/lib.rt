@@ -1,4 +1,6 @@
 // The printed lines: a hit, the closing line of an answer, a refusal. Each is written into a lent list of bytes from a place on; the place after it is returned.
+#![tactic(auto)]
+
 mod digits;
 
 ghost use Rattle.std.specs.Prelude.{◌+◌, ◌*◌, ◌≤◌, ◌<◌, length};

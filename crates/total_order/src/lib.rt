@@ -1,4 +1,6 @@
 // The total order of IEEE 754 as an order of u32 keys.
+#![tactic(auto)]
+
 ghost use Rattle.std.specs.Prelude.{◌≡◌};
 ghost use Rattle.total_order.specs.TotalOrder.{key_of, of_key};
 

@@ -3,14 +3,4 @@ pub mod Tree
 pub mod Nodes
 pub mod Layout
 pub mod Made
-pub mod Trials
-pub mod TreeLaws
-pub mod NodeLaws
-pub mod NodeEntryLaws
-pub mod NodeFilterLaws
-pub mod Subtrees
-pub mod NumberedNodes
-pub mod Steps
 pub mod Links
-pub mod LayoutLaws
-pub mod StepTrials

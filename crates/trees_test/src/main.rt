@@ -1,15 +1,18 @@
 // Builds the indexes that standard input describes and prints the nodes of each: node count, leaf order of vectors, six numbers per node, child links, leaf
 // order of entries, filters, of each node that has children the pool of their filters, and centroids; or the refusal. The cases and the lines that they must
 // give are made by tools/trees.c.
+#![tactic(auto)]
+
 ghost use Rattle.std.specs.Prelude.{◌≤◌, ◌<◌, ◌^◌, min};
 
 use curator::{Changed, CuratorIndex};
-use libc::{STDIN_FILENO, STDOUT_FILENO};
 use settings::refusal::Refusal;
 use settings::{Capacities, CuratorParams};
+use std::io;
+use std::io::Read;
 
 // How far the input has been read, and the index so far.
-#[derive(Drop)]
+#[derive(Clone, Copy)]
 struct Step {
     at: usize,
     index: CuratorIndex,
@@ -70,53 +73,35 @@ fn at_most(n: usize, most: usize) -> usize
     most
 }
 
-fn line_end() {
-    io::write_all(STDOUT_FILENO, b"\n");
+fn print_number(rt: &impl Print, n: u64) -> io::Result<()> {
+    print!(rt; " {n:x}")
 }
 
-fn print_number(n: u64) {
-    io::write_all(STDOUT_FILENO, b" ");
-    io::print_hex(STDOUT_FILENO, n, 1);
-}
-
-fn long(n: u32) -> u64 {
-    n as u64
-}
-
-fn print_numbers(list: &[u32], from: usize, count: usize) {
-    let end = forward(list.len(), from, count);
-    let mut i = from;
-    while i < end {
-        print_number(long(list[i]));
-        i += 1;
+fn print_numbers(rt: &impl Print, list: &[u32], from: usize, count: usize) -> io::Result<()> {
+    for n in list.iter().skip(from).take(count) {
+        print_number(rt, u64::from(*n))?;
     }
-    line_end();
+    println!(rt; "")
 }
 
-fn print_hashes(list: &[u64], from: usize, count: usize) {
-    let end = forward(list.len(), from, count);
-    let mut i = from;
-    while i < end {
-        print_number(list[i]);
-        i += 1;
+fn print_hashes(rt: &impl Print, list: &[u64], from: usize, count: usize) -> io::Result<()> {
+    for n in list.iter().skip(from).take(count) {
+        print_number(rt, *n)?;
     }
-    line_end();
+    println!(rt; "")
 }
 
-fn print_floats(list: &[f32], from: usize, count: usize) {
-    let end = forward(list.len(), from, count);
-    let mut i = from;
-    while i < end {
-        print_number(float_bits::to_bits(list[i]) as u64);
-        i += 1;
+fn print_floats(rt: &impl Print, list: &[f32], from: usize, count: usize) -> io::Result<()> {
+    for x in list.iter().skip(from).take(count) {
+        print_number(rt, u64::from(float_bits::to_bits(*x)))?;
     }
-    line_end();
+    println!(rt; "")
 }
 
-fn print_refusal(refusal: Refusal) {
+fn print_refusal(rt: &impl Print, refusal: Refusal) -> io::Result<()> {
     let mut line = [0u8; 19];
     let end = text::write_refused(&mut line, 0, refusal.number());
-    io::write_all(STDOUT_FILENO, &line[..end]);
+    rt.write_all(&line[..end])
 }
 
 fn float_at(s: &[u8], at: usize, i: usize) -> f32
@@ -164,6 +149,7 @@ fn text_size(s: &[u8], at: usize, labels: usize) -> usize
 
 // One add of a case; a refusal is printed and leaves the index.
 fn add_one(
+    rt: &impl Print,
     s: &[u8],
     at: usize,
     index: CuratorIndex,
@@ -171,7 +157,7 @@ fn add_one(
     numbers: &mut [u32],
     hashes: &mut [u64],
     text: &mut [u8],
-) -> Step {
+) -> io::Result<Step> {
     let labels = at_most(byte_at(s, forward(s.len(), at, 4)), 3);
     let lengths = forward(s.len(), at, 5);
     let bytes = forward(s.len(), lengths, 2 * labels);
@@ -191,18 +177,19 @@ fn add_one(
         &s[bytes..place],
     );
     match added {
-        Changed::Index(grown) => Step {
+        Changed::Index(grown) => Ok(Step {
             at: next,
             index: grown,
-        },
+        }),
         Changed::Refused(refusal) => {
-            print_refusal(refusal);
-            Step { at: next, index }
+            print_refusal(rt, refusal)?;
+            Ok(Step { at: next, index })
         }
     }
 }
 
 fn add_all(
+    rt: &impl Print,
     s: &[u8],
     from: usize,
     adds: usize,
@@ -211,17 +198,15 @@ fn add_all(
     numbers: &mut [u32],
     hashes: &mut [u64],
     text: &mut [u8],
-) -> Step {
+) -> io::Result<Step> {
     let mut step = Step {
         at: from,
         index: fresh,
     };
-    let mut left = adds;
-    while 0 < left {
-        step = add_one(s, step.at, step.index, floats, numbers, hashes, text);
-        left -= 1;
+    for _ in 0..adds {
+        step = add_one(rt, s, step.at, step.index, floats, numbers, hashes, text)?;
     }
-    step
+    Ok(step)
 }
 
 fn product(a: usize, b: usize) -> usize
@@ -256,64 +241,69 @@ fn filter_in(list: &[u64], at: usize) -> [u64; 4] {
 fn pool_of(numbers: &[u32], hashes: &[u64], from: usize, count: usize) -> [u64; 4] {
     let end = forward(numbers.len(), from, count);
     let mut pool = [0u64; 4];
-    let mut i = from;
-    while i < end {
+    for i in from..end {
         let other = filter_in(hashes, 128 + 4 * number_in(numbers, i));
         let both = bloom::unite(bloom::words(&pool, 0), other);
         bloom::write_words(&mut pool, 0, both);
-        i += 1;
     }
     pool
 }
 
 // The number of each node that has children, and the pool of their filters, where V is 64 and E 128.
-fn print_pools(numbers: &[u32], hashes: &[u64], nodes: usize, room: usize)
+fn print_pools(
+    rt: &impl Print,
+    numbers: &[u32],
+    hashes: &[u64],
+    nodes: usize,
+    room: usize,
+) -> io::Result<()>
     requires nodes_bound { nodes ≤ 65537 }
     requires room_bound { room ≤ 65537 }
 {
-    let mut i = 0;
-    while i < nodes {
+    for i in 0..nodes {
         let start = number_in(numbers, 256 + 6 * i);
         let count = number_in(numbers, 257 + 6 * i);
         if 0 < count {
             let pool = pool_of(numbers, hashes, 256 + 6 * room + start, count);
-            print_number(i as u64);
-            print_number(pool[0]);
-            print_number(pool[1]);
-            print_number(pool[2]);
-            print_number(pool[3]);
+            print_number(rt, i as u64)?;
+            for word in &pool {
+                print_number(rt, *word)?;
+            }
         }
-        i += 1;
     }
-    line_end();
+    println!(rt; "")
 }
 
 // The parts of a built index with V 64 and E 128.
-fn print_index(index: CuratorIndex, floats: &[f32], numbers: &[u32], hashes: &[u64]) {
+fn print_index(
+    rt: &impl Print,
+    index: CuratorIndex,
+    floats: &[f32],
+    numbers: &[u32],
+    hashes: &[u64],
+) -> io::Result<()> {
     let dimension = at_most(index.dimension, 8);
     let nodes = at_most(index.counts.nodes, 65537);
     let room = at_most(index.capacities.nodes, 65537);
     let centroids = 64 * dimension;
     let components = product(dimension, nodes);
-    io::write_all(STDOUT_FILENO, b"nodes");
-    print_number(nodes as u64);
-    line_end();
-    io::write_all(STDOUT_FILENO, b"order");
-    print_numbers(numbers, 192, index.counts.vectors);
-    io::write_all(STDOUT_FILENO, b"six");
-    print_numbers(numbers, 256, 6 * nodes);
-    io::write_all(STDOUT_FILENO, b"links");
+    println!(rt; "nodes {nodes:x}")?;
+    print!(rt; "order")?;
+    print_numbers(rt, numbers, 192, index.counts.vectors)?;
+    print!(rt; "six")?;
+    print_numbers(rt, numbers, 256, 6 * nodes)?;
+    print!(rt; "links")?;
     if 0 < nodes {
-        print_numbers(numbers, 256 + 6 * room, nodes - 1);
+        print_numbers(rt, numbers, 256 + 6 * room, nodes - 1)?;
     }
-    io::write_all(STDOUT_FILENO, b"entries");
-    print_numbers(numbers, 256 + 7 * room, index.counts.entries);
-    io::write_all(STDOUT_FILENO, b"filters");
-    print_hashes(hashes, 128, 4 * nodes);
-    io::write_all(STDOUT_FILENO, b"pools");
-    print_pools(numbers, hashes, nodes, room);
-    io::write_all(STDOUT_FILENO, b"centroids");
-    print_floats(floats, centroids, components);
+    print!(rt; "entries")?;
+    print_numbers(rt, numbers, 256 + 7 * room, index.counts.entries)?;
+    print!(rt; "filters")?;
+    print_hashes(rt, hashes, 128, 4 * nodes)?;
+    print!(rt; "pools")?;
+    print_pools(rt, numbers, hashes, nodes, room)?;
+    print!(rt; "centroids")?;
+    print_floats(rt, floats, centroids, components)
 }
 
 fn settings_at(s: &[u8], at: usize) -> CuratorParams {
@@ -336,10 +326,10 @@ fn capacities_at(s: &[u8], at: usize) -> Capacities {
 }
 
 // One case; where the next one starts.
-fn run_case(s: &[u8], at: usize) -> usize {
+fn run_case(rt: &impl Print, s: &[u8], at: usize) -> io::Result<usize> {
     let made = CuratorIndex::new(size_at(s, at), settings_at(s, at), capacities_at(s, at));
     let Changed::Index(fresh) = made else {
-        return s.len();
+        return Ok(s.len());
     };
     let mut floats = [0.0f32; 9824];
     let mut numbers = [0u32; 8404];
@@ -349,6 +339,7 @@ fn run_case(s: &[u8], at: usize) -> usize {
     let first = forward(s.len(), at, 36);
     let adds = size_at(s, forward(s.len(), at, 32));
     let step = add_all(
+        rt,
         s,
         first,
         adds,
@@ -357,7 +348,7 @@ fn run_case(s: &[u8], at: usize) -> usize {
         &mut numbers,
         &mut hashes,
         &mut text,
-    );
+    )?;
     let index = step.index;
     let built = build::build(
         index,
@@ -368,25 +359,24 @@ fn run_case(s: &[u8], at: usize) -> usize {
         &mut work,
     );
     match built {
-        Changed::Refused(refusal) => print_refusal(refusal),
-        Changed::Index(done) => print_index(done, &floats, &numbers, &hashes),
+        Changed::Refused(refusal) => print_refusal(rt, refusal)?,
+        Changed::Index(done) => print_index(rt, done, &floats, &numbers, &hashes)?,
     }
-    step.at
+    Ok(step.at)
 }
 
-fn run_all(s: &[u8]) {
+fn run_all(rt: &impl Print, s: &[u8]) -> io::Result<()> {
     let mut at = 0;
-    let mut left: usize = 1000;
-    while 0 < left {
+    for _ in 0..1000 {
         if at < s.len() {
-            at = run_case(s, at);
+            at = run_case(rt, s, at)?;
         }
-        left -= 1;
     }
+    Ok(())
 }
 
-fn main() {
-    let mut space = io::large_buffer();
-    let n = io::read_full(STDIN_FILENO, &mut space);
-    run_all(&space[..n]);
+fn main(rt: HostRuntime) -> io::Result<()> {
+    let mut cases = Vec::new(rt.alloc());
+    rt.reader().take(65536).read_to_end(&mut cases)?;
+    run_all(&rt, &cases)
 }

@@ -1,1 +1,2 @@
 // Document 01's trial echoes: specs/Table.antt.
+#![tactic(auto)]

@@ -1,4 +1,6 @@
 // Vectors: one pass over an incoming one, the sum of products, the norm, and what is stored of a vector.
+#![tactic(auto)]
+
 ghost use Rattle.std.specs.Prelude.{◌≡◌, ◌&&◌, map, length, min};
 ghost use Rattle.std.specs.Float.{binary32};
 ghost use Rattle.std.specs.Float.Ieee.{div};
@@ -15,7 +17,7 @@ fn is_finite(x: f32) -> bool
 }
 
 // What one pass over a vector tells: whether every component is finite, and the sum of the squares.
-#[derive(Drop)]
+#[derive(Clone, Copy)]
 pub struct Scanned {
     pub finite: bool,
     pub squares: f32,

@@ -6,7 +6,7 @@ use Rattle.cluster.specs.Clusters.{mean_of}
 use Rattle.kmeans.specs.Marks.{with_mark}
 use Rattle.tree.specs.Tree.{Splitting}
 use Rattle.tree.specs.Layout.{start_of}
-use Rattle.tree.specs.Steps.{Group, is_leaf, child_groups}
+use Rattle.tree.proofs.Steps.{Group, is_leaf, child_groups}
 
 -- A group's header: its first id, which is below 4096, 4096 times one less than its size, and 2^24 times how many more levels may be split.
 abbrev pub header : ℕ → ℕ → ℕ → ℕ

@@ -1,4 +1,6 @@
 // The queue of waiting nodes: a node waits by the distance of its centroid from the query, then by its number (document 01, 'Search').
+#![tactic(auto)]
+
 ghost use Rattle.std.specs.Prelude.{◌≡◌, [], ◌∷◌, ◌+◌, ◌*◌, ◌^◌, ◌≤◌, length};
 ghost use Rattle.lists.specs.Lists.{part};
 ghost use Rattle.distance.specs.Distance.{distance};

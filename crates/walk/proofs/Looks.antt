@@ -19,9 +19,9 @@ use Rattle.walk.specs.declared.look.Placed.TheVariants.{Outside, Within}
 use Rattle.walk.specs.declared.look.Look.{Look}
 use Rattle.walk.specs.Walk.{Shown, hits, damage, shown}
 use Rattle.walk.specs.Wanted.{Sought, list_read, held_in, denies, passes}
-use Rattle.walk.specs.WantedLaws.{given-nil}
+use Rattle.walk.proofs.WantedLaws.{given-nil}
 use Rattle.walk.specs.StoreView.{block_held, field_of, part_of, hit_at, children_shown, end_in, entry_read, list_shown, leaf_shown, node_shown, store_view}
-use Rattle.walk.specs.StoreViewLaws.{block_empty, block-some, store-shown}
+use Rattle.walk.proofs.StoreViewLaws.{block_empty, block-some, store-shown}
 use Rattle.walk.specs.Promises.{Placing, LeafPlacing, ShowsFor, LooksFor}
 use Rattle.walk.specs.declared.look.Look.TheVariants as look
 

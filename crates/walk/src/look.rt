@@ -10,21 +10,21 @@ use bloom::may_contain;
 use store::{Counts, Shape, wide};
 
 // A list's places in the numbers.
-#[derive(Drop)]
+#[derive(Clone, Copy)]
 pub struct Block {
     pub start: usize,
     pub count: usize,
 }
 
 // A node's block, or that it has a place outside what is held.
-#[derive(Drop)]
+#[derive(Clone, Copy)]
 pub enum Placed {
     Outside,
     Within(Block),
 }
 
 // What an opened node shows: a leaf its list, an inner node its children. A denied node shows an empty list.
-#[derive(Drop)]
+#[derive(Clone, Copy)]
 pub enum Look {
     Damaged,
     Leaf(Block),

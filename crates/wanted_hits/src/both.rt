@@ -10,7 +10,7 @@ use leaf_hits::{Added, named};
 use store::{Counts, Shape, wide};
 
 // An entry against a label: it has another hash or other bytes, or is the label's, or has its hash and bytes that are not all held.
-#[derive(Drop)]
+#[derive(Clone, Copy)]
 pub enum Compared {
     Other,
     Same,

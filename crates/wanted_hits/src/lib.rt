@@ -1,4 +1,6 @@
 // The vectors that a leaf's list is about, and that have what is wanted, are added to those found (documents 01, 'Search', and 02, K1).
+#![tactic(auto)]
+
 pub mod both;
 
 ghost use Rattle.std.specs.Prelude.{drop, ◌++◌};

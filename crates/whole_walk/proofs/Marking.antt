@@ -16,10 +16,10 @@ use Rattle.store.specs.declared.Shape.{Shape}
 use Rattle.store.specs.declared.Counts.{Counts}
 use Rattle.store.specs.Store.{Store, CountsWithin, marks_at, work_size}
 use Rattle.walk.specs.Walk.{View, Progress, State, damaged, going, give, Shown}
-use Rattle.walk.specs.WalkLaws.{pushed_one}
+use Rattle.walk.proofs.WalkLaws.{pushed_one}
 use Rattle.walk.specs.StoreView.{children_shown}
 use Rattle.walk.specs.Promises.{Works}
-use Rattle.walk.specs.LentLaws.{works_refl, works_trans}
+use Rattle.walk.proofs.LentLaws.{works_refl, works_trans}
 use Rattle.leaf_hits.specs.declared.Added.TheVariants as added
 use Rattle.best_first_walk.specs.MarkLaws.{mark_tells, marked-one, works-marked, found_unmarked, finds-same}
 use Rattle.best_first_walk.specs.ChildLaws.{child_test, children-shown, push_checked, checked_give, checked_nil, checked_fails, checked_again, checked_fresh, fresh-is}

@@ -21,12 +21,12 @@ use Rattle.store.specs.declared.Shape.{Shape}
 use Rattle.store.specs.declared.Counts.{Counts}
 use Rattle.store.specs.Store.{marks_at, work_size}
 use Rattle.walk.specs.Walk.{View, node_number, Progress, State, damaged, going, push_all, give, shown, step, walk, walk_from, Shown, children, hits, damage, none}
-use Rattle.walk.specs.WalkLaws.{opened_one, pushed_one, start_progress, push_all-nil, push_all-fresh, push_all_again, give-damage, give-children, give-hits, give_over, step_open, walk-zero, walk_is, nil-waiting, shown_children, Holds, found-most}
+use Rattle.walk.proofs.WalkLaws.{opened_one, pushed_one, start_progress, push_all-nil, push_all-fresh, push_all_again, give-damage, give-children, give-hits, give_over, step_open, walk-zero, walk_is, nil-waiting, shown_children, Holds, found-most}
 use Rattle.walk.specs.Promises.{Works}
-use Rattle.walk.specs.BudgetLaws.{walk_more, damaged_stays, none_stays}
-use Rattle.walk.specs.DifferentLaws.{ChildrenBelow}
-use Rattle.walk.specs.SameWalkLaws.{walk-last}
-use Rattle.walk.specs.KeysLaws.{keyed, shown-keyed, SameEnd, keys_free}
+use Rattle.walk.proofs.BudgetLaws.{walk_more, damaged_stays, none_stays}
+use Rattle.walk.proofs.DifferentLaws.{ChildrenBelow}
+use Rattle.walk.proofs.SameWalkLaws.{walk-last}
+use Rattle.walk.proofs.KeysLaws.{keyed, shown-keyed, SameEnd, keys_free}
 use Rattle.leaf_hits.specs.declared.Added.TheVariants as added
 use Rattle.best_first_walk.specs.declared.Walked.{Walked}
 use Rattle.best_first_walk.specs.declared.Walked.TheVariants as walked

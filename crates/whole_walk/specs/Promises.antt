@@ -6,7 +6,7 @@ use Rattle.store.specs.declared.Counts.{Counts}
 use Rattle.store.specs.Store.{Store, CountsWithin, numbers_size, hashes_size, work_size, marks_at}
 use Rattle.store.specs.Lent.{store_of}
 use Rattle.walk.specs.Walk.{View, Progress, State, damaged, going, give, shown}
-use Rattle.walk.specs.KeysLaws.{keyed}
+use Rattle.walk.proofs.KeysLaws.{keyed}
 use Rattle.walk.specs.Wanted.{Sought, most}
 use Rattle.walk.specs.StoreView.{hit_at, children_shown, store_view}
 use Rattle.walk.specs.Promises.{Works}

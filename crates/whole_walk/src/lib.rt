@@ -1,6 +1,8 @@
 // The walk over a lent store that cannot be cut, whatever numbers stand in the store: where `ef_search` is at least the node count, one pass over the
 // nodes by rising number opens the nodes that the best-first walk opens, finds its hits and is damaged exactly where it is, with no queue and no
 // distances (document 01, 'Search').
+#![tactic(auto)]
+
 ghost use Rattle.lists.specs.Lists.{part};
 ghost use Rattle.std.specs.Prelude.{◌++◌};
 ghost use Rattle.walk.specs.Wanted.{sought};

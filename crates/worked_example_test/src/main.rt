@@ -2,60 +2,72 @@
 // with a label that no echo has and with one of 300 bytes. Then the same after numbers of the store were overwritten: each kind of damage at the first and at
 // the last place where it can stand, and garbage that no search reads. Those lines are reasoned from 01's list of damage and 02's K4. Last, names in other parts,
 // two labels of one hash, and live marks (02's K10).
+#![tactic(auto)]
+
 use curator::{Changed, CuratorIndex, Found};
-use libc::STDOUT_FILENO;
 use settings::refusal::Refusal;
 use settings::{Capacities, CuratorParams};
+use std::io;
 
-fn print_refusal(refusal: Refusal) {
+fn print_refusal(rt: &impl Print, refusal: Refusal) -> io::Result<()> {
     let mut line = [0u8; 19];
     let end = text::write_refused(&mut line, 0, refusal.number());
-    io::write_all(STDOUT_FILENO, &line[..end]);
+    rt.write_all(&line[..end])
 }
 
 // The index from now on; a refusal is printed, and the index stays.
-fn kept(index: CuratorIndex, changed: Changed) -> CuratorIndex {
+fn kept(rt: &impl Print, index: CuratorIndex, changed: Changed) -> io::Result<CuratorIndex> {
     match changed {
-        Changed::Index(next) => next,
+        Changed::Index(next) => Ok(next),
         Changed::Refused(refusal) => {
-            print_refusal(refusal);
-            index
+            print_refusal(rt, refusal)?;
+            Ok(index)
         }
     }
 }
 
 // The lines of the hits, at most four.
-fn print_hits(count: usize, ids: &[u32; 4], distances: &[f32; 4]) {
+fn print_hits(
+    rt: &impl Print,
+    count: usize,
+    ids: &[u32; 4],
+    distances: &[f32; 4],
+) -> io::Result<()> {
     if 4 < count {
-        return;
+        return Ok(());
     }
     let mut lines = [0u8; 80];
     let end = text::write_hits(&mut lines, 0, ids, distances, count);
-    io::write_all(STDOUT_FILENO, &lines[..end]);
+    rt.write_all(&lines[..end])
 }
 
-fn print_closing(whole: bool, opened: usize) {
+fn print_closing(rt: &impl Print, whole: bool, opened: usize) -> io::Result<()> {
     let mut line = [0u8; 27];
     let end = text::write_closing(&mut line, 0, whole, opened);
-    io::write_all(STDOUT_FILENO, &line[..end]);
+    rt.write_all(&line[..end])
 }
 
-fn print_found(found: Found, ids: &[u32; 4], distances: &[f32; 4]) {
+fn print_found(
+    rt: &impl Print,
+    found: Found,
+    ids: &[u32; 4],
+    distances: &[f32; 4],
+) -> io::Result<()> {
     match found {
-        Found::Refused(refusal) => print_refusal(refusal),
+        Found::Refused(refusal) => print_refusal(rt, refusal),
         Found::Hits {
             count,
             opened,
             whole,
         } => {
-            print_hits(count, ids, distances);
-            print_closing(whole, opened);
+            print_hits(rt, count, ids, distances)?;
+            print_closing(rt, whole, opened)
         }
     }
 }
 
 // Two places of the numbers, and what is written there; a place past the end writes nothing.
-#[derive(Drop)]
+#[derive(Clone, Copy)]
 struct Damage {
     first: usize,
     first_value: u32,
@@ -87,6 +99,7 @@ fn fresh_index(ef_search: usize) -> Changed {
 
 // The index with one echo more, which has a label in two parts.
 fn added(
+    rt: &impl Print,
     index: CuratorIndex,
     floats: &mut [f32; 22],
     numbers: &mut [u32; 63],
@@ -96,8 +109,9 @@ fn added(
     vector: &[f32],
     lengths: &[u8],
     label: &[u8],
-) -> CuratorIndex {
+) -> io::Result<CuratorIndex> {
     kept(
+        rt,
         index,
         index.add(
             floats, numbers, hashes, text, doc_id, vector, lengths, label,
@@ -106,7 +120,7 @@ fn added(
 }
 
 // What is taught: the three echoes of the example; two with the names `ab` and `ba`, each in two parts; two whose labels have one hash.
-#[derive(Drop)]
+#[derive(Clone, Copy)]
 enum Echoes {
     Three,
     Parted,
@@ -115,6 +129,7 @@ enum Echoes {
 
 // Two echoes, 7 and 8, with a label each.
 fn two_echoes(
+    rt: &impl Print,
     fresh: CuratorIndex,
     floats: &mut [f32; 22],
     numbers: &mut [u32; 63],
@@ -124,8 +139,9 @@ fn two_echoes(
     label: &[u8],
     other_lengths: &[u8],
     other: &[u8],
-) -> CuratorIndex {
+) -> io::Result<CuratorIndex> {
     let index = added(
+        rt,
         fresh,
         floats,
         numbers,
@@ -135,8 +151,9 @@ fn two_echoes(
         &[1.0, 0.0],
         lengths,
         label,
-    );
+    )?;
     added(
+        rt,
         index,
         floats,
         numbers,
@@ -151,13 +168,15 @@ fn two_echoes(
 
 // The three echoes of the example.
 fn example_echoes(
+    rt: &impl Print,
     fresh: CuratorIndex,
     floats: &mut [f32; 22],
     numbers: &mut [u32; 63],
     hashes: &mut [u64; 24],
     text: &mut [u8; 24],
-) -> CuratorIndex {
+) -> io::Result<CuratorIndex> {
     let index = two_echoes(
+        rt,
         fresh,
         floats,
         numbers,
@@ -167,8 +186,9 @@ fn example_echoes(
         b"a",
         &[1, 0],
         b"b",
-    );
+    )?;
     added(
+        rt,
         index,
         floats,
         numbers,
@@ -183,16 +203,18 @@ fn example_echoes(
 
 // Some of these echoes.
 fn taught(
+    rt: &impl Print,
     fresh: CuratorIndex,
     floats: &mut [f32; 22],
     numbers: &mut [u32; 63],
     hashes: &mut [u64; 24],
     text: &mut [u8; 24],
     echoes: Echoes,
-) -> CuratorIndex {
+) -> io::Result<CuratorIndex> {
     match echoes {
-        Echoes::Three => example_echoes(fresh, floats, numbers, hashes, text),
+        Echoes::Three => example_echoes(rt, fresh, floats, numbers, hashes, text),
         Echoes::Parted => two_echoes(
+            rt,
             fresh,
             floats,
             numbers,
@@ -204,6 +226,7 @@ fn taught(
             b"ba",
         ),
         Echoes::OneHash => two_echoes(
+            rt,
             fresh,
             floats,
             numbers,
@@ -219,6 +242,7 @@ fn taught(
 
 // They, built.
 fn example_index(
+    rt: &impl Print,
     fresh: CuratorIndex,
     floats: &mut [f32; 22],
     numbers: &mut [u32; 63],
@@ -226,9 +250,10 @@ fn example_index(
     text: &mut [u8; 24],
     work: &mut [u32; 27],
     echoes: Echoes,
-) -> CuratorIndex {
-    let index = taught(fresh, floats, numbers, hashes, text, echoes);
+) -> io::Result<CuratorIndex> {
+    let index = taught(rt, fresh, floats, numbers, hashes, text, echoes)?;
     kept(
+        rt,
         index,
         build::build(index, floats, numbers, hashes, text, work),
     )
@@ -236,6 +261,7 @@ fn example_index(
 
 // The four nearest to (1, 0): those with a label, or all.
 fn look_up(
+    rt: &impl Print,
     index: CuratorIndex,
     floats: &[f32; 22],
     numbers: &[u32; 63],
@@ -245,7 +271,7 @@ fn look_up(
     filtered: bool,
     first: &[u8],
     second: &[u8],
-) {
+) -> io::Result<()> {
     let query = [1.0f32, 0.0];
     let mut ids = [0u32; 4];
     let mut distances = [0.0f32; 4];
@@ -279,23 +305,23 @@ fn look_up(
             &mut distances,
         );
     }
-    print_found(found, &ids, &distances);
+    print_found(rt, found, &ids, &distances)
 }
 
 // The worked example with damage: V 4, E 4, M 5, so owners stand at 4, the leaf order of vectors at 8, six numbers per node at 12, child links at 42, the
 // leaf order of entries at 47, starts of labels at 51 and lengths at 55. Nodes 0 and 2 are inner, 1, 3 and 4 hold the vectors 0, 1 and 2.
 fn example(
+    rt: &impl Print,
     ef_search: usize,
     echoes: Echoes,
     filtered: bool,
     first: &[u8],
     second: &[u8],
     damage: Damage,
-) {
+) -> io::Result<()> {
     let made = fresh_index(ef_search);
     let Changed::Index(fresh) = made else {
-        io::write_all(STDOUT_FILENO, b"refused by new\n");
-        return;
+        return println!(rt; "refused by new");
     };
     let mut floats = [0.0f32; 22];
     let mut numbers = [0u32; 63];
@@ -303,6 +329,7 @@ fn example(
     let mut text = [0u8; 24];
     let mut work = [0u32; 27];
     let index = example_index(
+        rt,
         fresh,
         &mut floats,
         &mut numbers,
@@ -310,17 +337,24 @@ fn example(
         &mut text,
         &mut work,
         echoes,
-    );
+    )?;
     overwrite(&mut numbers, damage.first, damage.first_value);
     overwrite(&mut numbers, damage.second, damage.second_value);
     look_up(
-        index, &floats, &numbers, &hashes, &text, &mut work, filtered, first, second,
-    );
+        rt, index, &floats, &numbers, &hashes, &text, &mut work, filtered, first, second,
+    )
 }
 
 // A search of at most `ef_search` nodes where one place is damaged. The example has five nodes.
-fn one_place_at(ef_search: usize, filtered: bool, place: usize, value: u32) {
+fn one_place_at(
+    rt: &impl Print,
+    ef_search: usize,
+    filtered: bool,
+    place: usize,
+    value: u32,
+) -> io::Result<()> {
     example(
+        rt,
         ef_search,
         Echoes::Three,
         filtered,
@@ -332,47 +366,48 @@ fn one_place_at(ef_search: usize, filtered: bool, place: usize, value: u32) {
             second: 63,
             second_value: 0,
         },
-    );
+    )
 }
 
-fn one_place(filtered: bool, place: usize, value: u32) {
-    one_place_at(5, filtered, place, value);
+fn one_place(rt: &impl Print, filtered: bool, place: usize, value: u32) -> io::Result<()> {
+    one_place_at(rt, 5, filtered, place, value)
 }
 
 // The last four are found at the root, also where the nodes are more than `ef_search`.
-fn children() {
-    one_place(true, 42, 0);
-    one_place(true, 42, 5);
-    one_place(true, 43, 1);
-    one_place(true, 45, 2);
-    one_place(true, 45, 5);
-    one_place(true, 45, 3);
-    one_place(true, 13, 6);
-    one_place(true, 12, 4);
-    one_place(true, 24, 4);
-    one_place(true, 12, 4294967295);
-    one_place_at(4, true, 42, 0);
-    one_place_at(4, true, 42, 5);
-    one_place_at(4, true, 43, 1);
-    one_place_at(1, false, 13, 6);
+fn children(rt: &impl Print) -> io::Result<()> {
+    one_place(rt, true, 42, 0)?;
+    one_place(rt, true, 42, 5)?;
+    one_place(rt, true, 43, 1)?;
+    one_place(rt, true, 45, 2)?;
+    one_place(rt, true, 45, 5)?;
+    one_place(rt, true, 45, 3)?;
+    one_place(rt, true, 13, 6)?;
+    one_place(rt, true, 12, 4)?;
+    one_place(rt, true, 24, 4)?;
+    one_place(rt, true, 12, 4294967295)?;
+    one_place_at(rt, 4, true, 42, 0)?;
+    one_place_at(rt, 4, true, 42, 5)?;
+    one_place_at(rt, 4, true, 43, 1)?;
+    one_place_at(rt, 1, false, 13, 6)
 }
 
-fn leaves() {
-    one_place(true, 47, 3);
-    one_place(true, 49, 3);
-    one_place(true, 4, 3);
-    one_place(true, 6, 3);
-    one_place(true, 23, 4);
-    one_place(true, 40, 3);
-    one_place(false, 8, 3);
-    one_place(false, 10, 3);
-    one_place(false, 21, 4);
+fn leaves(rt: &impl Print) -> io::Result<()> {
+    one_place(rt, true, 47, 3)?;
+    one_place(rt, true, 49, 3)?;
+    one_place(rt, true, 4, 3)?;
+    one_place(rt, true, 6, 3)?;
+    one_place(rt, true, 23, 4)?;
+    one_place(rt, true, 40, 3)?;
+    one_place(rt, false, 8, 3)?;
+    one_place(rt, false, 10, 3)?;
+    one_place(rt, false, 21, 4)
 }
 
 // Three entries with the label in node 1 and one in node 4: a fourth hit where three entries are held. Then garbage that is not read: the list of node 3, which
 // the filter denies; vectors in a filtered search; entries in an unfiltered one; the start of an empty list; everything where nothing is opened.
-fn other() {
+fn other(rt: &impl Print) -> io::Result<()> {
     example(
+        rt,
         5,
         Echoes::Three,
         true,
@@ -384,12 +419,13 @@ fn other() {
             second: 48,
             second_value: 0,
         },
-    );
-    one_place(true, 48, 99);
-    one_place(true, 8, 99);
-    one_place(false, 47, 99);
-    one_place(true, 18, 4294967295);
+    )?;
+    one_place(rt, true, 48, 99)?;
+    one_place(rt, true, 8, 99)?;
+    one_place(rt, false, 47, 99)?;
+    one_place(rt, true, 18, 4294967295)?;
     example(
+        rt,
         0,
         Echoes::Three,
         true,
@@ -401,7 +437,7 @@ fn other() {
             second: 42,
             second_value: 99,
         },
-    );
+    )
 }
 
 fn undamaged() -> Damage {
@@ -413,71 +449,87 @@ fn undamaged() -> Damage {
     }
 }
 
-fn labelled(ef_search: usize, first: &[u8], second: &[u8]) {
-    example(ef_search, Echoes::Three, true, first, second, undamaged());
+fn labelled(rt: &impl Print, ef_search: usize, first: &[u8], second: &[u8]) -> io::Result<()> {
+    example(
+        rt,
+        ef_search,
+        Echoes::Three,
+        true,
+        first,
+        second,
+        undamaged(),
+    )
 }
 
-fn budgets() {
-    labelled(5, b"a", b"");
-    labelled(0, b"a", b"");
-    labelled(2, b"a", b"");
-    labelled(4, b"a", b"");
-    labelled(6, b"a", b"");
-    labelled(65537, b"a", b"");
-    labelled(65538, b"a", b"");
-    labelled(5, b"c", b"");
+fn budgets(rt: &impl Print) -> io::Result<()> {
+    labelled(rt, 5, b"a", b"")?;
+    labelled(rt, 0, b"a", b"")?;
+    labelled(rt, 2, b"a", b"")?;
+    labelled(rt, 4, b"a", b"")?;
+    labelled(rt, 6, b"a", b"")?;
+    labelled(rt, 65537, b"a", b"")?;
+    labelled(rt, 65538, b"a", b"")?;
+    labelled(rt, 5, b"c", b"")?;
     let long = [97u8; 300];
-    labelled(5, &long, b"");
+    labelled(rt, 5, &long, b"")
 }
 
-fn named(first: &[u8], second: &[u8]) {
-    example(5, Echoes::Parted, true, first, second, undamaged());
+fn named(rt: &impl Print, first: &[u8], second: &[u8]) -> io::Result<()> {
+    example(rt, 5, Echoes::Parted, true, first, second, undamaged())
 }
 
 // Names in other parts: the first empty; each part of 300 bytes; `ab` and `ba`, parted in every way.
-fn parts() {
-    labelled(5, b"", b"a");
+fn parts(rt: &impl Print) -> io::Result<()> {
+    labelled(rt, 5, b"", b"a")?;
     let long = [97u8; 300];
-    labelled(5, &long, &long);
-    named(b"a", b"b");
-    named(b"ab", b"");
-    named(b"", b"ab");
-    named(b"b", b"a");
-    named(b"ba", b"");
-    named(b"", b"ba");
+    labelled(rt, 5, &long, &long)?;
+    named(rt, b"a", b"b")?;
+    named(rt, b"ab", b"")?;
+    named(rt, b"", b"ab")?;
+    named(rt, b"b", b"a")?;
+    named(rt, b"ba", b"")?;
+    named(rt, b"", b"ba")
 }
 
 // Start or length of the first `a`, of which three bytes are held: it passes them by one, by far; another length; the bytes of `b`, then those of the other
 // `a`. Those of `b` are not read, nor are any without a label.
-fn texts() {
-    one_place(true, 51, 3);
-    one_place(true, 51, 4294967295);
-    one_place(true, 55, 4);
-    one_place(true, 55, 4294967295);
-    one_place(true, 55, 0);
-    one_place(true, 55, 3);
-    one_place(true, 51, 1);
-    one_place(true, 51, 2);
-    one_place(true, 52, 4294967295);
-    one_place(true, 56, 4294967295);
-    one_place(false, 51, 4294967295);
+fn texts(rt: &impl Print) -> io::Result<()> {
+    one_place(rt, true, 51, 3)?;
+    one_place(rt, true, 51, 4294967295)?;
+    one_place(rt, true, 55, 4)?;
+    one_place(rt, true, 55, 4294967295)?;
+    one_place(rt, true, 55, 0)?;
+    one_place(rt, true, 55, 3)?;
+    one_place(rt, true, 51, 1)?;
+    one_place(rt, true, 51, 2)?;
+    one_place(rt, true, 52, 4294967295)?;
+    one_place(rt, true, 56, 4294967295)?;
+    one_place(rt, false, 51, 4294967295)
 }
 
-fn of_one_hash(first: &[u8], second: &[u8]) {
-    example(5, Echoes::OneHash, true, first, second, undamaged());
+fn of_one_hash(rt: &impl Print, first: &[u8], second: &[u8]) -> io::Result<()> {
+    example(rt, 5, Echoes::OneHash, true, first, second, undamaged())
 }
 
 // Each label finds its own echo, however it is parted.
-fn one_hash() {
-    of_one_hash(b"\xd5\x6b\xb9\x53\x42\x87\x08\x36", b"");
-    of_one_hash(b"\xd5\x6b\xb9", b"\x53\x42\x87\x08\x36");
-    of_one_hash(b"77kepQFQ8Kl", b"");
-    of_one_hash(b"", b"77kepQFQ8Kl");
+fn one_hash(rt: &impl Print) -> io::Result<()> {
+    of_one_hash(rt, b"\xd5\x6b\xb9\x53\x42\x87\x08\x36", b"")?;
+    of_one_hash(rt, b"\xd5\x6b\xb9", b"\x53\x42\x87\x08\x36")?;
+    of_one_hash(rt, b"77kepQFQ8Kl", b"")?;
+    of_one_hash(rt, b"", b"77kepQFQ8Kl")
 }
 
 // A search where two places are other than they were taught.
-fn two_places(filtered: bool, first: usize, first_value: u32, second: usize, second_value: u32) {
+fn two_places(
+    rt: &impl Print,
+    filtered: bool,
+    first: usize,
+    first_value: u32,
+    second: usize,
+    second_value: u32,
+) -> io::Result<()> {
     example(
+        rt,
         5,
         Echoes::Three,
         filtered,
@@ -489,34 +541,34 @@ fn two_places(filtered: bool, first: usize, first_value: u32, second: usize, sec
             second,
             second_value,
         },
-    );
+    )
 }
 
 // The marks of 7, 8 and 9 stand from 59 on, and one that is not held: 0 is withdrawn, any other number live. Then 9 is another echo of 7, with 7's mark 0, which
 // hides it, and with its own.
-fn marks() {
-    one_place(true, 59, 0);
-    one_place(false, 59, 0);
-    one_place(true, 60, 0);
-    one_place(false, 61, 0);
-    one_place(true, 59, 2);
-    one_place(true, 59, 4294967295);
-    one_place(true, 62, 9);
-    one_place_at(2, true, 59, 0);
-    one_place_at(4, true, 59, 0);
-    two_places(true, 59, 0, 61, 0);
-    two_places(true, 2, 7, 59, 0);
-    two_places(false, 2, 7, 59, 0);
-    two_places(true, 2, 7, 61, 0);
+fn marks(rt: &impl Print) -> io::Result<()> {
+    one_place(rt, true, 59, 0)?;
+    one_place(rt, false, 59, 0)?;
+    one_place(rt, true, 60, 0)?;
+    one_place(rt, false, 61, 0)?;
+    one_place(rt, true, 59, 2)?;
+    one_place(rt, true, 59, 4294967295)?;
+    one_place(rt, true, 62, 9)?;
+    one_place_at(rt, 2, true, 59, 0)?;
+    one_place_at(rt, 4, true, 59, 0)?;
+    two_places(rt, true, 59, 0, 61, 0)?;
+    two_places(rt, true, 2, 7, 59, 0)?;
+    two_places(rt, false, 2, 7, 59, 0)?;
+    two_places(rt, true, 2, 7, 61, 0)
 }
 
-fn main() {
-    budgets();
-    children();
-    leaves();
-    other();
-    parts();
-    texts();
-    one_hash();
-    marks();
+fn main(rt: HostRuntime) -> io::Result<()> {
+    budgets(&rt)?;
+    children(&rt)?;
+    leaves(&rt)?;
+    other(&rt)?;
+    parts(&rt)?;
+    texts(&rt)?;
+    one_hash(&rt)?;
+    marks(&rt)
 }

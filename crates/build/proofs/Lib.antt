@@ -1,0 +1,2 @@
+pub mod PooledLaws
+pub mod Pools

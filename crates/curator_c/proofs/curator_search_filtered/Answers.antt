@@ -1,0 +1,29 @@
+-- By what the list holds: nothing, or a state, in which the search asks for k hits, or for too many where the answer list is short.
+use Rattle.std.proofs.Common.{refl, sym, ◌∙◌}
+use Rattle.search.specs.Lent.{filtered}
+use Rattle.curator_c.specs.ResultLaws.{values-fit}
+use Rattle.curator_c.proofs.Laws.{search-nothing, search-held, asked}
+use Rattle.curator_c.proofs.curator_search_filtered.Goals as goal
+
+pub tell-requires : goal.tell-requires
+tell-requires c =
+    let a = c.args in
+    let answer = a.answer.now in
+    let call = filtered a.query a.first a.second a.k a.ids.now a.distances.now in
+    values-fit _ _ _ answer call _ c.search_filtered.result refl (asked _ _ _ answer call _ _ c.hits_asked-hits.ensures c.search_filtered.ensures)
+
+pub returns-in-Nothing : goal.returns-in-Nothing
+returns-in-Nothing c =
+    let a = c.args in
+    let call = filtered a.query a.first a.second a.k a.ids.now a.distances.now in
+    search-nothing _ _ _ call _ (sym c.state_in.ensures ∙ c.in-Nothing.is)
+
+pub returns-in-State : goal.returns-in-State
+returns-in-State c =
+    let a = c.args in
+    let answer = a.answer.now in
+    let call = filtered a.query a.first a.second a.k a.ids.now a.distances.now in
+    search-held _ _ _ _ call answer c.search_filtered.result _ _ _ _ _ (sym c.state_in.ensures ∙ c.in-State.is)
+    (asked _ _ _ answer call _ _ c.hits_asked-hits.ensures c.search_filtered.ensures)
+    c.tell.ensures.value
+    c.tell.ensures.answer_after

@@ -1,0 +1,5 @@
+-- Each place is below the length, which the stores before it keep; the stores one after the other are `sets`.
+use Rattle.curator_c.proofs.state.write_state.Goals as goal
+
+pub returns : goal.returns
+returns c = rw c.flag.ensures

@@ -1,0 +1,10 @@
+-- Everything is what `search` asks for, whatever the name is.
+-- ---- the places that needs go back to (primed: the same place, from another one)
+use mathlib.Core.Path.{refl}
+use Rattle.curator.specs.Searches.{wanted_of}
+use Rattle.curator.specs.Arguments.{everything}
+use Rattle.search.proofs.search.Goals as goal
+
+pub returns : goal.returns
+unfolding wanted_of
+returns c = c.search_wanted.ensures everything refl

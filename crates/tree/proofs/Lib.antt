@@ -1,0 +1,11 @@
+pub mod LayoutLaws
+pub mod NodeEntryLaws
+pub mod NodeFilterLaws
+pub mod NodeLaws
+pub mod NumberedNodes
+pub mod StepTrials
+pub mod Steps
+pub mod Subtrees
+pub mod TreeLaws
+pub mod Trials
+pub mod LinksLaws
