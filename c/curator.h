@@ -1,4 +1,4 @@
-/* The Curator index as C functions over lists that the caller lends. Link target/staticlib/libcurator_c.a, which `rt staticlib curator_c` writes.
+/* The Curator index as C functions over lists that the caller lends. Link target/staticlib/libcurator_c.a, which `tools/static_libraries` writes.
 
    Every list is a pointer and a count of elements. A list may be longer than asked; the surplus is untouched. No pointer is NULL, also where the
    count is 0, and each is aligned for its type. A list that a call writes (one whose pointer is not const) shares no place with any other list

@@ -1,6 +1,6 @@
 /* Three echoes of the drain `kerb-7`, and the nearest with the label `kerb-7/silt`. A label's name comes in two parts: the drain, and how it was.
 
-   rt staticlib curator_c && gcc -Ic c/example.c target/staticlib/libcurator_c.a -o target/example && target/example */
+   tools/static_libraries && gcc -Ic c/example.c target/staticlib/libcurator_c.a -o target/example && target/example */
 #include "curator.h"
 
 #include <inttypes.h>

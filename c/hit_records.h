@@ -1,5 +1,5 @@
 /* Hit records: a list of structs of id and distance, filled from the two lists that a search filled. Link target/staticlib/libhit_records.a, which
-   `rt staticlib hit_records` writes.
+   `tools/static_libraries` writes.
 
    Every list is a pointer and a count of elements. No pointer is NULL, also where the count is 0, and each is aligned for its type. The list of records
    shares no place with the others.

@@ -1,6 +1,6 @@
 /* Hit records: every place of the list after calls that are filled and calls that are refused, on lists made here.
 
-   rt staticlib hit_records && gcc -Ic c/hits_test.c target/staticlib/libhit_records.a -o target/hits_test && target/hits_test */
+   tools/static_libraries && gcc -Ic c/hits_test.c target/staticlib/libhit_records.a -o target/hits_test && target/hits_test */
 #include "hit_records.h"
 
 #include "check.h"

@@ -1,6 +1,6 @@
 #!/bin/sh
 # Builds the C tests and the example over libcurator_c.a and libhit_records.a and runs them. The last line is 'N passed, M failed'.
-# CURATOR_LIB names the folder of the libraries (default target/staticlib, where `rt staticlib` writes them).
+# CURATOR_LIB names the folder of the libraries (default target/staticlib, where `tools/static_libraries` writes them).
 set -eu
 cd "$(dirname "$0")/.."
 folder=${CURATOR_LIB:-target/staticlib}

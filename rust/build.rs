@@ -1,4 +1,4 @@
-// Links libcurator_c.a and libhit_records.a, which `rt staticlib` writes to target/staticlib. CURATOR_LIB_DIR names another folder.
+// Links libcurator_c.a and libhit_records.a, which `tools/static_libraries` writes to target/staticlib. CURATOR_LIB_DIR names another folder.
 use std::env;
 use std::path::PathBuf;
 

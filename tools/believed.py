@@ -5,7 +5,7 @@
     tools/believed.py --check docs/PROOFS.md    compares with the page's section 'Files to be believed'
     tools/believed.py --write docs/PROOFS.md    writes that section anew
 
-Names are followed through `use` and `ghost use` lines to crates/*/specs and to the structs and enums of crates/*/src. Names of the kit (lib, mathlib,
+Names are followed through `use` and `ghost use` lines to crates/*/specs, lemma files of crates/*/proofs and to the structs and enums of crates/*/src. Names of the kit (lib, mathlib,
 Prim, denote, ..) are listed apart and not followed. Lines of a definition are counted without blank lines, comments, `use` and `unfolding`.
 """
 import pathlib
@@ -17,11 +17,11 @@ ROOT = pathlib.Path(__file__).resolve().parent.parent
 # Where a reader starts: the contracts of functions (None: every public one of the crate's lib.rt), and the statements of theorems.
 ENTRY_POINTS = {"vector": ["scan"], "bloom": ["unite"], "label": ["hash_label", "hash_name"], "curator": ["new", "add", "take_back", "withdraw"], "build": ["build"], "search": ["search_filtered", "search_both", "search"], "load": ["load_record"],
                 "printer": None, "curator_c": None, "hit_records": None}
-THEOREMS = {"bloom": ["pooling"], "label": ["carries-on"], "curator": ["names-alike", "adds-parted", "withdraws-only", "withdraws-again", "withdraws-walk", "searches-once", "searches-twice", "answers-twice"], "walk": ["twice-walk"], "search": ["filtered-parted", "both-parted", "searches-parted"], "build": ["build-pools"], "runs": ["demand3", "add-undone", "same-model", "whole-swapped", "same-swapped"], "load": ["prints"], "trial_table": ["table"]}
+THEOREMS = {"bloom": ["pooling"], "label": ["carries_on"], "curator": ["names-alike", "adds_parted", "withdraws_only", "withdraws_again", "withdraws-walk", "searches-once", "searches-twice", "answers-twice"], "walk": ["twice-walk"], "search": ["filtered_parted", "both_parted", "searches_parted"], "build": ["build_pools"], "runs": ["demand3", "add_undone", "same_model", "whole-swapped", "same-swapped"], "load": ["prints"], "trial_table": ["table"]}
 
 SECTION = "## Files to be believed"
 # words of the two languages, names that need no `use` line, and levels of universes
-BUILT_IN = set("module record data where let in as Type Unit tt ⊥ → × ⊎ = : λ | ↔ ¬ _ - ⌜ ⌝ now ℓ κ".split())
+BUILT_IN = set("module record data where let in as Type Unit tt ⊥ → × ⊎ = : λ | ↔ ¬ _ - result ℓ κ".split())
 
 
 class Definition:
@@ -62,7 +62,7 @@ def cited(left, right, bound, is_constructor):
     for i, word in enumerate(left + right):
         if word[0] in "(){};,@.0123456789" or (left + right)[i + 1:i + 2] == ["="]:
             continue
-        if word.rstrip(".") not in bound:
+        if word.rstrip(".") not in bound and word.partition(".")[0] not in bound | BUILT_IN:
             yield word.rstrip(".")
 
 
@@ -79,9 +79,9 @@ def uses_in(text):
 
 
 def with_signs(table):
-    """An operator such as _≤_ is also found by its sign."""
-    for name in [name for name in table if "_" in name]:
-        for sign in filter(None, name.split("_")):
+    """An operator such as ◌≤◌ is also found by its sign."""
+    for name in [name for name in table if "◌" in name]:
+        for sign in filter(None, name.split("◌")):
             table.setdefault(sign, table[name])
     return table
 
@@ -215,8 +215,8 @@ def crate_of(file):
 class Tree:
     def __init__(self):
         lines = (ROOT / "crates.txt").read_text().splitlines()
-        self.crates = [line.split(":")[0] for line in lines if ":" in line and not line.startswith("#")]
-        self.files = {file: Module(file) for file in sorted(ROOT.glob("crates/*/specs/**/*.antt"))}
+        self.crates = [line.split(":")[0].split()[0] for line in lines if ":" in line and not line.startswith("#")]
+        self.files = {file: Module(file) for file in sorted([*ROOT.glob("crates/*/specs/**/*.antt"), *ROOT.glob("crates/*/proofs/*.antt")])}
         self.files.update((file, Source(file)) for file in sorted(ROOT.glob("crates/*/src/**/*.rt")))
         self.kit, self.unknown, self.order, self.seen = {}, set(), [], set()
 
@@ -228,13 +228,13 @@ class Tree:
 
     def at(self, path, name):
         """The definition of a name of a module; None where the kit has it."""
-        found = re.match(r"Rattle·(\w+?)(?:·specs)?\.specs\.(.*)", path + "." + name)
-        if not found:
+        found = re.match(r"Rattle\.(\w+)\.(specs|proofs)\.(.*)", path + "." + name)
+        if not found or found[1] not in self.crates:
             return None
-        crate, parts = found[1], found[2].split(".")
+        crate, parts = found[1], found[3].split(".")
         if parts[0] == "declared":
-            return self.rattle_type(crate, parts[1:], parts[parts.index("the-variants") - 1] if "the-variants" in parts else parts[-1])
-        module = self.files.get(ROOT / "crates" / crate / "specs" / ("/".join(parts[:-1]) + ".antt"))
+            return self.rattle_type(crate, parts[1:], parts[parts.index("TheVariants") - 1] if "TheVariants" in parts else parts[-1])
+        module = self.files.get(ROOT / "crates" / crate / found[2] / ("/".join(parts[:-1]) + ".antt"))
         if module and name not in module.made and name in module.uses:
             return self.at(*module.uses[name])
         return module and module.made.get(name)
@@ -249,7 +249,7 @@ class Tree:
             path, name = here.uses.get(head, (None, None))[0], rest
         if path and name:
             definition = self.at(path, name)
-            if definition or path.startswith("Rattle·"):
+            if definition or re.match(r"Rattle\.(\w+)", path) and re.match(r"Rattle\.(\w+)", path)[1] in self.crates:
                 return ("tree", definition) if definition else ("unknown", word)
             return "kit", (path, name)
         if here.file.suffix == ".rt":

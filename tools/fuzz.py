@@ -1,5 +1,5 @@
 #!/usr/bin/env python3
-"""Throws random and damaged echo files at target/bin/echoes.
+"""Throws random and damaged echo files at crates/echoes/out/echoes.
 
     tools/fuzz.py SEED COUNT      last line: N passed, M failed
 
@@ -18,7 +18,7 @@ from echo_file import bits, filtered, settings, unfiltered, vector
 from outcome import LONGEST, Outcome
 
 TOP = Path(__file__).resolve().parent.parent
-PROGRAM = TOP / "target/bin/echoes"
+PROGRAM = TOP / "crates/echoes/out/echoes"
 SECONDS = 2
 # two of them have one hash
 LABELS = [b"", b"a", b"b", b"silt", b"drain", bytes.fromhex("d56bb95342870836"), b"77kepQFQ8Kl", bytes(255)]
