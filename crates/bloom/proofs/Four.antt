@@ -1,13 +1,12 @@
--- Lists of four words: their pool, and what writing the four in turn makes of a list.
+-- The pool of two lists of four words, word by word.
 use mathlib.Core.List.{List, [], ◌∷◌}
-use mathlib.Core.Path.{◌≡◌, refl}
-use Prim.Native.Nat.{ℕ, suc, ◌+◌}
-use native.Mathlib.Numerals.{add-one}
+use mathlib.Core.Path.{◌≡◌, refl, ◌∙◌}
+use Prim.Native.Nat.{ℕ, ◌<◌}
 use native.Mathlib.Omega.{arith}
 use lib.Bits.{bit_or}
-use lib.ListN.{length, get_or, set}
-use lib.Seq.{sets}
-use Rattle.bloom.specs.Filter.{empty_filter, union}
+use lib.ListN.{length, get_or}
+use lib.Dec.{lit<}
+use Rattle.bloom.specs.Filter.{union}
 
 data Four : List ℕ → Type 0 where
   four : (a b c d : ℕ) → Four (a ∷ b ∷ c ∷ d ∷ [])
@@ -26,27 +25,10 @@ united : {f g : List ℕ} → Four f → Four g
 unfolding union
 united (four a b c d) (four p q r s) = refl
 
-pub unite_all : (f g : List ℕ) → length f ≡ 4 → length g ≡ 4
-    → bit_or (get_or f 0 0) (get_or g 0 0) ∷ bit_or (get_or f 1 0) (get_or g 1 0) ∷ bit_or (get_or f 2 0) (get_or g 2 0) ∷ bit_or (get_or f 3 0) (get_or g 3 0) ∷ []
-    ≡ union f g
-unite_all f g p q = united (is-four f p) (is-four g q)
+same-word : (f g r : List ℕ) → ((i : ℕ) → i < 4 → get_or r i 0 ≡ bit_or (get_or f i 0) (get_or g i 0)) → Four r
+    → r ≡ bit_or (get_or f 0 0) (get_or g 0 0) ∷ bit_or (get_or f 1 0) (get_or g 1 0) ∷ bit_or (get_or f 2 0) (get_or g 2 0) ∷ bit_or (get_or f 3 0) (get_or g 3 0) ∷ []
+same-word f g r each (four a b c d) = let e₀ = each 0 (lit< tt) in let e₁ = each 1 (lit< tt) in let e₂ = each 2 (lit< tt) in let e₃ = each 3 (lit< tt) in cc
 
-written : (l : List ℕ) (at : ℕ) {f : List ℕ} → Four f
-    → set (set (set (set l at (get_or f 0 0)) (at + 1) (get_or f 1 0)) (at + 2) (get_or f 2 0)) (at + 3) (get_or f 3 0) ≡ sets l at f
-written l at (four a b c d) = simp (add-one at, add-two at, add_three at) refl
-  where
-    add-two : (n : ℕ) → n + 2 ≡ suc (suc n)
-    add-two n = omega arith
-
-    add_three : (n : ℕ) → n + 3 ≡ suc (suc (suc n))
-    add_three n = omega arith
-
-pub write_all : (l : List ℕ) (at : ℕ) (f : List ℕ) → length f ≡ 4
-    → set (set (set (set l at (get_or f 0 0)) (at + 1) (get_or f 1 0)) (at + 2) (get_or f 2 0)) (at + 3) (get_or f 3 0) ≡ sets l at f
-write_all l at f e = written l at (is-four f e)
-
-cleared : {f : List ℕ} → Four f → set (set (set (set f 0 0) 1 0) 2 0) 3 0 ≡ empty_filter
-cleared (four a b c d) = refl
-
-pub clear_all : (f : List ℕ) → length f ≡ 4 → set (set (set (set f 0 0) 1 0) 2 0) 3 0 ≡ empty_filter
-clear_all f e = cleared (is-four f e)
+pub unite_all : (f g r : List ℕ) → length f ≡ 4 → length g ≡ 4 → length r ≡ 4 → ((i : ℕ) → i < 4 → get_or r i 0 ≡ bit_or (get_or f i 0) (get_or g i 0))
+    → r ≡ union f g
+unite_all f g r p q n each = same-word f g r each (is-four r n) ∙ united (is-four f p) (is-four g q)

@@ -6,6 +6,8 @@ ghost use Rattle.std.proofs.lemmas.List.Edits.{sets};
 ghost use Rattle.lists.specs.Lists.{part};
 ghost use Rattle.bloom.specs.Filter.{first_bit, second_bit, has_bit, set_bit, insert_hash, may_contain, empty_filter, union};
 
+use std::array;
+
 // The two bits of a hash.
 fn first_bit(hash: u64) -> u64
     ensures { result ≡ first_bit hash }
@@ -36,7 +38,7 @@ fn set_bit(filter: &mut [u64], k: u64)
     ensures { filter.new ≡ set_bit filter.old k }
 {
     let i = (k / 64) as usize;
-    filter[i] = filter[i] | (1 << (k % 64));
+    filter[i] |= 1 << (k % 64);
 }
 
 // Sets the two bits of `hash`.
@@ -64,12 +66,7 @@ pub fn may_contain(filter: &[u64], hash: u64) -> bool
 pub fn unite(filter: [u64; 4], other: [u64; 4]) -> [u64; 4]
     ensures { result ≡ union filter other }
 {
-    [
-        filter[0] | other[0],
-        filter[1] | other[1],
-        filter[2] | other[2],
-        filter[3] | other[3],
-    ]
+    array::from_fn(|i| filter[i] | other[i])
 }
 
 // The filter whose four words begin at `at`.
@@ -77,7 +74,7 @@ pub fn words(list: &[u64], at: usize) -> [u64; 4]
     requires { at + 4 ≤ length list.now }
     ensures { result ≡ part at 4 list.now }
 {
-    [list[at], list[at + 1], list[at + 2], list[at + 3]]
+    array::from_fn(|i| list[at + i])
 }
 
 // Writes the four words of a filter from `at` on.
@@ -85,10 +82,8 @@ pub fn write_words(list: &mut [u64], at: usize, filter: [u64; 4])
     requires { at + 4 ≤ length list.old }
     ensures { list.new ≡ sets list.old at filter }
 {
-    list[at] = filter[0];
-    list[at + 1] = filter[1];
-    list[at + 2] = filter[2];
-    list[at + 3] = filter[3];
+    let end = at + 4;
+    list[at..end].copy_from_slice(&filter);
 }
 
 // Clears every bit.
@@ -96,8 +91,5 @@ pub fn clear(filter: &mut [u64])
     requires { length filter.old ≡ 4 }
     ensures { filter.new ≡ empty_filter }
 {
-    filter[0] = 0;
-    filter[1] = 0;
-    filter[2] = 0;
-    filter[3] = 0;
+    filter.fill(0);
 }

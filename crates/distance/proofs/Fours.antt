@@ -1,14 +1,12 @@
 -- What is proved of one sum, for four side by side, each conjunct of a contract in its order; and of four and four, for eight. Assumes nothing.
 use Prim.Native.Nat.{ℕ, ◌+◌, ◌-◌, ◌≤◌}
-use mathlib.Core.Path.{◌≡◌, sym, ap, ◌∙◌}
+use mathlib.Core.Path.{◌≡◌, sym, ◌∙◌}
 use mathlib.Core.Bool.{Bool, true, ◌&&◌}
 use mathlib.Core.List.{List}
 use borrow.Author.Tests.{eqb-true}
 use lib.Dec.{eqb}
-use lib.ListN.{length, take, drop}
+use lib.ListN.{length, drop}
 use lib.Ieee.{Float, binary32, sub}
-use Rattle.lists.specs.Lists.{part}
-use Rattle.lists.specs.Parts.{lent-run}
 use Rattle.lists.specs.Tests.{and_left, and_right}
 use Rattle.vector.specs.Vector.{dot, dot_from, dot_step}
 use Rattle.distance.specs.Distance.{one32, distance}
@@ -125,15 +123,3 @@ module _ (q a b c d : List Float) where
         c_value = field q c _ _ same.c_len sums.c_value ones.c_value;
         d_value = field q d _ _ same.d_len sums.d_value ones.d_value;
       }
-
--- the vectors at four places are the parts that are lent
-pub lent-four : (q l : List Float) (n a b c d : ℕ) (s : Four)
-    → Distances q (take (a + n - a) (drop a l)) (take (b + n - b) (drop b l)) (take (c + n - c) (drop c l)) (take (d + n - d) (drop d l)) s
-    → Distances q (part a n l) (part b n l) (part c n l) (part d n l) s
-lent-four q l n a b c d s e =
-    record {
-      a_value = e.a_value ∙ ap (distance q) (lent-run a n l);
-      b_value = e.b_value ∙ ap (distance q) (lent-run b n l);
-      c_value = e.c_value ∙ ap (distance q) (lent-run c n l);
-      d_value = e.d_value ∙ ap (distance q) (lent-run d n l);
-    }

@@ -24,12 +24,12 @@ pub fn cosine_distance_normalized(a: &[f32], b: &[f32]) -> f32
     ensures { result ≡ distance a.now b.now }
 {
     if a.len() != b.len() {
-        return f32::from_bits(0x7F80_0000);
+        return f32::INFINITY;
     }
     from_one(dot(a, b))
 }
 
-// One value for each of four vectors.
+// One value for each of four vectors. Four and eight are twins by hand: an array of slices whose length is a parameter gets no generated proof.
 #[derive(Clone, Copy)]
 pub struct Four {
     pub a: f32,
@@ -37,6 +37,14 @@ pub struct Four {
     pub c: f32,
     pub d: f32,
 }
+
+// Four sums of nothing.
+const NO_SUMS: Four = Four {
+    a: 0.0,
+    b: 0.0,
+    c: 0.0,
+    d: 0.0,
+};
 
 // One value for each of eight vectors.
 #[derive(Clone, Copy)]
@@ -78,10 +86,8 @@ fn rest_four(begun: Four, q: &[f32], a: &[f32], b: &[f32], c: &[f32], d: &[f32],
     ensures d_value { result.d ≡ dot_from begun.d (drop k q.now) (drop k d.now) }
 {
     let mut sums = begun;
-    let mut i = k;
-    while i < q.len() {
+    for i in k..q.len() {
         sums = step_four(sums, q, a, b, c, d, i);
-        i += 1;
     }
     sums
 }
@@ -98,13 +104,9 @@ fn dot_four(q: &[f32], a: &[f32], b: &[f32], c: &[f32], d: &[f32]) -> Four
     ensures c_value { result.c ≡ dot q.now c.now }
     ensures d_value { result.d ≡ dot q.now d.now }
 {
-    let mut sums = Four {
-        a: 0.0,
-        b: 0.0,
-        c: 0.0,
-        d: 0.0,
-    };
+    let mut sums = NO_SUMS;
     let mut i = 0;
+    // By hand: a turn takes four components.
     while 4 <= q.len() - i {
         sums = step_four(sums, q, a, b, c, d, i);
         sums = step_four(sums, q, a, b, c, d, i + 1);
@@ -144,19 +146,10 @@ fn dot_eight(
     ensures c_value_2 { result.back.c ≡ dot q.now g.now }
     ensures d_value_2 { result.back.d ≡ dot q.now h.now }
 {
-    let mut front = Four {
-        a: 0.0,
-        b: 0.0,
-        c: 0.0,
-        d: 0.0,
-    };
-    let mut back = Four {
-        a: 0.0,
-        b: 0.0,
-        c: 0.0,
-        d: 0.0,
-    };
+    let mut front = NO_SUMS;
+    let mut back = NO_SUMS;
     let mut i = 0;
+    // By hand: a turn takes four components.
     while 4 <= q.len() - i {
         front = step_four(front, q, a, b, c, d, i);
         front = step_four(front, q, a, b, c, d, i + 1);

@@ -5,13 +5,20 @@ ghost use Rattle.distance.specs.Distance.{distance};
 
 use crate::{Eight, Four, cosine_distance_eight, cosine_distance_four, cosine_distance_normalized};
 
+// The vector at a place.
+fn vector_at(floats: &[f32], dimension: usize, at: usize) -> &[f32]
+    requires { at + dimension ≤ length floats.now }
+    ensures { result.now ≡ part at dimension floats.now }
+{
+    &floats[at..][..dimension]
+}
+
 // The distance from the query to the vector at a place.
 pub fn distance_at(floats: &[f32], query: &[f32], dimension: usize, at: usize) -> f32
     requires { at + dimension ≤ length floats.now }
     ensures { result ≡ distance query.now (part at dimension floats.now) }
 {
-    let end = at + dimension;
-    cosine_distance_normalized(query, &floats[at..end])
+    cosine_distance_normalized(query, vector_at(floats, dimension, at))
 }
 
 // The distances from the query to the vectors at four places.
@@ -33,16 +40,12 @@ pub fn distances_at(
     ensures c_value { result.c ≡ distance query.now (part c dimension floats.now) }
     ensures d_value { result.d ≡ distance query.now (part d dimension floats.now) }
 {
-    let a_end = a + dimension;
-    let b_end = b + dimension;
-    let c_end = c + dimension;
-    let d_end = d + dimension;
     cosine_distance_four(
         query,
-        &floats[a..a_end],
-        &floats[b..b_end],
-        &floats[c..c_end],
-        &floats[d..d_end],
+        vector_at(floats, dimension, a),
+        vector_at(floats, dimension, b),
+        vector_at(floats, dimension, c),
+        vector_at(floats, dimension, d),
     )
 }
 
@@ -77,23 +80,15 @@ pub fn eight_distances_at(
     ensures c_value_2 { result.back.c ≡ distance query.now (part g dimension floats.now) }
     ensures d_value_2 { result.back.d ≡ distance query.now (part h dimension floats.now) }
 {
-    let a_end = a + dimension;
-    let b_end = b + dimension;
-    let c_end = c + dimension;
-    let d_end = d + dimension;
-    let e_end = e + dimension;
-    let f_end = f + dimension;
-    let g_end = g + dimension;
-    let h_end = h + dimension;
     cosine_distance_eight(
         query,
-        &floats[a..a_end],
-        &floats[b..b_end],
-        &floats[c..c_end],
-        &floats[d..d_end],
-        &floats[e..e_end],
-        &floats[f..f_end],
-        &floats[g..g_end],
-        &floats[h..h_end],
+        vector_at(floats, dimension, a),
+        vector_at(floats, dimension, b),
+        vector_at(floats, dimension, c),
+        vector_at(floats, dimension, d),
+        vector_at(floats, dimension, e),
+        vector_at(floats, dimension, f),
+        vector_at(floats, dimension, g),
+        vector_at(floats, dimension, h),
     )
 }

@@ -16,7 +16,7 @@ pub fn quiet_nan() -> f32
 pub fn canonical(x: f32) -> f32
     ensures { result ≡ x }
 {
-    if x != x {
+    if x.is_nan() {
         return quiet_nan();
     }
     x
@@ -36,7 +36,7 @@ pub fn from_bits(bits: u32) -> f32
 pub fn to_bits(x: f32) -> u32
     ensures { result ≡ to_bits binary32 x }
 {
-    if x != x {
+    if x.is_nan() {
         return 0x7FC0_0000;
     }
     f32::to_bits(x)

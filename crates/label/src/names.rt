@@ -7,26 +7,17 @@ ghost use Rattle.label.specs.Names.{names_of, lengths_fit, hashes_of_labels, who
 
 use crate::{OFFSET_BASIS, hash_byte};
 
-// A byte as a size.
-fn wide(byte: u8) -> usize
-    ensures { result ≡ byte }
-{
-    byte as usize
-}
-
 // Whether the lengths sum to `sum`. What is left of the sum is counted down, so nothing overflows.
 fn sums_to(lengths: &[u8], sum: usize) -> bool
     ensures { result ≡ (total lengths.now == sum) }
 {
     let mut left = sum;
-    let mut i = 0;
-    while i < lengths.len() {
-        let next = wide(lengths[i]);
+    for &byte in lengths {
+        let next = byte as usize;
         if left < next {
             return false;
         }
         left -= next;
-        i += 1;
     }
     left == 0
 }
@@ -53,12 +44,10 @@ fn copy_and_hash(text: &mut [u8], place: usize, bytes: &[u8], start: usize, end:
         × (text.new ≡ sets text.old (place + start) (part start (end - start) bytes.now)) }
 {
     let mut hash = OFFSET_BASIS;
-    let mut i = start;
-    while i < end {
+    for i in start..end {
         let byte = bytes[i];
         text[place + i] = byte;
         hash = hash_byte(hash, byte);
-        i += 1;
     }
     hash
 }
@@ -80,21 +69,12 @@ pub fn write_hashes(
 {
     let labels = label_count(lengths);
     let mut start = 0;
-    let mut i = 0;
-    while i < labels {
-        let middle = start + wide(lengths[2 * i]);
-        let end = middle + wide(lengths[2 * i + 1]);
+    for i in 0..labels {
+        let middle = start + lengths[2 * i] as usize;
+        let end = middle + lengths[2 * i + 1] as usize;
         hashes[place + i] = copy_and_hash(text, held, bytes, start, end);
         start = end;
-        i += 1;
     }
-}
-
-// The length of a name by those of its two parts.
-fn name_length(first: u8, second: u8) -> u32
-    ensures { result ≡ first + second }
-{
-    first as u32 + second as u32
 }
 
 // Writes where each name's text stands: its start from place `starts` on, its length from place `sizes` on, `held` bytes standing before the first. A name
@@ -106,13 +86,11 @@ pub fn write_places(numbers: &mut [u32], starts: usize, sizes: usize, held: usiz
 {
     let labels = label_count(lengths);
     let mut start = held;
-    let mut i = 0;
-    while i < labels {
-        let size = name_length(lengths[2 * i], lengths[2 * i + 1]);
+    for i in 0..labels {
+        let size = lengths[2 * i] as u32 + lengths[2 * i + 1] as u32;
         numbers[starts + i] = start as u32;
         numbers[sizes + i] = size;
         start += size as usize;
-        i += 1;
     }
 }
 
@@ -121,10 +99,8 @@ pub fn whole_lengths(lengths: &[u8], pairs: &mut [u8])
     requires { 2 * length lengths.now ≡ length pairs.old }
     ensures { pairs.new ≡ whole_lengths lengths.now }
 {
-    let mut i = 0;
-    while i < lengths.len() {
-        pairs[2 * i] = lengths[i];
+    for (i, &length) in lengths.iter().enumerate() {
+        pairs[2 * i] = length;
         pairs[2 * i + 1] = 0;
-        i += 1;
     }
 }

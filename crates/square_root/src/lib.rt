@@ -27,6 +27,7 @@ fn integer_root(n: u64, guess: u64) -> u64
     ensures { (result * result ≤ n) × (n < (result + 1) * (result + 1)) }
 {
     let mut s = (guess + n / guess) / 2;
+    // By hand: no index is counted; the root comes nearer each turn.
     while n < s * s {
         s = (s + n / s) / 2;
     }
@@ -62,7 +63,7 @@ fn root_pattern(b: u32) -> u32
 {
     let field = b / 0x0080_0000;
     if field == 0 {
-        let up = u32::leading_zeros(b) - 8;
+        let up = b.leading_zeros() - 8;
         return scaled_root(b << up, 126 - up);
     }
     scaled_root(0x0080_0000 + b % 0x0080_0000, field + 125)
@@ -72,7 +73,7 @@ fn root_pattern(b: u32) -> u32
 pub fn sqrt(x: f32) -> f32
     ensures { Root x result }
 {
-    if x != x {
+    if x.is_nan() {
         return quiet_nan();
     }
     let bits = f32::to_bits(x);

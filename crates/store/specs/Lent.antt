@@ -3,6 +3,7 @@ use Rattle.std.specs.Prelude.{ℕ, ◌≤◌, Bool, not, ◌&&◌, ◌||◌, Lis
 use Rattle.std.specs.Borrow.{Bor}
 use Rattle.store.specs.declared.Shape.{Shape}
 use Rattle.store.specs.declared.Lengths.{Lengths}
+use Rattle.store.specs.declared.Lists.{Lists}
 use Rattle.store.specs.Store.{Store, floats_size, numbers_size, hashes_size, work_size}
 
 -- lists as a store
@@ -12,6 +13,9 @@ store_of floats numbers hashes text = record { floats = floats; numbers = number
 -- lent lists as a store
 abbrev pub lent : Bor (List Float) → Bor (List ℕ) → Bor (List ℕ) → Bor (List ℕ) → Store
 lent floats numbers hashes text = store_of floats.now numbers.now hashes.now text.now
+
+abbrev pub stored : Lists → Store
+stored l = lent l.floats l.numbers l.hashes l.text
 
 abbrev pub lengths_of : Store → Lengths
 lengths_of store =

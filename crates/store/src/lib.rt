@@ -2,8 +2,8 @@
 // centroid or a centre is the part of the floats that starts at its number times the dimension.
 #![tactic(auto)]
 
-ghost use Rattle.std.specs.Prelude.{◌≡◌, ◌^◌, ◌<◌};
-ghost use Rattle.store.specs.Lent.{store_short, lists_short};
+ghost use Rattle.std.specs.Prelude.{◌≡◌};
+ghost use Rattle.store.specs.Lent.{stored, lengths_of, store_short, lists_short};
 ghost use Rattle.store.specs.Store.{Limits, centroids_at, centres_at, floats_size, owners_at, order_at, nodes_at, links_at, entry_order_at, starts_at, lengths_at, live_at, numbers_size, filters_at, hashes_size, marks_at, hits_at, work_size};
 
 // What fixes the sizes of a store: the dimension D, the branching factor B, and the capacities V, E and M and that of label text.
@@ -35,11 +35,26 @@ pub struct Lengths {
     pub text: usize,
 }
 
-// A number of a list as a size.
-pub fn wide(x: u32) -> usize
-    ensures { (result ≡ x) × (result < 2 ^ 32) }
-{
-    x as usize
+// The lists of a store, lent to be read.
+#[derive(Clone, Copy)]
+pub struct Lists<'a> {
+    pub floats: &'a [f32],
+    pub numbers: &'a [u32],
+    pub hashes: &'a [u64],
+    pub text: &'a [u8],
+}
+
+impl<'a> Lists<'a> {
+    pub fn lengths(self) -> Lengths
+        ensures { result ≡ lengths_of (stored self.entry) }
+    {
+        Lengths {
+            floats: self.floats.len(),
+            numbers: self.numbers.len(),
+            hashes: self.hashes.len(),
+            text: self.text.len(),
+        }
+    }
 }
 
 impl Shape {
@@ -159,10 +174,7 @@ impl Shape {
         requires { Limits self }
         ensures { result ≡ work_size self }
     {
-        if self.vectors < self.entries {
-            return 3 * self.nodes + 3 * self.entries;
-        }
-        3 * self.nodes + 3 * self.vectors
+        3 * self.nodes + 3 * self.vectors.max(self.entries)
     }
 
     // Whether a list of the store is shorter than its size.

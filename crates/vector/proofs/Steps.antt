@@ -7,9 +7,16 @@ use native.Mathlib.Numerals.{add-one}
 use native.Mathlib.Omega.{arith}
 use lib.ListN.{length, get_or, drop, drop_of_length-le}
 use lib.Seq.{drop-cons}
-use lib.Ieee.{Float, nan}
+use Rattle.std.specs.Float.{Float, nan, inf, fin, float_is_finite}
 use Rattle.vector.specs.Vector.{finite, all_finite, dot, dot_from, dot_step}
 use Rattle.vector.specs.VectorLaws.{dot_from_turn, dot_from-end}
+
+-- the library's test is the definition
+pub finite_is : (x : Float) → float_is_finite x ≡ finite x
+unfolding finite float_is_finite
+finite_is nan = refl
+finite_is (inf s) = refl
+finite_is (fin s m e) = refl
 
 -- all components are finite just if the first i are and those left are; the sum of squares is what is left, summed on from s
 abbrev pub ScannedTo : List Float → Bool → Float → ℕ → Type 0

@@ -1,22 +1,15 @@
 // Vectors: one pass over an incoming one, the sum of products, the norm, and what is stored of a vector.
 #![tactic(auto)]
 
-ghost use Rattle.std.specs.Prelude.{◌≡◌, ◌&&◌, map, length, min};
+ghost use Rattle.std.specs.Prelude.{◌≡◌, ◌&&◌, map, length};
 ghost use Rattle.std.specs.Float.{binary32};
 ghost use Rattle.std.specs.Float.Ieee.{div};
 ghost use Rattle.vector.specs.Vector.{finite, all_finite, dot, Norm, Normalized};
 
 use square_root::sqrt;
 
-// Whether x lies between the infinities.
-fn is_finite(x: f32) -> bool
-    ensures { result ≡ finite x }
-{
-    let top = f32::from_bits(0x7F80_0000);
-    (-top < x) & (x < top)
-}
-
-// What one pass over a vector tells: whether every component is finite, and the sum of the squares.
+// What one pass over a vector tells: whether every component is finite, and the sum of the squares. No Option: the sum is that of the squares where a
+// component is not finite too.
 #[derive(Clone, Copy)]
 pub struct Scanned {
     pub finite: bool,
@@ -27,7 +20,7 @@ pub struct Scanned {
 fn all_finite(a: f32, b: f32, c: f32, d: f32) -> bool
     ensures { result ≡ (finite a && (finite b && (finite c && finite d))) }
 {
-    is_finite(a) & (is_finite(b) & (is_finite(c) & is_finite(d)))
+    a.is_finite() & (b.is_finite() & (c.is_finite() & d.is_finite()))
 }
 
 // Goes once over the components, to the end whatever they are, four a turn while there are four; the squares are summed from left to right.
@@ -38,40 +31,33 @@ pub fn scan(v: &[f32]) -> Scanned
     let mut finite = true;
     let mut squares = 0.0;
     let mut seen = 0;
+    // By hand: a turn takes four components or one.
     while seen < v.len() {
         let a = v[seen];
         if 4 <= v.len() - seen {
             let b = v[seen + 1];
             let c = v[seen + 2];
             let d = v[seen + 3];
-            finite = finite & all_finite(a, b, c, d);
+            finite &= all_finite(a, b, c, d);
             squares = squares + a * a + b * b + c * c + d * d;
             seen += 4;
         } else {
-            finite = finite & is_finite(a);
-            squares = squares + a * a;
+            finite &= a.is_finite();
+            squares += a * a;
             seen += 1;
         }
     }
     Scanned { finite, squares }
 }
 
-fn shorter(m: usize, n: usize) -> usize
-    ensures { result ≡ min m n }
-{
-    if m < n { m } else { n }
-}
-
 // The sum of products, left to right; it ends with the shorter vector.
 pub fn dot(a: &[f32], b: &[f32]) -> f32
     ensures { result ≡ dot a.now b.now }
 {
-    let n = shorter(a.len(), b.len());
+    let n = a.len().min(b.len());
     let mut sum = 0.0;
-    let mut i = 0;
-    while i < n {
-        sum = sum + a[i] * b[i];
-        i += 1;
+    for i in 0..n {
+        sum += a[i] * b[i];
     }
     sum
 }
@@ -87,21 +73,8 @@ fn divide_into(v: &[f32], n: f32, out: &mut [f32])
     requires { length out.old ≡ length v.now }
     ensures { out.new ≡ map (λ x. div binary32 x n) v.now }
 {
-    let mut i = 0;
-    while i < v.len() {
-        out[i] = v[i] / n;
-        i += 1;
-    }
-}
-
-fn copy_into(v: &[f32], out: &mut [f32])
-    requires { length out.old ≡ length v.now }
-    ensures { out.new ≡ v.now }
-{
-    let mut i = 0;
-    while i < v.len() {
-        out[i] = v[i];
-        i += 1;
+    for (i, &x) in v.iter().enumerate() {
+        out[i] = x / n;
     }
 }
 
@@ -115,6 +88,6 @@ pub fn normalize(v: &[f32], squares: f32, out: &mut [f32])
     if n > 1e-10 {
         divide_into(v, n, out);
     } else {
-        copy_into(v, out);
+        out.copy_from_slice(v);
     }
 }

@@ -1,13 +1,9 @@
 -- Word by word; both have four.
--- Assumes nothing.
-use mathlib.Core.Path.{◌≡◌}
-use lib.ListN.{length}
+use Rattle.std.proofs.Common.{rules}
 use Rattle.bloom.proofs.Four.{unite_all}
-use borrow.Author.Rules.{rules}
 use Rattle.bloom.proofs.unite.Goals as goal
 
 pub returns : goal.returns
 returns c =
-    let own : length c.args.filter ≡ 4 = search rules in
-    let other : length c.args.other ≡ 4 = search rules in
-    unite_all c.args.filter c.args.other own other
+    let items = c.from_fn.ensures.items in
+    unite_all c.args.filter c.args.other c.from_fn.result (search rules) (search rules) items.long (λ i h. let call = items.at i 0 h in search rules)

@@ -1,22 +1,12 @@
--- Four stores, one after the other, are a run of stores; a write keeps the length.
--- Assumes nothing.
-use mathlib.Core.Path.{◌≡◌}
-use native.Mathlib.Omega.{arith}
-use lib.ListN.{length, length-set}
-use Rattle.bloom.proofs.Four.{write_all}
-use borrow.Author.Rules.{rules}
+-- The part of four words, written back, is a run of stores.
+use Rattle.std.proofs.Common.{◌+◌, arith, ap, ◌∙◌}
+use Rattle.std.proofs.lemmas.List.Edits.{sets}
+use Rattle.lists.specs.Parts.{lent-part}
 use Rattle.bloom.proofs.write_words.Goals as goal
-
-pub bounds-list-at-2 : goal.bounds-list-at-2
-bounds-list-at-2 c = simp length-set (omega arith)
-
-pub bounds-list-at-3 : goal.bounds-list-at-3
-bounds-list-at-3 c = simp length-set (omega arith)
-
-pub bounds-list-at-4 : goal.bounds-list-at-4
-bounds-list-at-4 c = simp length-set (omega arith)
 
 pub returns : goal.returns
 returns c =
-    let four : length c.args.filter ≡ 4 = search rules in
-    write_all c.args.list.now c.args.at c.args.filter four
+    let list = c.args.list.now in
+    let copied = c.copy_from_slice in
+    lent-part list c.args.at (c.args.at + 4) copied.new.self (omega arith) c.requires (omega arith)
+    ∙ ap (sets list c.args.at) copied.ensures.after

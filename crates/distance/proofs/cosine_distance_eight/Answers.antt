@@ -30,6 +30,3 @@ returns-then-front_equal-back_equal c =
     eight
     (distances _ _ _ _ _ both.result.front c.from_ones.result front (front_of both.ensures) c.from_ones.ensures)
     (distances _ _ _ _ _ both.result.back c.from_ones-then-front_equal-back_equal.result back (back_of both.ensures) c.from_ones-then-front_equal-back_equal.ensures)
-
-pub returns : goal.returns
-returns c = eight c.cosine_distance_four.ensures c.cosine_distance_four-2.ensures

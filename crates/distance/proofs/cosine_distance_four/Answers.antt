@@ -8,11 +8,3 @@ dot_four-requires c = equal _ _ _ _ _ c.all_equal.result c.all_equal.ensures c.i
 pub returns-then-all_equal : goal.returns-then-all_equal
 returns-then-all_equal c =
     distances _ _ _ _ _ c.dot_four.result c.from_ones.result (equal _ _ _ _ _ c.all_equal.result c.all_equal.ensures c.if-all_equal.true) c.dot_four.ensures c.from_ones.ensures
-
-pub returns : goal.returns
-returns c = record {
-  a_value = c.cosine_distance_normalized.ensures;
-  b_value = c.cosine_distance_normalized-2.ensures;
-  c_value = c.cosine_distance_normalized-3.ensures;
-  d_value = c.cosine_distance_normalized-4.ensures;
-}

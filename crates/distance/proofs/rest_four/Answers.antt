@@ -1,10 +1,6 @@
 use mathlib.Core.Path.{refl}
-use native.Mathlib.Omega.{arith}
 use Rattle.distance.proofs.Steps.{due-step, due-end}
 use Rattle.distance.proofs.rest_four.Goals as goal
-
-pub loop-i-init : goal.loop-i-init
-loop-i-init c = ((omega arith, refl), (omega arith, refl), (omega arith, refl), (omega arith, refl))
 
 pub loop-i-preserved : goal.loop-i-preserved
 loop-i-preserved c =

@@ -1,6 +1,5 @@
 -- `rest_four` meets its contract. Invariant: what each sum is to be is what is due from i on, begun at the sum so far.
-use Prim.Native.Nat.{◌-◌}
-use lib.ListN.{length, drop}
+use lib.ListN.{drop}
 use Rattle.vector.specs.Vector.{dot_from}
 use Rattle.distance.proofs.Steps.{Due}
 use Rattle.distance.proofs.rest_four.Given as goal
@@ -11,6 +10,3 @@ invariant-loop-i l =
     × Due (dot_from l.fn.begun.b (drop l.k l.q) (drop l.k l.b)) l.sums.b l.q l.b l.i
     × Due (dot_from l.fn.begun.c (drop l.k l.q) (drop l.k l.c)) l.sums.c l.q l.c l.i
     × Due (dot_from l.fn.begun.d (drop l.k l.q) (drop l.k l.d)) l.sums.d l.q l.d l.i
-
-abbrev pub decreases-loop-i : goal.decreases-loop-i
-decreases-loop-i l = length l.q - l.i

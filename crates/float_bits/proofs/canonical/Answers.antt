@@ -1,8 +1,7 @@
--- `canonical` meets its contract: only the NaN differs from itself.
-use mathlib.Core.Path.{sym, subst, ◌∙◌}
-use lib.Dec.{T}
-use lib.Ieee.Compare.{differs_from_itself}
+-- `canonical` meets its contract: only the NaN is one.
+use mathlib.Core.Path.{sym, ◌∙◌}
+use Rattle.float_bits.specs.NanLaws.{nan_of_is_nan}
 use Rattle.float_bits.proofs.canonical.Goals as goal
 
-pub returns-then-x : goal.returns-then-x
-returns-then-x c = c.quiet_nan.ensures ∙ sym (differs_from_itself _ (subst T (sym c.if-x.true) tt))
+pub returns-then-is_nan : goal.returns-then-is_nan
+returns-then-is_nan c = c.quiet_nan.ensures ∙ sym (nan_of_is_nan c.args.x (sym c.is_nan.ensures.value ∙ c.if-is_nan.true))

@@ -1,4 +1,4 @@
-use Rattle.std.proofs.Common.{◌≡◌, ℕ, ◌+◌, ◌<◌, ◌≤◌, List, length, get_or, drop, sym, refl, ap, ◌∙◌, add-one, arith, drop_of_length-le, drop-cons}
+use Rattle.std.proofs.Common.{◌≡◌, ℕ, ◌+◌, ◌<◌, ◌≤◌, List, length, get_or, drop, sym, ap, ◌∙◌, add-one, drop_of_length-le, drop-cons}
 use Rattle.label.specs.Fnv.{fnv_from, fnv_step}
 use Rattle.label.proofs.hash_label.Goals as goal
 
@@ -12,20 +12,12 @@ finish : (bytes : List ℕ) (hash i : ℕ) → length bytes ≤ i → fnv_from h
 unfolding fnv_from
 finish bytes hash i h = rw drop_of_length-le
 
-pub loop-i-init : goal.loop-i-init
-loop-i-init c = (omega arith, refl)
-
-pub loop-i-preserved : goal.loop-i-preserved
-loop-i-preserved c =
+pub loop-byte-preserved : goal.loop-byte-preserved
+loop-byte-preserved c =
     let bytes = c.args.bytes.now in
-    let hash = c.loop-i.hash in
-    let i = c.loop-i.i in (
-      omega arith,
-      ap (λ (h : ℕ). fnv_from h (drop (i + 1) bytes)) c.hash_byte-hash.ensures ∙ advance bytes hash i (omega arith)
-          ∙ c.loop-i.invariant.1,
-    )
+    let loop = c.loop-byte in
+    let i = loop.byte-index in
+    ap (λ (h : ℕ). fnv_from h (drop (i + 1) bytes)) c.hash_byte-hash.ensures ∙ advance bytes loop.hash i c.loop-byte-test.true ∙ loop.invariant
 
 pub returns : goal.returns
-returns c =
-    let bytes = c.args.bytes.now in
-    sym (finish bytes c.loop-i.hash c.loop-i.i (omega arith)) ∙ c.loop-i.invariant.1
+returns c = sym (finish c.args.bytes.now c.loop-byte.hash c.loop-byte.byte-index c.loop-byte-test.false) ∙ c.loop-byte.invariant

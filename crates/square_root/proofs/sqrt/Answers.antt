@@ -3,19 +3,16 @@
 use Prim.Native.Nat.{◌<◌}
 use borrow.Author.Rules.{rules}
 use native.Mathlib.Omega.{arith}
-use mathlib.Core.Path.{sym, subst}
+use mathlib.Core.Path.{sym, subst, ◌∙◌}
 use lib.Dec.{T}
-use lib.Ieee.Compare.{differs_from_itself}
-use Rattle.float_bits.specs.NanLaws.{equal_no_nan}
+use Rattle.float_bits.specs.NanLaws.{nan_of_is_nan}
 use Rattle.square_root.specs.Root.{Root}
 use Rattle.square_root.specs.RootValues.{root_of_nan, root_of_zero, root_of_infinity, root-below-zero, root_of_bits, finite-pattern}
 use Rattle.square_root.proofs.sqrt.Goals as goal
 
-pub returns-then-x : goal.returns-then-x
-returns-then-x c = subst (Root c.args.x) (sym c.quiet_nan.ensures) (root_of_nan c.args.x (differs_from_itself _ (subst T (sym c.if-x.true) tt)))
-
-pub float_to_bits-bits : goal.float_to_bits-bits
-float_to_bits-bits c = equal_no_nan c.args.x c.if-x.false
+pub returns-then-is_nan : goal.returns-then-is_nan
+returns-then-is_nan c =
+    subst (Root c.args.x) (sym c.quiet_nan.ensures) (root_of_nan c.args.x (nan_of_is_nan c.args.x (sym c.is_nan.ensures.value ∙ c.if-is_nan.true)))
 
 pub returns-then-bits-eq0 : goal.returns-then-bits-eq0
 returns-then-bits-eq0 c = root_of_zero c.args.x (search rules) (omega arith)

@@ -1,8 +1,8 @@
 use Prim.Native.Nat.{◌+◌}
-use mathlib.Core.Path.{refl, ap}
+use mathlib.Core.Path.{refl, ap, ◌∙◌}
 use mathlib.Core.Bool.{Bool, ◌&&◌}
 use Rattle.vector.specs.Vector.{dot, dot_step, zero32}
-use Rattle.vector.proofs.Steps.{scanned_turn, scanned_four, scanned_end}
+use Rattle.vector.proofs.Steps.{finite_is, scanned_turn, scanned_four, scanned_end}
 use Rattle.vector.proofs.scan.Goals as goal
 
 pub loop-seen-init : goal.loop-seen-init
@@ -21,7 +21,7 @@ loop-seen-preserved c =
     let v = c.args.v.now in
     let more = c.loop-seen-test.true in
     scanned_turn v loop.finite (loop.finite && c.is_finite-finite.result) loop.squares (dot_step loop.squares v v loop.seen) loop.seen (loop.seen + 1) loop.invariant more
-    (ap (λ (b : Bool). loop.finite && b) c.is_finite-finite.ensures) refl refl
+    (ap (λ (b : Bool). loop.finite && b) (c.is_finite-finite.ensures.value ∙ finite_is _)) refl refl
 
 pub returns : goal.returns
 returns c =

@@ -1,4 +1,4 @@
-use Rattle.std.proofs.Common.{ℕ, ◌+◌, ◌-◌, sym, refl, ap, ◌∙◌, arith, length-set}
+use Rattle.std.proofs.Common.{ℕ, ◌+◌, ◌-◌, sym, refl, ap, ◌∙◌}
 use Rattle.lists.specs.Lists.{part}
 use Rattle.label.specs.Fnv.{fnv_from, fnv}
 use Rattle.label.proofs.Steps.{byte_hashed, byte_copied, hashed-all, copied_all}
@@ -6,7 +6,7 @@ use Rattle.label.proofs.names.copy_and_hash.Goals as goal
 
 pub loop-i-init : goal.loop-i-init
 unfolding fnv
-loop-i-init c = (c.requires.0, refl, refl, refl)
+loop-i-init c = (refl, refl)
 
 pub loop-i-preserved : goal.loop-i-preserved
 loop-i-preserved c =
@@ -15,12 +15,10 @@ loop-i-preserved c =
     let end = c.args.end in
     let more = c.loop-i-test.true in
     let within = c.requires.1 in (
-      omega arith,
-      simp length-set state.invariant.1,
       ap (λ (h : ℕ). fnv_from h (part (state.i + 1) (end - (state.i + 1)) bytes)) c.hash_byte-hash.ensures
           ∙ byte_hashed bytes state.hash state.i end more within
-          ∙ state.invariant.2,
-      byte_copied state.text bytes c.args.place state.i end more within ∙ state.invariant.3,
+          ∙ state.invariant.0,
+      byte_copied state.text bytes c.args.place state.i end more within ∙ state.invariant.1,
     )
 
 pub returns : goal.returns
@@ -28,6 +26,6 @@ returns c =
     let state = c.loop-i in
     let args = c.args in
     let done = c.loop-i-test.false in (
-      sym (hashed-all args.bytes.now state.hash state.i args.end done) ∙ state.invariant.2,
-      sym (copied_all state.text args.bytes.now (args.place + state.i) state.i args.end done) ∙ state.invariant.3,
+      sym (hashed-all args.bytes.now state.hash state.i args.end done) ∙ state.invariant.0,
+      sym (copied_all state.text args.bytes.now (args.place + state.i) state.i args.end done) ∙ state.invariant.1,
     )

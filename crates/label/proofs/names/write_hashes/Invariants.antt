@@ -3,15 +3,11 @@
 use Rattle.lists.specs.Lists.{total}
 use Rattle.label.specs.Names.{names_of, hashes_of_labels}
 use lib.Seq.{sets}
-use Rattle.std.proofs.Common.{◌≡◌, ◌+◌, ◌*◌, ◌/◌, ◌≤◌, length, drop, ◌-◌}
+use Rattle.std.proofs.Common.{◌≡◌, ◌+◌, ◌*◌, length, drop}
 use Rattle.label.proofs.names.write_hashes.Given as goal
 
 abbrev pub invariant-loop-i : goal.invariant-loop-i
 invariant-loop-i l =
-    (l.labels ≡ length l.lengths / 2) × (l.i ≤ l.labels) × (length l.hashes ≡ length l.initial.hashes) × (length l.text ≡ length l.initial.text)
-    × (l.start + total (drop (2 * l.i) l.lengths) ≡ length l.bytes)
+    (l.start + total (drop (2 * l.i) l.lengths) ≡ length l.bytes)
     × (sets l.hashes (l.place + l.i) (hashes_of_labels (names_of (drop (2 * l.i) l.lengths) (drop l.start l.bytes))) ≡ sets l.initial.hashes l.place (hashes_of_labels (names_of l.lengths l.bytes)))
     × (sets l.text (l.held + l.start) (drop l.start l.bytes) ≡ sets l.initial.text l.held l.bytes)
-
-abbrev pub decreases-loop-i : goal.decreases-loop-i
-decreases-loop-i l = l.labels - l.i

@@ -3,13 +3,10 @@
 use Rattle.label.proofs.Steps.{placed}
 use Rattle.lists.specs.Lists.{total}
 use Rattle.label.specs.Names.{summed_pairs}
-use Rattle.std.proofs.Common.{◌≡◌, ◌+◌, ◌*◌, ◌/◌, ◌≤◌, length, drop, ◌-◌}
+use Rattle.std.proofs.Common.{◌≡◌, ◌+◌, ◌*◌, drop}
 use Rattle.label.proofs.names.write_places.Given as goal
 
 abbrev pub invariant-loop-i : goal.invariant-loop-i
 invariant-loop-i l =
-    (l.labels ≡ length l.lengths / 2) × (l.i ≤ l.labels) × (length l.numbers ≡ length l.initial.numbers) × (l.start + total (drop (2 * l.i) l.lengths) ≡ l.held + total l.lengths)
+    (l.start + total (drop (2 * l.i) l.lengths) ≡ l.held + total l.lengths)
     × (placed l.numbers (l.starts + l.i) (l.sizes + l.i) l.start (summed_pairs (drop (2 * l.i) l.lengths)) ≡ placed l.initial.numbers l.starts l.sizes l.held (summed_pairs l.lengths))
-
-abbrev pub decreases-loop-i : goal.decreases-loop-i
-decreases-loop-i l = l.labels - l.i
