@@ -19,7 +19,7 @@ use Rattle.build_tree.specs.Promises.{splitting_with, TreeLent, Waits, MadeNode,
 use Rattle.build_tree.proofs.Standing.{Standing, order-length, standing_begin, standing_lent}
 use Rattle.build_tree.proofs.StandingStep.{next-waits, standing_step}
 use Rattle.build_tree.proofs.StandingEnd.{built-whole, built-overfull}
-use Rattle.build_tree.specs.declared.Made.TheVariants as Made'
+use Rattle.std.specs.Prelude.{None, Some}
 
 module _ {s : Shape} {n order : ℕ} {floats₀ : List Float} {numbers₀ numbers₁ work₀ : List ℕ} (lent : TreeLent s n floats₀ numbers₀ work₀)
     (order_is : order ≡ order_at s) (written : numbers₁ ≡ sets numbers₀ order (headed 16 (count_from 0 n)))
@@ -93,8 +93,8 @@ module _ {s : Shape} {n order : ℕ} {floats₀ : List Float} {numbers₀ number
               work_length = st.work_length;
             }
 
-        pub loop_whole : n ≤ done → count ≤ s.nodes → Built s leaf n floats₀ floats numbers₀ numbers work₀ work (Made'.Nodes count)
+        pub loop_whole : n ≤ done → count ≤ s.nodes → Built s leaf n floats₀ floats numbers₀ numbers work₀ work (Some count)
         loop_whole = built-whole s leaf n floats₀ numbers₀ work₀ lent count done floats numbers work over_entry
 
-        pub loop_overfull : done < n → s.nodes ≡ count → Built s leaf n floats₀ floats numbers₀ numbers work₀ work Made'.TooMany
+        pub loop_overfull : done < n → s.nodes ≡ count → Built s leaf n floats₀ floats numbers₀ numbers work₀ work None
         loop_overfull = built-overfull s leaf n floats₀ numbers₀ work₀ lent count done floats numbers work over_entry

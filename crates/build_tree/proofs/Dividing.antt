@@ -25,14 +25,6 @@ use Rattle.waiting_groups.specs.WaitingLaws.{sorted-clusters, length-joined-head
 use Rattle.build_tree.proofs.Standing.{vectors-end, centres-end}
 use Rattle.build_tree.specs.Promises.{TreeLent, Splits, Clustering, Divided}
 
--- fewer centres fit
-pub room_smaller : {floats : List Float} {ids : List ℕ} {d n at : ℕ} (b : ℕ) {k : ℕ} → BehindVectors floats ids d n at (d * b) → k ≤ b → BehindVectors floats ids d n at (k * d)
-room_smaller {d = d} b {k} r h =
-    let a : k * d ≤ b * d = mul-le-mul_right d h in
-    let m = mul_comm b d in
-    let w = r.within in
-    record { below = r.below; few = r.few; behind = r.behind; within = omega arith }
-
 module _ (s : Shape) (n levels : ℕ) (ids : List ℕ) (limits : Limits s) where
   -- the clusters, each with its header, have as many places as there are ids
   pub length-headed-clusters : (vectors : List (List Float)) → length (joined (headed levels) (clusters s.dimension s.branching vectors ids)) ≡ length ids

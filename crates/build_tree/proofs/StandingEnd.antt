@@ -19,7 +19,7 @@ use Rattle.tree.proofs.Steps.{Group, made, made_none, made-waiting, length-made,
 use Rattle.waiting_groups.specs.Waiting.{encoded, sixes, leaves, centroids}
 use Rattle.build_tree.proofs.MadeLaws.{length-centroids, length-sixes, six-all, leaves_all, centroids-all}
 use Rattle.build_tree.specs.Promises.{splitting_with, TreeLent, SoundGroup, Whole, Overfull, Built}
-use Rattle.build_tree.specs.declared.Made.TheVariants as Made'
+use Rattle.std.specs.Prelude.{None, Some}
 use Rattle.build_tree.proofs.Standing.{Standing, centres-end, first_of, order-length}
 
 sound-nil : (waiting : List Group) (n : ℕ) → ((g : Group) → Memᴰ g waiting → SoundGroup n g) → length (joined (λ g. g.ids) waiting) ≤ 0 → waiting ≡ []
@@ -114,11 +114,11 @@ module _
           ∙ sym (leaves_all sp vs e))
           (ap (sixes sp vs 0) (sym all_made_lem) ∙ sym (six-all sp vs e))
 
-      pub standing_whole : Whole s leaf n floats₀ floats numbers₀ numbers work₀ work (Made'.Nodes count)
+      pub standing_whole : Whole s leaf n floats₀ floats numbers₀ numbers work₀ work (Some count)
       standing_whole =
           let r = lent.work_room in
           record {
-            answered = ap Made'.Nodes (sym standing_size);
+            answered = ap Some (sym standing_size);
             centres = part (centres_at s) (s.dimension * s.branching) floats;
             centres_size = centres_length;
             floats_are = floats-laid;
@@ -126,7 +126,7 @@ module _
             work_free = alike_freed (work_part s) work₀ work (omega arith) st.work_length st.work_alike;
           }
 
-      pub built-whole : count ≤ s.nodes → Built s leaf n floats₀ floats numbers₀ numbers work₀ work (Made'.Nodes count)
+      pub built-whole : count ≤ s.nodes → Built s leaf n floats₀ floats numbers₀ numbers work₀ work (Some count)
       built-whole h = record { whole = λ few. standing_whole; overfull = λ many. absurd (let e = standing_size in omega arith) }
 
     -- ---- one waits, and the nodes are full
@@ -162,7 +162,7 @@ module _
           (alike_trans (order_at s) w (alike-sets (order_at s) w numbers₀ (order_at s) x (omega arith) (omega arith))
           (alike-sets (order_at s) w (sets numbers₀ (order_at s) x) (nodes_at s) y (omega arith) (omega arith))))
 
-      pub standing_overfull : Overfull s floats₀ floats numbers₀ numbers work₀ work Made'.TooMany
+      pub standing_overfull : Overfull s floats₀ floats numbers₀ numbers work₀ work None
       standing_overfull =
           let r = lent.work_room in
           record {
@@ -174,5 +174,5 @@ module _
             work_free = alike_freed (work_part s) work₀ work (omega arith) st.work_length st.work_alike;
           }
 
-      pub built-overfull : Built s leaf n floats₀ floats numbers₀ numbers work₀ work Made'.TooMany
+      pub built-overfull : Built s leaf n floats₀ floats numbers₀ numbers work₀ work None
       built-overfull = record { whole = λ few. absurd (let e = standing_more left in omega arith); overfull = λ many. standing_overfull }

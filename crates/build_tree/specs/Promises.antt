@@ -1,5 +1,5 @@
 -- What the functions of this crate ask of the lists that they are lent, and what they leave in them.
-use Rattle.std.specs.Prelude.{ℕ, ◌+◌, ◌*◌, ◌≤◌, ◌<◌, ◌≡◌, List, [], ◌∷◌, Float, length, get_or}
+use Rattle.std.specs.Prelude.{ℕ, ◌+◌, ◌*◌, ◌≤◌, ◌<◌, ◌≡◌, List, [], ◌∷◌, Float, length, get_or, Option, None, Some}
 use Rattle.std.proofs.lemmas.List.Edits.{sets}
 use Rattle.lists.specs.Lists.{part, keep, joined}
 use Rattle.store.specs.declared.Shape.{Shape}
@@ -13,8 +13,6 @@ use Rattle.tree.specs.Layout.{floats_of}
 use Rattle.tree.specs.Made.{made_from}
 use Rattle.tree.proofs.Steps.{Group}
 use Rattle.waiting_groups.specs.Waiting.{non_empty_list, headed, own, stands, six}
-use Rattle.build_tree.specs.declared.Made.{Made}
-use Rattle.build_tree.specs.declared.Made.TheVariants as Made'
 
 -- what a tree is made with
 abbrev pub splitting_with : Shape → ℕ → Splitting
@@ -85,8 +83,8 @@ pub record MadeNode
     pub next_is : next ≡ done + length (own (splitting_with s leaf) g)
 
 -- All nodes are made: centroids, leaf order and the six numbers of each node, whatever the entries. The centres are free, and the work list.
-pub record Whole (s : Shape) (leaf n : ℕ) (floats floats' : List Float) (numbers numbers' work work' : List ℕ) (answer : Made) : Type 0 where
-  pub answered : answer ≡ Made'.Nodes (size (tree_of (splitting_with s leaf) (vectors_in s.dimension n floats)))
+pub record Whole (s : Shape) (leaf n : ℕ) (floats floats' : List Float) (numbers numbers' work work' : List ℕ) (answer : Option ℕ) : Type 0 where
+  pub answered : answer ≡ Some (size (tree_of (splitting_with s leaf) (vectors_in s.dimension n floats)))
   pub centres : List Float
   pub centres_size : length centres ≡ s.dimension * s.branching
   pub floats_are : (e : Entries) → floats' ≡ floats_of s (nodes_of (splitting_with s leaf) (vectors_in s.dimension n floats) e) centres floats
@@ -97,14 +95,14 @@ pub record Whole (s : Shape) (leaf n : ℕ) (floats floats' : List Float) (numbe
   pub work_free : Freed (work_part s ∷ []) work work'
 
 -- 13: 'the defined tree has more than M nodes'. Free are the centroids and the centres, the leaf order of vectors and the six per node, and the work.
-pub record Overfull (s : Shape) (floats floats' : List Float) (numbers numbers' work work' : List ℕ) (answer : Made) : Type 0 where
-  pub answered : answer ≡ Made'.TooMany
+pub record Overfull (s : Shape) (floats floats' : List Float) (numbers numbers' work work' : List ℕ) (answer : Option ℕ) : Type 0 where
+  pub answered : answer ≡ None
   pub floats_free : Freed (centroids_part s ∷ centres_part s ∷ []) floats floats'
   pub numbers_free : Freed (order_part s ∷ nodes_part s ∷ []) numbers numbers'
   pub work_free : Freed (work_part s ∷ []) work work'
 
 -- What `build_tree` does.
-pub record Built (s : Shape) (leaf n : ℕ) (floats floats' : List Float) (numbers numbers' work work' : List ℕ) (answer : Made) : Type 0 where
+pub record Built (s : Shape) (leaf n : ℕ) (floats floats' : List Float) (numbers numbers' work work' : List ℕ) (answer : Option ℕ) : Type 0 where
   pub whole : size (tree_of (splitting_with s leaf) (vectors_in s.dimension n floats)) ≤ s.nodes
       → Whole s leaf n floats floats' numbers numbers' work work' answer
   pub overfull : s.nodes < size (tree_of (splitting_with s leaf) (vectors_in s.dimension n floats))

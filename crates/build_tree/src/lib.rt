@@ -12,13 +12,6 @@ use waiting_groups::{begin, is_leaf, take_header};
 
 pub mod split;
 
-// What a build comes to: how many nodes were made, or that the tree has more than the store has room for.
-#[derive(Clone, Copy)]
-pub enum Made {
-    Nodes(usize),
-    TooMany,
-}
-
 // Makes the node with the number `made` of the first group that waits. The leaf order is filled up to `done`; the result is up to where it is filled
 // from now on.
 pub fn make_node(
@@ -65,7 +58,8 @@ pub fn make_node(
     done
 }
 
-// Makes the tree over n vectors: centroids, leaf order and the six numbers of each node, as they stand before the finishing passes.
+// Makes the tree over n vectors: centroids, leaf order and the six numbers of each node, as they stand before the finishing passes. The answer is how
+// many nodes were made, or none where the tree has more than the store has room for.
 pub fn build_tree(
     shape: store::Shape,
     leaf_size: usize,
@@ -73,19 +67,20 @@ pub fn build_tree(
     floats: &mut [f32],
     numbers: &mut [u32],
     work: &mut [u32],
-) -> Made
+) -> Option<usize>
     requires { TreeLent shape n floats.old numbers.old work.old }
     ensures { Built shape leaf_size n floats.old floats.new numbers.old numbers.new work.old work.new result }
 {
     begin(numbers, shape.order_at(), n);
     let mut made = 0;
     let mut done = 0;
+    // `done` does not count turns: a node may leave it where it is.
     while done < n {
         if made == shape.nodes {
-            return Made::TooMany;
+            return None;
         }
         done = make_node(shape, leaf_size, n, made, done, floats, numbers, work);
         made += 1;
     }
-    Made::Nodes(made)
+    Some(made)
 }

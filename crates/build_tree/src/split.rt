@@ -1,21 +1,11 @@
 // An inner node: the ids of its group are split into clusters, and the non-empty ones wait in its place.
-ghost use Rattle.std.specs.Prelude.{◌+◌, ◌*◌, ◌≤◌, ◌<◌, min, ◌≡◌, length};
+ghost use Rattle.std.specs.Prelude.{◌*◌, ◌≤◌, length};
 ghost use Rattle.store.specs.Store.{Limits, centres_at};
 ghost use Rattle.cluster.specs.Promises.{BehindVectors};
 ghost use Rattle.build_tree.specs.Promises.{TreeLent, Splits, Clustering, Divided};
 
 use node_table::{copy_to, write_six};
 use waiting_groups::sort_by_mark;
-
-// The smaller of two numbers.
-fn smaller(a: usize, b: usize) -> usize
-    ensures { result ≡ min a b }
-{
-    if a < b {
-        return a;
-    }
-    b
-}
 
 // Splits ids into clusters in the work list. The result is how many are not empty.
 fn split_ids(
@@ -35,7 +25,7 @@ fn split_ids(
     requires levels_bound { levels ≤ 16 }
     ensures { Clustering shape n levels ids.now floats.old floats.new work.old work.new result }
 {
-    let k = smaller(shape.branching, ids.len());
+    let k = shape.branching.min(ids.len());
     kmeans::simple_kmeans(floats, ids, work, shape.dimension, n, shape.centres_at(), k);
     sort_by_mark(ids, work, k, levels)
 }

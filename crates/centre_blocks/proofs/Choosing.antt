@@ -3,7 +3,6 @@ use Prim.Native.Nat.{ℕ, ◌+◌, ◌*◌, ◌/◌, ◌%◌, ◌≤◌, ◌<◌
 use mathlib.Core.Path.{◌≡◌, sym, ap, subst, ◌∙◌}
 use mathlib.Core.List.{List, ◌++◌}
 use native.Mathlib.Omega.{arith}
-use native.Mathlib.Nat.{suc-mul}
 use lib.ListN.{length, get_or, length-append, get_or-append}
 use lib.Seq.{get_or-append-add}
 use lib.Ieee.{Float, nan, binary32, sub}
@@ -96,9 +95,3 @@ block_sums v blocks k c at s e z f l h g =
     ap (sub binary32 one32) (f l h)
     ∙ sym (distance-alike v col (sym (length-column n blocks (at + l))))
     ∙ ap (distance v) (sym (vector_of-centres_in n k blocks (c + l) b ∙ ap (column n blocks) place))
-
--- the next block
-pub next-block : (n c at : ℕ) → at ≡ c / 16 * (n * 16) → at + n * 16 ≡ (c + 16) / 16 * (n * 16)
-next-block n c at e =
-    let q : (c + 16) / 16 ≡ c / 16 + 1 = omega arith in
-    rw (q, e) (omega (arith, suc-mul (c / 16) (n * 16)))

@@ -22,6 +22,7 @@ fn step_four(sums: Four, x: f32, blocks: &[f32], at: usize) -> Four
     requires { at + 4 ≤ length blocks.now }
     ensures { four_list result ≡ stepped (four_list sums) x (part at 4 blocks.now) }
 {
+    // By hand: unrolled, and so are the four fours below.
     Four {
         a: sums.a + x * blocks[at],
         b: sums.b + x * blocks[at + 1],
@@ -35,15 +36,11 @@ fn step_sixteen(sums: Sixteen, x: f32, blocks: &[f32], at: usize) -> Sixteen
     requires { at + 16 ≤ length blocks.now }
     ensures { lanes result ≡ stepped (lanes sums) x (part at 16 blocks.now) }
 {
-    let a = sums.a;
-    let b = sums.b;
-    let c = sums.c;
-    let d = sums.d;
     Sixteen {
-        a: step_four(a, x, blocks, at),
-        b: step_four(b, x, blocks, at + 4),
-        c: step_four(c, x, blocks, at + 8),
-        d: step_four(d, x, blocks, at + 12),
+        a: step_four(sums.a, x, blocks, at),
+        b: step_four(sums.b, x, blocks, at + 4),
+        c: step_four(sums.c, x, blocks, at + 8),
+        d: step_four(sums.d, x, blocks, at + 12),
     }
 }
 
@@ -64,10 +61,8 @@ pub fn sums_of(blocks: &[f32], vector: &[f32], at: usize) -> Sixteen
         c: zero,
         d: zero,
     };
-    let mut i = 0;
-    while i < vector.len() {
-        sums = step_sixteen(sums, vector[i], blocks, at + i * 16);
-        i += 1;
+    for (i, &x) in vector.iter().enumerate() {
+        sums = step_sixteen(sums, x, blocks, at + i * 16);
     }
     sums
 }

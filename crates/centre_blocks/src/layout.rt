@@ -11,10 +11,8 @@ fn lay_vector(floats: &[f32], from: usize, dimension: usize, blocks: &mut [f32],
     requires dimension_in_bounds_2 { at + dimension * 16 ≤ length blocks.old + 15 }
     ensures { ColumnWritten dimension at (part from dimension floats.now) blocks.old blocks.new }
 {
-    let mut i = 0;
-    while i < dimension {
+    for i in 0..dimension {
         blocks[at + i * 16] = floats[from + i];
-        i += 1;
     }
 }
 
@@ -24,8 +22,7 @@ pub fn lay_out(floats: &[f32], centres_at: usize, k: usize, dimension: usize, bl
     requires dimension_in_bounds_2 { (k + 15) / 16 * (dimension * 16) ≤ length blocks.old }
     ensures { centres_in dimension k blocks.new ≡ vectors_from dimension k centres_at floats.now }
 {
-    let mut c = 0;
-    while c < k {
+    for c in 0..k {
         lay_vector(
             floats,
             centres_at + c * dimension,
@@ -33,6 +30,5 @@ pub fn lay_out(floats: &[f32], centres_at: usize, k: usize, dimension: usize, bl
             blocks,
             c / 16 * (dimension * 16) + c % 16,
         );
-        c += 1;
     }
 }

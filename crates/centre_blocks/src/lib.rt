@@ -19,9 +19,10 @@ fn closer_below(best: Best, number: usize, k: usize, sum: f32) -> Best
     ensures { (v : List Float) (centres : List (List Float)) → length centres ≡ k → SumIs v centres number sum → to_choose v centres number best ≡ to_choose v centres (number + 1) result }
 {
     if number < k {
-        return closer(best, number, 1.0 - sum);
+        closer(best, number, 1.0 - sum)
+    } else {
+        best
     }
-    best
 }
 
 // The choice after four more centres.
@@ -29,6 +30,7 @@ fn closer_four(best: Best, first: usize, k: usize, sums: Four) -> Best
     requires { first + 4 < 2 ^ 64 }
     ensures { (v : List Float) (centres : List (List Float)) → length centres ≡ k → SumsAre v centres first (four_list sums) → to_choose v centres first best ≡ to_choose v centres (first + 4) result }
 {
+    // By hand: unrolled, and so are the four fours below.
     let one = closer_below(best, first, k, sums.a);
     let two = closer_below(one, first + 1, k, sums.b);
     let three = closer_below(two, first + 2, k, sums.c);
@@ -40,14 +42,10 @@ fn closer_sixteen(best: Best, first: usize, k: usize, sums: Sixteen) -> Best
     requires { first + 16 < 2 ^ 64 }
     ensures { (v : List Float) (centres : List (List Float)) → length centres ≡ k → SumsAre v centres first (lanes sums) → to_choose v centres first best ≡ to_choose v centres (first + 16) result }
 {
-    let a = sums.a;
-    let b = sums.b;
-    let c = sums.c;
-    let d = sums.d;
-    let one = closer_four(best, first, k, a);
-    let two = closer_four(one, first + 4, k, b);
-    let three = closer_four(two, first + 8, k, c);
-    closer_four(three, first + 12, k, d)
+    let one = closer_four(best, first, k, sums.a);
+    let two = closer_four(one, first + 4, k, sums.b);
+    let three = closer_four(two, first + 8, k, sums.c);
+    closer_four(three, first + 12, k, sums.d)
 }
 
 // The number of the nearest of the k centres in blocks.
@@ -58,14 +56,11 @@ pub fn nearest_in_blocks(blocks: &[f32], vector: &[f32], k: usize) -> usize
 {
     let mut best = Best {
         number: 0,
-        least: f32::from_bits(0x7F80_0000),
+        least: f32::INFINITY,
     };
-    let mut c = 0;
-    let mut at = 0;
-    while c < k {
-        best = closer_sixteen(best, c, k, sums_of(blocks, vector, at));
-        c += 16;
-        at += vector.len() * 16;
+    for block in 0..(k + 15) / 16 {
+        let c = block * 16;
+        best = closer_sixteen(best, c, k, sums_of(blocks, vector, c * vector.len()));
     }
     best.number
 }

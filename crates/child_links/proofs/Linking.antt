@@ -194,18 +194,6 @@ module _ (cs numbers₀ work₀ : List ℕ) (links : ℕ) (counts : ChildCounts 
         work_long = length-set work place i ∙ before.work_long;
       }
 
--- once node 0 is linked
-pub linking_done : (cs numbers₀ work₀ : List ℕ) (links : ℕ) (numbers work : List ℕ) (top end i : ℕ) → ChildCounts cs → i ≡ 0
-    → Linking cs numbers₀ work₀ links numbers work top end i → numbers ≡ sets numbers₀ links (link_up 0 cs).links
-linking_done cs numbers₀ work₀ links numbers work top end i counts z done =
-    let a = done.ends in
-    let b = counts.one_root in
-    let s = ap (λ (k : ℕ). sum_of (λ c. c) (drop k cs)) z in
-    let e : end ≡ 0 = omega arith in
-    done.numbers_is
-    ∙ ap₂ (λ (k j : ℕ). sets numbers₀ (links + j) (link_up k (drop k cs)).links) z e
-    ∙ ap (λ (k : ℕ). sets numbers₀ k (link_up 0 cs).links) (let f : links + 0 ≡ links = omega arith in f)
-
 -- what a turn of the loop knows of node i, whose child count w is
 pub record Turn (cs numbers₀ work₀ : List ℕ) (nodes links : ℕ) (numbers work : List ℕ) (top end i w : ℕ) : Type 0 where
   pub small : i < length cs

@@ -8,7 +8,6 @@ ghost use Rattle.node_table.specs.Table.{cells, column, block_start};
 ghost use Rattle.child_links.specs.Promises.{ChildCounts};
 
 use node_table::{copy_to, set_starts};
-use store::wide;
 
 // Writes the child links from `links` on, from the last node to the first; the child counts stand in the column at `at`. The nodes that have no
 // parent yet wait on a stack in the work list, the lowest number on top: a node takes its children from there, and goes there itself.
@@ -23,10 +22,8 @@ fn link_children(numbers: &mut [u32], at: usize, nodes: usize, links: usize, wor
 {
     let mut top = nodes;
     let mut end = nodes - 1;
-    let mut i = nodes;
-    while 0 < i {
-        i -= 1;
-        let count = wide(numbers[at + 6 * i]);
+    for i in (0..nodes).rev() {
+        let count = numbers[at + 6 * i] as usize;
         end -= count;
         let rest = top + count;
         copy_to(numbers, links + end, &work[top..rest]);

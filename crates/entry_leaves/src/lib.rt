@@ -5,18 +5,13 @@ ghost use Rattle.std.specs.Prelude.{◌≡◌, ℕ, ◌+◌, ◌*◌, ◌<◌, �
 ghost use Rattle.node_table.specs.Table.{cell, written, sum_to};
 ghost use Rattle.entry_leaves.specs.Leaves.{marked, leaves_marked};
 
-use store::wide;
-
 // Writes `node` at each of the places that `ids` names.
 fn mark_leaf(work: &mut [u32], ids: &[u32], node: u32)
     requires { (k : ℕ) → k < length ids.now → get_or ids.now k 0 < length work.old }
     ensures { work.new ≡ written (λ k. get_or ids.now k 0) (λ k. node) (length ids.now) work.old }
 {
-    let mut k = 0;
-    while k < ids.len() {
-        let id = wide(ids[k]);
-        work[id] = node;
-        k += 1;
+    for &id in ids {
+        work[id as usize] = node;
     }
 }
 
@@ -29,12 +24,10 @@ fn mark_leaves(work: &mut [u32], numbers: &[u32], at: usize, nodes: usize, order
     ensures { work.new ≡ marked (λ k. get_or numbers.now (order + k) 0) (cell at numbers.now) nodes work.old }
 {
     let mut from = order;
-    let mut i = 0;
-    while i < nodes {
-        let next = from + wide(numbers[at + 6 * i]);
+    for i in 0..nodes {
+        let next = from + numbers[at + 6 * i] as usize;
         mark_leaf(work, &numbers[from..next], i as u32);
         from = next;
-        i += 1;
     }
 }
 
@@ -45,11 +38,9 @@ fn find_leaves(work: &mut [u32], at: usize, numbers: &[u32], owners: usize, entr
     requires by_index { (k : ℕ) → k < entries → get_or numbers.now (owners + k) 0 < at }
     ensures { work.new ≡ written (λ k. at + k) (λ k. get_or work.old (get_or numbers.now (owners + k) 0) 0) entries work.old }
 {
-    let mut k = 0;
-    while k < entries {
-        let owner = wide(numbers[owners + k]);
+    for k in 0..entries {
+        let owner = numbers[owners + k] as usize;
         work[at + k] = work[owner];
-        k += 1;
     }
 }
 

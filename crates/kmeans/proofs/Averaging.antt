@@ -11,7 +11,7 @@ use borrow.Author.Tests.{eqb-true, eqb-false, lt-ltb, le-ltb, ltb-true, ltb-fals
 use lib.Dec.{T, eqb, ltb, le→leb}
 use lib.IntN.{pos}
 use lib.ListN.{length, get_or, set, drop, replicate, drop_of_length-le, length-map, length-set, get_or-replicate, get_or-eq_default, length-replicate}
-use lib.Seq.{sets, length-sets, drop-cons, ext_get_or, get_or-set_same, get_or-set_other}
+use lib.Seq.{sets, drop-cons, ext_get_or, get_or-set_same, get_or-set_other}
 use lib.Ieee.{Float, binary32, div, of_int, in_float}
 use Rattle.lists.specs.Lists.{part, count_from}
 use Rattle.lists.specs.Parts.{length_part, sets_self}
@@ -45,45 +45,38 @@ count-few j (m ∷ marks) =
     either (which (eqb j m)) (λ t. let h = hit_same j m (eqb-true j m t) in omega arith) (λ f. let h = hit_other j m (eqb-false j m f) in omega arith)
 
 -- the first i marks are counted
-pub record Counting (marks counts₀ counts : List ℕ) (i : ℕ) : Type 0 where
-  pub upto : i ≤ length marks
-  pub same : length counts ≡ length counts₀
-  pub due : (j : ℕ) → j < length counts → get_or counts j 0 + count j (drop i marks) ≡ count j marks
+abbrev pub Counting : List ℕ → List ℕ → ℕ → Type 0
+Counting marks counts i = (j : ℕ) → j < length counts → get_or counts j 0 + count j (drop i marks) ≡ count j marks
 
-pub counting_none : (marks counts : List ℕ) → ((j : ℕ) → get_or counts j 0 ≡ 0) → Counting marks counts counts 0
-counting_none marks counts z = record { upto = omega arith; same = refl; due = λ j h. let e = z j in omega arith }
+pub counting_none : (marks counts : List ℕ) → ((j : ℕ) → get_or counts j 0 ≡ 0) → Counting marks counts 0
+counting_none marks counts z j h = let e = z j in omega arith
 
 -- a count is within the number of marks
-pub counting_fits : (marks counts₀ counts : List ℕ) (i : ℕ) → Counting marks counts₀ counts i → i < length marks → get_or marks i 0 < length counts
+pub counting_fits : (marks counts : List ℕ) (i : ℕ) → Counting marks counts i → i < length marks → get_or marks i 0 < length counts
     → get_or counts (get_or marks i 0) 0 + 1 ≤ length marks
-counting_fits marks counts₀ counts i inv h b =
+counting_fits marks counts i inv h b =
     let m : ℕ = get_or marks i 0 in
-    omega (arith, inv.due m b, count-step m marks i h, hit_same m m refl, count-few m marks)
+    omega (arith, inv m b, count-step m marks i h, hit_same m m refl, count-few m marks)
 
-pub counting_next : (marks counts₀ counts : List ℕ) (i : ℕ) → Counting marks counts₀ counts i → i < length marks → get_or marks i 0 < length counts
-    → Counting marks counts₀ (set counts (get_or marks i 0) (get_or counts (get_or marks i 0) 0 + 1)) (i + 1)
-counting_next marks counts₀ counts i inv h b =
-    record { upto = omega arith; same = length-set counts m (get_or counts m 0 + 1) ∙ inv.same; due = λ j g. next j (rw length-set at g) }
-  where
-    m : ℕ
-    m = get_or marks i 0
+pub counting_next : (marks counts : List ℕ) (i : ℕ) → Counting marks counts i → i < length marks → get_or marks i 0 < length counts
+    → Counting marks (set counts (get_or marks i 0) (get_or counts (get_or marks i 0) 0 + 1)) (i + 1)
+counting_next marks counts i inv h b j below =
+    let m : ℕ = get_or marks i 0 in
+    let g : j < length counts = rw length-set at below in
+    let d = inv j g in
+    let s = count-step j marks i h in
+    either (which (eqb j m))
+    (λ t. let e : j ≡ m = eqb-true j m t in
+    let x : get_or (set counts m (get_or counts m 0 + 1)) j 0 ≡ get_or counts j 0 + 1 = rw e (get_or-set_same counts m (get_or counts m 0 + 1) 0 b) in
+    omega (arith, hit_same j m e))
+    (λ f. let n = eqb-false j m f in
+    omega (arith, get_or-set_other counts m j (get_or counts m 0 + 1) 0 n, hit_other j m n))
 
-    next : (j : ℕ) → j < length counts → get_or (set counts m (get_or counts m 0 + 1)) j 0 + count j (drop (i + 1) marks) ≡ count j marks
-    next j g =
-        let d = inv.due j g in
-        let s = count-step j marks i h in
-        either (which (eqb j m))
-        (λ t. let e : j ≡ m = eqb-true j m t in
-        let x : get_or (set counts m (get_or counts m 0 + 1)) j 0 ≡ get_or counts j 0 + 1 = rw e (get_or-set_same counts m (get_or counts m 0 + 1) 0 b) in
-        omega (arith, hit_same j m e))
-        (λ f. let n = eqb-false j m f in
-        omega (arith, get_or-set_other counts m j (get_or counts m 0 + 1) 0 n, hit_other j m n))
-
-pub counting_all : (marks counts₀ counts : List ℕ) (i : ℕ) → Counting marks counts₀ counts i → length marks ≤ i
-    → (j : ℕ) → j < length counts₀ → get_or counts j 0 ≡ count j marks
-counting_all marks counts₀ counts i inv h j b =
+pub counting_all : (marks counts : List ℕ) (i : ℕ) → Counting marks counts i → length marks ≤ i
+    → (j : ℕ) → j < length counts → get_or counts j 0 ≡ count j marks
+counting_all marks counts i inv h j b =
     let none : count j (drop i marks) ≡ 0 = ap (count j) (drop_of_length-le marks h) ∙ count-nil j in
-    omega (arith, inv.due j (omega (arith, inv.same)))
+    omega (arith, inv j b)
 
 -- counts that begin at 0
 pub get_d_zeros : (n j : ℕ) → ◌≡◌ {A = ℕ} (get_or (replicate n 0) j 0) 0
@@ -127,23 +120,23 @@ module _ (d k at : ℕ) (floats₀ : List Float) (f : ℕ → List Float → Lis
   abbrev goal : List (List Float)
   goal = each_centre k f (vectors_from d k at floats₀)
 
-  pub each_turn : (floats floats' : List Float) (j : ℕ) (v : List Float) → WritingCentres d k at floats₀ goal floats j → j < k
-      → floats' ≡ sets floats (at + j * d) v → v ≡ f j (part (at + j * d) d floats) → length v ≡ d → WritingCentres d k at floats₀ goal floats' (j + 1)
-  each_turn floats floats' j v inv h q e n =
+  pub each_turn : (floats floats' : List Float) (j : ℕ) (v : List Float) → WritingCentres d k at floats₀ goal floats j
+      → length floats ≡ length floats₀ → j < k → floats' ≡ sets floats (at + j * d) v → v ≡ f j (part (at + j * d) d floats) → length v ≡ d → WritingCentres d k at floats₀ goal floats' (j + 1)
+  each_turn floats floats' j v inv size h q e n =
       let count : length goal ≡ k = length-each_centre k f (vectors_from d k at floats₀) in
-      centres_turn d k at floats₀ goal count fits floats floats' j v inv h q
+      centres_turn d k at floats₀ goal count fits floats floats' j v inv size h q
       (e
       ∙ ap (f j) (centres-own d k at floats₀ goal count fits floats j inv h)
       ∙ sym (vector_of-each_centre k f (vectors_from d k at floats₀) j h))
       n
 
   -- a centre that stays
-  pub each_kept : (floats : List Float) (j : ℕ) → WritingCentres d k at floats₀ goal floats j → j < k
+  pub each_kept : (floats : List Float) (j : ℕ) → WritingCentres d k at floats₀ goal floats j → length floats ≡ length floats₀ → j < k
       → part (at + j * d) d floats ≡ f j (part (at + j * d) d floats) → WritingCentres d k at floats₀ goal floats (j + 1)
-  each_kept floats j inv h e =
+  each_kept floats j inv size h e =
       let end = row-end d j k h in
-      each_turn floats floats j (part (at + j * d) d floats) inv h (sym (sets_self floats (at + j * d) d)) e
-      (length_part (at + j * d) d floats (omega (arith, inv.same)))
+      each_turn floats floats j (part (at + j * d) d floats) inv size h (sym (sets_self floats (at + j * d) d)) e
+      (length_part (at + j * d) d floats (omega arith))
 
 -- ---- vectors are added by their marks
 
@@ -165,8 +158,6 @@ no_marks j marks ids e = rw e
 
 -- The vectors of the first i ids are added: what each centre is to be is what the other ids add to it.
 pub record Summing (d n k at : ℕ) (ids marks : List ℕ) (floats₀ floats : List Float) (i : ℕ) : Type 0 where
-  pub upto : i ≤ length ids
-  pub same : length floats ≡ length floats₀
   pub alike : AlikeBut at (k * d) floats₀ floats
   pub due : (j : ℕ) → j < k
       → sum_from (vectors_in d n floats₀) (vector_of (vectors_from d k at floats₀) j) (with_mark j marks ids)
@@ -174,15 +165,14 @@ pub record Summing (d n k at : ℕ) (ids marks : List ℕ) (floats₀ floats : L
 
 module _ (d n k at : ℕ) (ids marks : List ℕ) (floats₀ : List Float) (room : BehindVectors floats₀ ids d n at (k * d)) (sizes : length marks ≡ length ids) where
   pub summing_none : Summing d n k at ids marks floats₀ floats₀ 0
-  summing_none = record { upto = omega arith; same = refl; alike = alike_refl at (k * d) floats₀; due = λ j h. refl }
+  summing_none = record { alike = alike_refl at (k * d) floats₀; due = λ j h. refl }
 
-  pub summing_next : (floats floats' : List Float) (i : ℕ) → Summing d n k at ids marks floats₀ floats i → i < length ids → get_or marks i 0 < k
+  pub summing_next : (floats floats' : List Float) (i : ℕ) → Summing d n k at ids marks floats₀ floats i → length floats ≡ length floats₀
+      → i < length ids → get_or marks i 0 < k
       → floats' ≡ sets floats (at + get_or marks i 0 * d) (add_vectors (part (at + get_or marks i 0 * d) d floats) (part (get_or ids i 0 * d) d floats))
       → Summing d n k at ids marks floats₀ floats' (i + 1)
-  summing_next floats floats' i inv h b q =
+  summing_next floats floats' i inv same h b q =
       record {
-        upto = omega arith;
-        same = rw q (length-sets floats (at + m * d) v ∙ inv.same);
         alike = alike_trans at (k * d) inv.alike (rw q (alike-sets at (k * d) floats (at + m * d) v (omega arith) (omega (arith, end, size))));
         due = λ j g. inv.due j g ∙ next j g (which (eqb m j));
       }
@@ -206,7 +196,7 @@ module _ (d n k at : ℕ) (ids marks : List ℕ) (floats₀ : List Float) (room 
       v = add_vectors (part (at + m * d) d floats) (part (id * d) d floats)
 
       size : length v ≡ d
-      size = length-add_vectors (part (at + m * d) d floats) (part (id * d) d floats) ∙ length_part (at + m * d) d floats (omega (arith, inv.same, room.within, end))
+      size = length-add_vectors (part (at + m * d) d floats) (part (id * d) d floats) ∙ length_part (at + m * d) d floats (omega (arith, same, room.within, end))
 
       added : v ≡ add_vectors (vector_of centres m) (vector_of vectors id)
       added =
@@ -215,7 +205,7 @@ module _ (d n k at : ℕ) (ids marks : List ℕ) (floats₀ : List Float) (room 
           ∙ ap (λ (vs : List (List Float)). vector_of vs id) (alike-vectors d n at (k * d) floats₀ floats inv.alike room.behind))
 
       written : vectors_from d k at floats' ≡ set centres m v
-      written = rw q (vectors_from_write d k at floats m v size (omega (arith, inv.same, room.within)) b)
+      written = rw q (vectors_from_write d k at floats m v size (omega (arith, same, room.within)) b)
 
       rest : ℕ → List ℕ
       rest j = with_mark j (drop (i + 1) marks) (drop (i + 1) ids)

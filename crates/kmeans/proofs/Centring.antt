@@ -5,7 +5,7 @@ use mathlib.Core.List.{List, [], ◌++◌, append-nil}
 use native.Mathlib.Nat.{zero-add, mul-div-le, le-div_iff_mul-le, mul-le-mul_right, suc-mul}
 use native.Mathlib.Omega.{arith}
 use lib.ListN.{length, get_or, set, take, drop, drop_of_length-le}
-use lib.Seq.{sets, sets-eq, length-sets}
+use lib.Seq.{sets, sets-eq}
 use lib.Ieee.{Float}
 use Rattle.lists.specs.Lists.{part}
 use Rattle.lists.specs.Parts.{length_part, part-written}
@@ -23,8 +23,6 @@ use Rattle.lists.specs.Writes.{write_turn, write_end, unwritten}
 -- ---- k centres, the first j of them written
 
 pub record WritingCentres (d k at : ℕ) (floats₀ : List Float) (new : List (List Float)) (floats : List Float) (j : ℕ) : Type 0 where
-  pub upto : j ≤ k
-  pub same : length floats ≡ length floats₀
   pub alike : AlikeBut at (k * d) floats₀ floats
   pub centres : vectors_from d k at floats ≡ sets (vectors_from d k at floats₀) 0 (take j new)
 
@@ -33,7 +31,7 @@ module _ (d k at : ℕ) (floats₀ : List Float) (new : List (List Float)) (coun
   old = vectors_from d k at floats₀
 
   pub centres-none : WritingCentres d k at floats₀ new floats₀ 0
-  centres-none = record { upto = omega arith; same = refl; alike = alike_refl at (k * d) floats₀; centres = refl }
+  centres-none = record { alike = alike_refl at (k * d) floats₀; centres = refl }
 
   -- the centre that is written next is still as it was
   pub centres-own : (floats : List Float) (j : ℕ) → WritingCentres d k at floats₀ new floats j → j < k → part (at + j * d) d floats ≡ vector_of old j
@@ -43,18 +41,16 @@ module _ (d k at : ℕ) (floats₀ : List Float) (new : List (List Float)) (coun
       ∙ unwritten old (vectors_from d k at floats) 0 j new [] inv.centres
       ∙ ap (λ (i : ℕ). vector_of old i) (zero-add j)
 
-  pub centres_turn : (floats floats' : List Float) (j : ℕ) (v : List Float) → WritingCentres d k at floats₀ new floats j → j < k
-      → floats' ≡ sets floats (at + j * d) v → v ≡ vector_of new j → length v ≡ d → WritingCentres d k at floats₀ new floats' (j + 1)
-  centres_turn floats floats' j v inv h q e n =
+  pub centres_turn : (floats floats' : List Float) (j : ℕ) (v : List Float) → WritingCentres d k at floats₀ new floats j
+      → length floats ≡ length floats₀ → j < k → floats' ≡ sets floats (at + j * d) v → v ≡ vector_of new j → length v ≡ d → WritingCentres d k at floats₀ new floats' (j + 1)
+  centres_turn floats floats' j v inv size h q e n =
       let end = row-end d j k h in
       record {
-        upto = omega arith;
-        same = rw q (length-sets floats (at + j * d) v ∙ inv.same);
         alike =
             alike_trans at (k * d) inv.alike
             (rw q (alike-sets at (k * d) floats (at + j * d) v (omega arith) (omega arith)));
         centres =
-            rw q (vectors_from_write d k at floats j v n (omega (arith, inv.same)) h)
+            rw q (vectors_from_write d k at floats j v n (omega arith) h)
             ∙ ap (λ (i : ℕ). set (vectors_from d k at floats) i v) (sym (zero-add j))
             ∙ write_turn old (vectors_from d k at floats) 0 j new [] v inv.centres (omega arith) e;
       }
@@ -84,11 +80,11 @@ module _ (floats₀ : List Float) (ids : List ℕ) (d n at k : ℕ) (room : Behi
   abbrev vectors : List (List Float)
   vectors = vectors_in d n floats₀
 
-  pub first_turn : (floats floats' : List Float) (i : ℕ) → WritingCentres d k at floats₀ (first_centres vectors ids k) floats i → i < k
-      → i * (length ids / k) < length ids
+  pub first_turn : (floats floats' : List Float) (i : ℕ) → WritingCentres d k at floats₀ (first_centres vectors ids k) floats i
+      → length floats ≡ length floats₀ → i < k → i * (length ids / k) < length ids
       → floats' ≡ sets floats (at + i * d) (part (get_or ids (i * (length ids / k)) 0 * d) d floats)
       → WritingCentres d k at floats₀ (first_centres vectors ids k) floats' (i + 1)
-  first_turn floats floats' i inv h b q =
+  first_turn floats floats' i inv same h b q =
       let p : ℕ = i * (length ids / k) in
       let id : ℕ = get_or ids p 0 in
       let v : List Float = part (id * d) d floats in
@@ -97,8 +93,8 @@ module _ (floats₀ : List Float) (ids : List ℕ) (d n at k : ℕ) (room : Behi
       sym (vector_of-vectors_in d n floats id (room.below p b))
       ∙ ap (λ (vs : List (List Float)). vector_of vs id) (alike-vectors d n at (k * d) floats₀ floats inv.alike room.behind)
       ∙ sym (vector_of-first_centres vectors ids k i h) in
-      let size : length v ≡ d = length_part (id * d) d floats (omega (arith, inv.same, room.within, before)) in
-      centres_turn d k at floats₀ (first_centres vectors ids k) (length-first_centres vectors ids k) room.within floats floats' i v inv h q e size
+      let size : length v ≡ d = length_part (id * d) d floats (omega (arith, room.within, before)) in
+      centres_turn d k at floats₀ (first_centres vectors ids k) (length-first_centres vectors ids k) room.within floats floats' i v inv same h q e size
 
 -- ---- the rounds
 

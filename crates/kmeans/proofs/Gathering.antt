@@ -8,7 +8,7 @@ use native.Mathlib.Numerals.{add-one}
 use native.Mathlib.Omega.{arith}
 use borrow.Author.Tests.{eq-eqb, ne_eqb}
 use lib.Dec.{eqb}
-use lib.ListN.{length, get_or, set, take, drop, length-set, drop_of_length-le}
+use lib.ListN.{length, get_or, set, take, drop, drop_of_length-le}
 use lib.Seq.{sets, drop-cons, length-take-le, get_or-take, take-set-le}
 use Rattle.kmeans.specs.Marks.{with_mark}
 
@@ -27,8 +27,6 @@ abbrev due : ℕ → List ℕ → List ℕ → ℕ → List ℕ
 due j ids work i = with_mark j (drop i (take (length ids) work)) (drop i ids)
 
 pub record Gathered (j : ℕ) (ids work₀ : List ℕ) (at : ℕ) (work : List ℕ) (found i : ℕ) : Type 0 where
-  pub seen : i ≤ length ids
-  pub same : length work ≡ length work₀
   pub marks : take (length ids) work ≡ take (length ids) work₀
   pub left : sets work₀ at (due j ids work₀ 0) ≡ sets work (at + found) (due j ids work₀ i)
   pub size : length (due j ids work₀ 0) ≡ found + length (due j ids work₀ i)
@@ -40,8 +38,6 @@ module _ (j : ℕ) (ids work₀ : List ℕ) (at : ℕ) (behind : length ids ≤ 
   pub gather_none : Gathered j ids work₀ at work₀ 0 0
   gather_none =
       record {
-        seen = omega arith;
-        same = refl;
         marks = refl;
         left = ap (λ (k : ℕ). sets work₀ k (due j ids work₀ 0)) (sym (add-zero at));
         size = sym (zero-add (length (due j ids work₀ 0)));
@@ -55,11 +51,11 @@ module _ (j : ℕ) (ids work₀ : List ℕ) (at : ℕ) (behind : length ids ≤ 
     next b e =
         with_mark-cons j (take (length ids) work₀) ids i (rw length-marks h) h b (ap (λ (m : ℕ). eqb m j) mark ∙ e)
 
-    pub gather_room : get_or work i 0 ≡ j → at + found < length work
-    gather_room e =
+    pub gather_room : length work ≡ length work₀ → get_or work i 0 ≡ j → at + found < length work
+    gather_room same e =
         let n : length (due j ids work₀ i) ≡ suc (length (due j ids work₀ (suc i))) =
         ap (λ (l : List ℕ). length l) (next true (eq-eqb (get_or work i 0) j e)) in
-        omega (arith, inv.size, inv.same)
+        omega (arith, inv.size)
 
     pub gather_hit : get_or work i 0 ≡ j → Gathered j ids work₀ at (set work (at + found) (get_or ids i 0)) (found + 1) (i + 1)
     gather_hit e =
@@ -67,8 +63,6 @@ module _ (j : ℕ) (ids work₀ : List ℕ) (at : ℕ) (behind : length ids ≤ 
         let q : due j ids work₀ i ≡ id ∷ due j ids work₀ (i + 1) = next true (eq-eqb (get_or work i 0) j e) ∙ rw add-one in
         let k : suc (at + found) ≡ at + (found + 1) = omega arith in
         record {
-          seen = omega arith;
-          same = length-set work (at + found) id ∙ inv.same;
           marks = take-set-le (length ids) work (at + found) id (omega arith) ∙ inv.marks;
           left =
               inv.left
@@ -81,8 +75,6 @@ module _ (j : ℕ) (ids work₀ : List ℕ) (at : ℕ) (behind : length ids ≤ 
     gather_miss e =
         let q : due j ids work₀ i ≡ due j ids work₀ (i + 1) = next false (ne_eqb (get_or work i 0) j e) ∙ rw add-one in
         record {
-          seen = omega arith;
-          same = inv.same;
           marks = inv.marks;
           left = inv.left ∙ ap (λ (l : List ℕ). sets work (at + found) l) q;
           size = inv.size ∙ ap (λ (l : List ℕ). found + length l) q;

@@ -1,11 +1,11 @@
 // The marks of ids by centres that are laid out in blocks of sixteen.
-ghost use Rattle.std.specs.Prelude.{◌+◌, ◌*◌, ◌/◌, ◌≤◌, ◌<◌, ◌^◌, ◌≡◌, ◌&&◌, leb, length};
+ghost use Rattle.std.specs.Prelude.{◌*◌, ◌≤◌, ◌≡◌, ◌&&◌, leb, length};
 ghost use Rattle.std.proofs.lemmas.List.Edits.{sets};
 ghost use Rattle.cluster.specs.Vectors.{vectors_in, vectors_from};
 ghost use Rattle.cluster.specs.Promises.{BehindVectors};
-ghost use Rattle.centre_blocks.specs.Blocks.{centres_in};
 ghost use Rattle.kmeans.specs.Marks.{assignment};
 
+use crate::marks::assign_by;
 use centre_blocks::layout::lay_out;
 use centre_blocks::nearest_in_blocks;
 
@@ -14,33 +14,7 @@ use centre_blocks::nearest_in_blocks;
 pub fn suits(n: usize, k: usize) -> bool
     ensures { result ≡ (leb 32 n && leb 8 k) }
 {
-    (32 <= n) & (8 <= k)
-}
-
-// Writes the marks of ids by the k centres in blocks. `count` vectors are held.
-fn assign_in_blocks(
-    floats: &[f32],
-    ids: &[u32],
-    work: &mut [u32],
-    blocks: &[f32],
-    dimension: usize,
-    count: usize,
-    k: usize,
-)
-    requires behind_vectors { BehindVectors floats.now ids.now dimension count (count * dimension) 0 }
-    requires le_k { 1 ≤ k }
-    requires k_bound { k < 2 ^ 32 }
-    requires ids_in_bounds { length ids.now ≤ length work.old }
-    requires dimension_in_bounds { (k + 15) / 16 * (dimension * 16) ≤ length blocks.now }
-    ensures { work.new ≡ sets work.old 0 (assignment (vectors_in dimension count floats.now) (centres_in dimension k blocks.now) ids.now) }
-{
-    let mut i = 0;
-    while i < ids.len() {
-        let start = ids[i] as usize * dimension;
-        let end = start + dimension;
-        work[i] = nearest_in_blocks(blocks, &floats[start..end], k) as u32;
-        i += 1;
-    }
+    32 <= n && 8 <= k
 }
 
 // Lays out the k centres at `centres_at`, which fit in 8,192 floats, and writes the marks of ids by
@@ -63,5 +37,7 @@ pub fn assign_by_blocks(
 {
     let mut blocks: [f32; 8192] = [0.0; 8192];
     lay_out(floats, centres_at, k, dimension, &mut blocks);
-    assign_in_blocks(floats, ids, work, &blocks, dimension, count, k);
+    assign_by(floats, ids, work, dimension, count, centres_at, k, |v| {
+        nearest_in_blocks(&blocks, v, k)
+    });
 }

@@ -29,8 +29,7 @@ fn first_centres(
     ensures { Centred dimension k centres_at floats.old (first_centres (vectors_in dimension count floats.old) ids.now k) floats.new }
 {
     let step = ids.len() / k;
-    let mut i = 0;
-    while i < k {
+    for i in 0..k {
         let id = ids[i * step] as usize;
         mean::part::copy(
             floats,
@@ -38,7 +37,6 @@ fn first_centres(
             centres_at + i * dimension,
             dimension,
         );
-        i += 1;
     }
 }
 
@@ -61,12 +59,10 @@ fn round(
     ensures alike_but { AlikeBut 0 (2 * length ids.now) work.old work.new }
 {
     marks::assign(floats, ids, work, dimension, count, centres_at, k);
-    let start = 0;
-    let n = ids.len();
     means::recentre_by_marks(
         floats,
         ids,
-        &work[start..n],
+        &work[..ids.len()],
         dimension,
         count,
         centres_at,

@@ -1,7 +1,8 @@
 // The mark of an id is the number of the centre to which it goes. The marks of n ids stand in the
 // first n places of the work list.
-ghost use Rattle.std.specs.Prelude.{◌+◌, ◌*◌, ◌≤◌, ◌<◌, ◌^◌, ◌≡◌, length, take};
+ghost use Rattle.std.specs.Prelude.{ℕ, ◌+◌, ◌*◌, ◌≤◌, ◌<◌, ◌^◌, ◌≡◌, length, take};
 ghost use Rattle.std.proofs.lemmas.List.Edits.{sets};
+ghost use Rattle.cluster.specs.Clusters.{nearest};
 ghost use Rattle.cluster.specs.Vectors.{vectors_in, vectors_from};
 ghost use Rattle.kmeans.specs.Marks.{assignment, with_mark};
 ghost use Rattle.cluster.specs.Promises.{BehindVectors};
@@ -9,8 +10,9 @@ ghost use Rattle.cluster.specs.Promises.{BehindVectors};
 use crate::blocks;
 use nearest_centre::nearest_centre;
 
-// Writes the marks of ids by the k centres at `centres_at`, read where they stand.
-fn assign_in_place(
+// Writes the marks of ids by the k centres at `centres_at`. `count` vectors are held, and
+// `centre_of` gives the number of the nearest centre of a vector.
+pub fn assign_by<F: Fn(&[f32]) -> usize>(
     floats: &[f32],
     ids: &[u32],
     work: &mut [u32],
@@ -18,19 +20,20 @@ fn assign_in_place(
     count: usize,
     centres_at: usize,
     k: usize,
+    centre_of: F,
 )
     requires behind_vectors { BehindVectors floats.now ids.now dimension count centres_at (k * dimension) }
     requires le_k { 1 ≤ k }
     requires k_bound { k < 2 ^ 32 }
     requires ids_in_bounds { length ids.now ≤ length work.old }
+    requires callable { (v : _) → length v.now ≡ dimension → F.pre centre_of v }
+    requires gives { (v : _) (r : ℕ) → length v.now ≡ dimension → F.post centre_of v r → r ≡ nearest v.now (vectors_from dimension k centres_at floats.now) }
     ensures { work.new ≡ sets work.old 0 (assignment (vectors_in dimension count floats.now) (vectors_from dimension k centres_at floats.now) ids.now) }
 {
-    let mut i = 0;
-    while i < ids.len() {
-        let start = ids[i] as usize * dimension;
+    for (i, &id) in ids.iter().enumerate() {
+        let start = id as usize * dimension;
         let end = start + dimension;
-        work[i] = nearest_centre(floats, &floats[start..end], centres_at, k, dimension) as u32;
-        i += 1;
+        work[i] = centre_of(&floats[start..end]) as u32;
     }
 }
 
@@ -55,7 +58,9 @@ pub fn assign(
     if blocks::suits(ids.len(), k) {
         blocks::assign_by_blocks(floats, ids, work, dimension, count, centres_at, k);
     } else {
-        assign_in_place(floats, ids, work, dimension, count, centres_at, k);
+        assign_by(floats, ids, work, dimension, count, centres_at, k, |v| {
+            nearest_centre(floats, v, centres_at, k, dimension)
+        });
     }
 }
 
@@ -68,14 +73,10 @@ pub fn gather(ids: &[u32], work: &mut [u32], j: u32, at: usize) -> usize
     ensures work_after { work.new ≡ sets work.old at (with_mark j (take (length ids.now) work.old) ids.now) }
 {
     let mut found = 0;
-    let mut i = 0;
-    while i < ids.len() {
+    for (i, &id) in ids.iter().enumerate() {
         if work[i] == j {
-            work[at + found] = ids[i];
+            work[at + found] = id;
             found += 1;
-            i += 1;
-        } else {
-            i += 1;
         }
     }
     found

@@ -17,11 +17,8 @@ fn count_marks(marks: &[u32], counts: &mut [u32])
     requires by_index_2 { (j : ℕ) → get_or counts.old j 0 ≡ 0 }
     ensures { (j : ℕ) → j < length counts.old → get_or counts.new j 0 ≡ count j marks.now }
 {
-    let mut i = 0;
-    while i < marks.len() {
-        let mark = marks[i] as usize;
-        counts[mark] = counts[mark] + 1;
-        i += 1;
+    for &mark in marks {
+        counts[mark as usize] += 1;
     }
 }
 
@@ -31,13 +28,9 @@ fn begin_sums(floats: &mut [f32], counts: &[u32], dimension: usize, centres_at: 
     requires k_in_bounds { k ≤ length counts.now }
     ensures { Centred dimension k centres_at floats.old (each_centre k (begun dimension counts.now) (vectors_from dimension k centres_at floats.old)) floats.new }
 {
-    let mut j = 0;
-    while j < k {
+    for j in 0..k {
         if 0 < counts[j] {
             part::zero(floats, centres_at + j * dimension, dimension);
-            j += 1;
-        } else {
-            j += 1;
         }
     }
 }
@@ -57,12 +50,10 @@ fn add_to_centres(
     requires by_index { (i : ℕ) → i < length marks.now → get_or marks.now i 0 < k }
     ensures { Centred dimension k centres_at floats.old (each_centre k (summed (vectors_in dimension count floats.old) marks.now ids.now) (vectors_from dimension k centres_at floats.old)) floats.new }
 {
-    let mut i = 0;
-    while i < ids.len() {
-        let from = ids[i] as usize * dimension;
-        let to = centres_at + marks[i] as usize * dimension;
+    for (&id, &mark) in ids.iter().zip(marks) {
+        let from = id as usize * dimension;
+        let to = centres_at + mark as usize * dimension;
         part::add(floats, from, to, dimension);
-        i += 1;
     }
 }
 
@@ -73,14 +64,10 @@ fn divide_sums(floats: &mut [f32], counts: &[u32], dimension: usize, centres_at:
     requires by_index { (j : ℕ) → j < k → get_or counts.now j 0 ≤ 2 ^ 24 }
     ensures { Centred dimension k centres_at floats.old (each_centre k (divided counts.now) (vectors_from dimension k centres_at floats.old)) floats.new }
 {
-    let mut j = 0;
-    while j < k {
+    for j in 0..k {
         let size = counts[j];
         if 0 < size {
             part::divide(floats, centres_at + j * dimension, dimension, size as f32);
-            j += 1;
-        } else {
-            j += 1;
         }
     }
 }

@@ -1,11 +1,11 @@
--- What each loop over the components of a part writes at a place: the component that is due there.
+-- What a loop over the components of a part leaves.
 use Prim.Native.Nat.{ℕ, ◌+◌, ◌≤◌, ◌<◌}
-use mathlib.Core.Path.{◌≡◌, sym, ap, ap₂, ◌∙◌}
-use mathlib.Core.List.{List, map}
+use mathlib.Core.Path.{◌≡◌, sym, ap₂, ◌∙◌}
+use mathlib.Core.List.{List, map, ◌++◌}
 use native.Mathlib.Omega.{arith}
-use lib.ListN.{length, get_or, length-map}
-use lib.Ieee.{Float, nan, binary32, add, div}
-use Rattle.lists.specs.Maps.{get_d_map}
+use lib.ListN.{length, get_or, take, drop}
+use lib.Ieee.{Float, nan, binary32, add}
+use Rattle.std.proofs.Common.{append-nil, drop_of_length-le, take_all}
 use Rattle.lists.specs.Lists.{part}
 use Rattle.lists.specs.Parts.{length_part, get_d_part}
 use Rattle.lists.specs.Writes.{Writing, unwritten, before-written}
@@ -34,14 +34,6 @@ added l m from to n i w g f h =
     ap₂ (λ (x y : Float). add binary32 x y) (own w h) (earlier w h from g)
     ∙ sym (get_d_add_vectors (part to n l) (part from n l) i (omega arith) (omega arith))
 
-abbrev pub quotients : List Float → ℕ → ℕ → Float → List Float
-quotients l to n by = map (λ x. div binary32 x by) (part to n l)
-
-pub length-quotients : (l : List Float) (to n : ℕ) (by : Float) → to + n ≤ length l → length (quotients l to n by) ≡ n
-length-quotients l to n by f = length-map (part to n l) (λ x. div binary32 x by) ∙ length_part to n l f
-
-pub divided : (l m : List Float) (to n i : ℕ) (by : Float) → Writing l to n (quotients l to n by) m i → to + n ≤ length l → i < n
-    → div binary32 (get_or m (to + i) nan) by ≡ get_or (quotients l to n by) i nan
-divided l m to n i by w f h =
-    let a : length (part to n l) ≡ n = length_part to n l f in
-    ap (λ (y : Float). div binary32 y by) (own w h) ∙ sym (get_d_map (λ x. div binary32 x by) (part to n l) i nan nan (omega arith))
+-- the end of a loop that writes f x over each element x
+pub mapped : (f : Float → Float) (l m : List Float) (i : ℕ) → m ≡ map f (take i l) ++ drop i l → length l ≤ i → m ≡ map f l
+mapped f l m i e h = e ∙ simp (take_all i l h, drop_of_length-le l h, append-nil)

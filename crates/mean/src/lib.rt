@@ -15,11 +15,8 @@ fn sum_into(floats: &mut [f32], ids: &[u32], dimension: usize, count: usize, at:
     requires { BehindVectors floats.old ids.now dimension count at dimension }
     ensures { floats.new ≡ sets floats.old at (sum_from (vectors_in dimension count floats.old) (part at dimension floats.old) ids.now) }
 {
-    let mut i = 0;
-    while i < ids.len() {
-        let id = ids[i] as usize;
-        part::add(floats, id * dimension, at, dimension);
-        i += 1;
+    for &id in ids {
+        part::add(floats, id as usize * dimension, at, dimension);
     }
 }
 

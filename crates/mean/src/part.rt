@@ -13,11 +13,8 @@ pub fn zero(floats: &mut [f32], to: usize, dimension: usize)
     requires { to + dimension ≤ length floats.old }
     ensures { floats.new ≡ sets floats.old to (replicate dimension zero32) }
 {
-    let mut i = 0;
-    while i < dimension {
-        floats[to + i] = 0.0;
-        i += 1;
-    }
+    let end = to + dimension;
+    floats[to..end].fill(0.0);
 }
 
 // Copies the part at `from`, which ends before the one at `to`.
@@ -26,11 +23,9 @@ pub fn copy(floats: &mut [f32], from: usize, to: usize, dimension: usize)
     requires dimension_in_bounds { to + dimension ≤ length floats.old }
     ensures { floats.new ≡ sets floats.old to (part from dimension floats.old) }
 {
-    let mut i = 0;
-    while i < dimension {
-        floats[to + i] = floats[from + i];
-        i += 1;
-    }
+    let end = from + dimension;
+    let (front, back) = floats.split_at_mut(to);
+    back[..dimension].copy_from_slice(&front[from..end]);
 }
 
 // Adds the part at `from`, which ends before the one at `to`, to that one.
@@ -39,10 +34,8 @@ pub fn add(floats: &mut [f32], from: usize, to: usize, dimension: usize)
     requires dimension_in_bounds { to + dimension ≤ length floats.old }
     ensures { floats.new ≡ sets floats.old to (add_vectors (part to dimension floats.old) (part from dimension floats.old)) }
 {
-    let mut i = 0;
-    while i < dimension {
-        floats[to + i] = floats[to + i] + floats[from + i];
-        i += 1;
+    for i in 0..dimension {
+        floats[to + i] += floats[from + i];
     }
 }
 
@@ -51,9 +44,8 @@ pub fn divide(floats: &mut [f32], to: usize, dimension: usize, by: f32)
     requires { to + dimension ≤ length floats.old }
     ensures { floats.new ≡ sets floats.old to (map (λ x. div binary32 x by) (part to dimension floats.old)) }
 {
-    let mut i = 0;
-    while i < dimension {
-        floats[to + i] = float_bits::canonical(floats[to + i] / by);
-        i += 1;
+    let end = to + dimension;
+    for x in &mut floats[to..end] {
+        *x = float_bits::canonical(*x / by);
     }
 }

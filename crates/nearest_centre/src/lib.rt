@@ -22,12 +22,10 @@ pub fn closer(best: Best, number: usize, d: f32) -> Best
     ensures least_value { result.least ≡ cond (lt d best.least) d best.least }
 {
     if d < best.least {
-        return Best {
-            number: number,
-            least: d,
-        };
+        Best { number, least: d }
+    } else {
+        best
     }
-    best
 }
 
 // The choice after the centres from number `first` on.
@@ -45,11 +43,9 @@ fn nearest_from(
     ensures { result ≡ nearest_from vector.now first start.number start.least (drop first (vectors_from dimension k centres_at floats.now)) }
 {
     let mut best = start;
-    let mut c = first;
-    while c < k {
+    for c in first..k {
         let d = distance_at(floats, vector, dimension, centres_at + c * dimension);
         best = closer(best, c, d);
-        c += 1;
     }
     best.number
 }
@@ -91,9 +87,10 @@ pub fn nearest_centre(
 {
     let mut best = Best {
         number: 0,
-        least: f32::from_bits(0x7F80_0000),
+        least: f32::INFINITY,
     };
     let mut c = 0;
+    // By hand: a turn takes four centres, and those that are left stand behind c.
     while k - c >= 4 {
         best = closer_of_four(
             floats,

@@ -9,7 +9,7 @@ ghost use Rattle.node_filters.specs.Filters.{filter_made, filters_made};
 ghost use Rattle.node_filters.specs.Promises.{RowFits};
 
 use node_table::Places;
-use store::wide;
+use std::ops::Range;
 
 // Inserts the hash of each of `entries` into the filter at `at`.
 fn insert_hashes(hashes: &mut [u64], at: usize, entries: &[u32])
@@ -18,12 +18,9 @@ fn insert_hashes(hashes: &mut [u64], at: usize, entries: &[u32])
     ensures { hashes.new ≡ sets hashes.old at (insert_all (part at 4 hashes.old) (map (λ x. get_or hashes.old x 0) entries.now)) }
 {
     let end = at + 4;
-    let mut k = 0;
-    while k < entries.len() {
-        let entry = wide(entries[k]);
-        let hash = hashes[entry];
+    for &entry in entries {
+        let hash = hashes[entry as usize];
         bloom::insert(&mut hashes[at..end], hash);
-        k += 1;
     }
 }
 
@@ -34,35 +31,23 @@ fn unite_children(hashes: &mut [u64], filters: usize, at: usize, children: &[u32
     requires by_index_2 { (k : ℕ) → k < length children.now → filters + 4 * get_or children.now k 0 + 4 ≤ length hashes.old }
     ensures { hashes.new ≡ sets hashes.old at (union_all (part at 4 hashes.old) (map (λ c. part (filters + 4 * c) 4 hashes.old) children.now)) }
 {
-    let mut k = 0;
-    while k < children.len() {
-        let other = bloom::words(hashes, filters + 4 * wide(children[k]));
+    for &child in children {
+        let other = bloom::words(hashes, filters + 4 * child as usize);
         let pool = bloom::unite(bloom::words(hashes, at), other);
         bloom::write_words(hashes, at, pool);
-        k += 1;
     }
-}
-
-// The ends of a block of numbers.
-#[derive(Clone, Copy)]
-struct BlockEnds {
-    from: usize,
-    to: usize,
 }
 
 // The block whose start, counted from `first`, and count stand at two places.
-fn block_ends(numbers: &[u32], first: usize, start_at: usize, count_at: usize) -> BlockEnds
+fn block_ends(numbers: &[u32], first: usize, start_at: usize, count_at: usize) -> Range<usize>
     requires start_at_in_bounds { start_at < length numbers.now }
     requires count_at_in_bounds { count_at < length numbers.now }
     requires count_at_in_bounds_2 { first + get_or numbers.now start_at 0 + get_or numbers.now count_at 0 ≤ length numbers.now }
-    ensures from_value { result.from ≡ first + get_or numbers.now start_at 0 }
-    ensures to_value { result.to ≡ first + get_or numbers.now start_at 0 + get_or numbers.now count_at 0 }
+    ensures from_value { result.start ≡ first + get_or numbers.now start_at 0 }
+    ensures to_value { result.end ≡ first + get_or numbers.now start_at 0 + get_or numbers.now count_at 0 }
 {
-    let from = first + wide(numbers[start_at]);
-    BlockEnds {
-        from: from,
-        to: from + wide(numbers[count_at]),
-    }
+    let start = first + numbers[start_at] as usize;
+    start..start + numbers[count_at] as usize
 }
 
 // Makes the filter of a node from those of its children and the hashes of its entries.
@@ -86,16 +71,12 @@ fn make_filter(hashes: &mut [u64], numbers: &[u32], places: Places, nodes: usize
         table + 6 * node,
         table + 1 + 6 * node,
     );
-    let first = entries.from;
-    let last = entries.to;
-    let from = children.from;
-    let to = children.to;
     let filters = places.filters;
     let at = filters + 4 * node;
     let end = at + 4;
     bloom::clear(&mut hashes[at..end]);
-    insert_hashes(hashes, at, &numbers[first..last]);
-    unite_children(hashes, filters, at, &numbers[from..to]);
+    insert_hashes(hashes, at, &numbers[entries]);
+    unite_children(hashes, filters, at, &numbers[children]);
 }
 
 // Makes all filters, from the last node to the first: a node stands before its children.
@@ -105,9 +86,7 @@ pub fn make_filters(hashes: &mut [u64], numbers: &[u32], places: Places, nodes: 
     requires by_index { (i : ℕ) → i < nodes → RowFits places numbers.now nodes i }
     ensures { hashes.new ≡ filters_made places numbers.now nodes hashes.old }
 {
-    let mut i = nodes;
-    while 0 < i {
-        i -= 1;
+    for i in (0..nodes).rev() {
         make_filter(hashes, numbers, places, nodes, i);
     }
 }

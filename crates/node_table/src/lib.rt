@@ -47,12 +47,10 @@ pub fn set_starts(numbers: &mut [u32], at: usize, nodes: usize)
     ensures { numbers.new ≡ column at nodes (block_start at numbers.old) numbers.old }
 {
     let mut sum: u32 = 0;
-    let mut i = 0;
-    while i < nodes {
+    for i in 0..nodes {
         let count = numbers[at + 1 + 6 * i];
         numbers[at + 6 * i] = start_of(sum, count);
         sum += count;
-        i += 1;
     }
 }
 
@@ -65,12 +63,9 @@ pub fn write_six(numbers: &mut [u32], at: usize, children: usize, start: usize, 
     requires size_bound { size ≤ 4096 }
     ensures { numbers.new ≡ sets numbers.old at (0 ∷ children ∷ start ∷ size ∷ 0 ∷ 0 ∷ []) }
 {
-    numbers[at] = 0;
-    numbers[at + 1] = children as u32;
-    numbers[at + 2] = start as u32;
-    numbers[at + 3] = size as u32;
-    numbers[at + 4] = 0;
-    numbers[at + 5] = 0;
+    let six = [0, children as u32, start as u32, size as u32, 0, 0];
+    let end = at + 6;
+    numbers[at..end].copy_from_slice(&six);
 }
 
 // Copies `source` to the place `at` of the numbers.
@@ -78,9 +73,6 @@ pub fn copy_to(numbers: &mut [u32], at: usize, source: &[u32])
     requires { at + length source.now ≤ length numbers.old }
     ensures { numbers.new ≡ sets numbers.old at source.now }
 {
-    let mut k = 0;
-    while k < source.len() {
-        numbers[at + k] = source[k];
-        k += 1;
-    }
+    let end = at + source.len();
+    numbers[at..end].copy_from_slice(source);
 }

@@ -5,19 +5,6 @@ use lib.Arith.{lt_of_le-ne}
 use Rattle.build_tree.proofs.Building.{loop_begins, loop_lent, loop_waits, loop_step, loop_whole, loop_overfull}
 use Rattle.build_tree.proofs.build_tree.Goals as goal
 
-pub order_at-requires : goal.order_at-requires
-order_at-requires c = c.requires.limits
-
-pub begin-requires : goal.begin-requires
-begin-requires c =
-    let p = c.requires in
-    let v = p.limits.vectors_high in
-    record {
-      n_in_bounds = omega (arith, c.order_at.ensures, p.held, p.numbers_room);
-      le_n = p.some;
-      n_bound = omega (arith, v, p.held);
-    }
-
 pub loop-done-init : goal.loop-done-init
 loop-done-init c = (omega arith, loop_begins c.requires c.order_at.ensures c.begin.ensures)
 
@@ -32,11 +19,6 @@ make_node-done-requires c =
       tree_lent = loop_lent c.requires c.order_at.ensures c.begin.ensures c.loop-done.invariant.1;
       waits = loop_waits c.requires c.order_at.ensures c.begin.ensures c.loop-done.invariant.1 c.loop-done-test.true more;
     }
-
-pub loop-done-smaller : goal.loop-done-smaller
-loop-done-smaller c =
-    let more : c.loop-done.made < c.args.shape.nodes = lt_of_le-ne c.loop-done.invariant.0 c.if-made-shape.false in
-    omega arith
 
 pub loop-done-preserved : goal.loop-done-preserved
 loop-done-preserved c =

@@ -15,5 +15,5 @@ returns-then-number-k c = λ v centres e is.
     nearest_from_turn v centres p.number p.best.number p.best.least _ c.closer.result.number c.closer.result.least below (is below)
     c.closer.ensures.number_value c.closer.ensures.least_value
 
-pub returns : goal.returns
-returns c = λ v centres e is. none-there v centres c.args.number c.args.best (omega (arith, c.if-number-k.false))
+pub returns-else-number-k : goal.returns-else-number-k
+returns-else-number-k c = λ v centres e is. none-there v centres c.args.number c.args.best (omega (arith, c.if-number-k.false))

@@ -24,14 +24,14 @@ copy-requires c =
     let centre = row-end c.args.dimension i c.args.k c.loop-i-test.true in
     record {
       dimension_bound = omega (arith, vector);
-      dimension_in_bounds = omega (arith, centre, c.requires.behind_vectors.within, c.loop-i.invariant.same);
+      dimension_in_bounds = omega (arith, centre, c.requires.behind_vectors.within, c.loop-i.auto.floats);
     }
 
 pub loop-i-preserved : goal.loop-i-preserved
 loop-i-preserved c =
     let i = c.loop-i.i in
     let there = step-below (length c.args.ids.now) c.args.k i c.requires.le_k c.requires.k_in_bounds c.loop-i-test.true in
-    first_turn _ _ _ _ _ _ c.requires.behind_vectors _ _ _ c.loop-i.invariant c.loop-i-test.true there c.copy.ensures
+    first_turn _ _ _ _ _ _ c.requires.behind_vectors _ _ _ c.loop-i.invariant c.loop-i.auto.floats c.loop-i-test.true there c.copy.ensures
 
 pub returns : goal.returns
 returns c =

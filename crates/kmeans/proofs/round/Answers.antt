@@ -1,8 +1,5 @@
 -- `round` meets its contract: the marks that `assign` writes are those by which `recentre_by_marks` recentres, and it leaves the work list.
-use mathlib.Core.Path.{refl, ◌∙◌}
 use native.Mathlib.Omega.{arith}
-use lib.ListN.{length}
-use Rattle.lists.specs.Parts.{lent_is}
 use Rattle.kmeans.proofs.Centring.{assigned_stand, assigned_alike}
 use Rattle.kmeans.proofs.round.Goals as goal
 
@@ -21,15 +18,11 @@ pub recentre_by_marks-requires : goal.recentre_by_marks-requires
 recentre_by_marks-requires c =
     let p = c.args in
     let pre = c.requires in
-    let n = length p.ids.now in
-    let work = c.assign.new.work in
-    let stand =
-    assigned_stand p.floats.now p.ids.now p.work.now work p.dimension p.count p.centres_at p.k c.assign.ensures pre.ids_in_bounds in
     record {
       behind_vectors = pre.behind_vectors;
       le_k = pre.le_k;
       k_bound = pre.k_bound;
-      marks_value = lent_is work 0 n 0 n refl (omega arith) ∙ stand;
+      marks_value = assigned_stand p.floats.now p.ids.now p.work.now c.assign.new.work p.dimension p.count p.centres_at p.k c.assign.ensures pre.ids_in_bounds;
     }
 
 pub returns : goal.returns

@@ -1,17 +1,12 @@
 use mathlib.Core.Path.{refl, sym, ◌∙◌}
 use native.Mathlib.Omega.{arith}
 use lib.ListN.{length}
-use lib.Ieee.{of_bits, nan_bits}
 use Rattle.cluster.specs.Clusters.{nearest}
 use Rattle.nearest_centre.proofs.Choice.{four_turn, four-within}
 use Rattle.nearest_centre.proofs.nearest_centre.Goals as goal
 
-pub float_from_bits-best : goal.float_from_bits-best
-unfolding nan_bits
-float_from_bits-best c = tt
-
 pub loop-c-init : goal.loop-c-init
-unfolding nearest of_bits
+unfolding nearest
 loop-c-init c = (omega arith, refl)
 
 pub closer_of_four-best-requires : goal.closer_of_four-best-requires
@@ -29,12 +24,6 @@ loop-c-preserved c =
       four_turn p.floats.now p.vector.now p.centres_at p.k p.dimension _ l.c l.best.number c.closer_of_four-best.result.number l.best.least
           c.closer_of_four-best.result.least l.invariant.1 (omega arith) c.closer_of_four-best.ensures,
     )
-
-pub nearest_from-requires : goal.nearest_from-requires
-nearest_from-requires c = record {
-  dimension_in_bounds = c.requires;
-  first_le_k = omega arith;
-}
 
 pub returns : goal.returns
 returns c = c.nearest_from.ensures ∙ sym c.loop-c.invariant.1

@@ -1,5 +1,4 @@
 -- `nearest_from` meets its contract. Invariant: what is to be chosen is what the centres from c on leave of the choice so far.
-use Prim.Native.Nat.{◌-◌, ◌≤◌}
 use mathlib.Core.Path.{◌≡◌}
 use lib.ListN.{drop}
 use Rattle.cluster.specs.Clusters.{nearest_from}
@@ -8,9 +7,5 @@ use Rattle.nearest_centre.proofs.nearest_from.Given as goal
 
 abbrev pub invariant-loop-c : goal.invariant-loop-c
 invariant-loop-c l =
-    (l.c ≤ l.k)
-    × (nearest_from l.vector l.first l.initial.best.number l.initial.best.least (drop l.first (vectors_from l.dimension l.k l.centres_at l.floats))
-    ≡ nearest_from l.vector l.c l.best.number l.best.least (drop l.c (vectors_from l.dimension l.k l.centres_at l.floats)))
-
-abbrev pub decreases-loop-c : goal.decreases-loop-c
-decreases-loop-c l = l.k - l.c
+    nearest_from l.vector l.first l.initial.best.number l.initial.best.least (drop l.first (vectors_from l.dimension l.k l.centres_at l.floats))
+    ≡ nearest_from l.vector l.c l.best.number l.best.least (drop l.c (vectors_from l.dimension l.k l.centres_at l.floats))

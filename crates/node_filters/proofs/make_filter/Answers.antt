@@ -1,15 +1,13 @@
 -- The filter is cleared, the hashes of the node's entries inserted, and the filters of its children, which stand after it, added. The two blocks are
 -- known before anything is written. Assumes nothing.
 use Prim.Native.Nat.{ℕ, ◌+◌, ◌-◌, ◌*◌, ◌<◌, ◌≤◌}
-use mathlib.Core.Path.{◌≡◌, refl, ap, ◌∙◌}
-use mathlib.Core.List.{List, ◌++◌}
+use mathlib.Core.Path.{◌≡◌, refl}
+use mathlib.Core.List.{List}
 use native.Mathlib.Omega.{arith}
 use lib.ListN.{length, get_or, drop, take}
-use lib.Seq.{length-sets}
 use Rattle.lists.specs.Parts.{lent_is, part_element}
 use Rattle.node_filters.specs.Filters.{entry_block, child_block}
-use Rattle.node_filters.proofs.Filtering.{lent-four, filter-made}
-use Rattle.bloom.specs.Filter.{empty_filter}
+use Rattle.node_filters.proofs.Filtering.{filter-made}
 use Rattle.node_filters.proofs.make_filter.Goals.{After-block_ends-children}
 use Rattle.node_filters.proofs.make_filter.Goals as goal
 
@@ -21,16 +19,16 @@ abbrev filterAt : Blocks → ℕ
 filterAt b = b.args.places.filters + 4 * b.args.node
 
 abbrev entries : Blocks → List ℕ
-entries b = let r = b.block_ends-entries.result in take (r.to - r.from) (drop r.from b.args.numbers.now)
+entries b = let r = b.block_ends-entries.result in take (r.end - r.start) (drop r.start b.args.numbers.now)
 
 abbrev children : Blocks → List ℕ
-children b = let r = b.block_ends-children.result in take (r.to - r.from) (drop r.from b.args.numbers.now)
+children b = let r = b.block_ends-children.result in take (r.end - r.start) (drop r.start b.args.numbers.now)
 
 entries-are : (b : Blocks) → entries b ≡ entry_block b.args.places b.args.numbers.now b.args.node
-entries-are b = let r = b.block_ends-entries in lent_is b.args.numbers.now r.result.from r.result.to _ _ r.ensures.from_value r.ensures.to_value
+entries-are b = let r = b.block_ends-entries in lent_is b.args.numbers.now r.result.start r.result.end _ _ r.ensures.from_value r.ensures.to_value
 
 children-are : (b : Blocks) → children b ≡ child_block b.args.places b.args.numbers.now b.args.node
-children-are b = let r = b.block_ends-children in lent_is b.args.numbers.now r.result.from r.result.to _ _ r.ensures.from_value r.ensures.to_value
+children-are b = let r = b.block_ends-children in lent_is b.args.numbers.now r.result.start r.result.end _ _ r.ensures.from_value r.ensures.to_value
 
 -- the hashes of the node's entries stand before the filters
 entry : (b : Blocks) (k : ℕ) → k < length (entries b) → get_or (entries b) k 0 < filterAt b
@@ -55,33 +53,6 @@ within b = omega (arith, b.requires.nodes_bound, b.requires.node_lt_nodes)
 
 below : (b : Blocks) (k : ℕ) → k < length (children b) → b.args.places.filters + 4 * get_or (children b) k 0 + 4 ≤ length b.args.hashes.now
 below b k h = omega (arith, (child b k h).1, b.requires.nodes_bound)
-
--- the cleared filter, as long as before
-cleared : (b : Blocks) (filter : List ℕ) → filter ≡ empty_filter
-    → length (take (filterAt b) b.args.hashes.now ++ (filter ++ drop (filterAt b + 4 - filterAt b) (drop (filterAt b) b.args.hashes.now))) ≡ length b.args.hashes.now
-cleared b filter e =
-    let h = b.args.hashes.now in
-    ap (λ (r : List ℕ). length r) (lent-four h (filterAt b) filter (within b) (ap (λ (r : List ℕ). length r) e))
-    ∙ length-sets h (filterAt b) filter
-
-pub insert_hashes-requires : goal.insert_hashes-requires
-insert_hashes-requires c =
-    let b = (goal.at.insert_hashes-requires c).After-block_ends-children in
-    record {
-      at_bound = omega (arith, within b, cleared b c.clear.new.filter c.clear.ensures);
-      by_index = entry b;
-    }
-
-pub unite_children-requires : goal.unite_children-requires
-unite_children-requires c =
-    let b = (goal.at.unite_children-requires c).After-block_ends-children in
-    let same = c.insert_hashes.auto.hashes in
-    let long = cleared b c.clear.new.filter c.clear.ensures in
-    record {
-      at_bound = omega (arith, within b, long, same);
-      by_index = above b;
-      by_index_2 = λ k h. omega (arith, below b k h, long, same);
-    }
 
 pub returns : goal.returns
 returns c =

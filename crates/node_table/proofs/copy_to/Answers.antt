@@ -1,12 +1,9 @@
-use mathlib.Core.Path.{refl}
-use Rattle.lists.specs.Writes.{writing_none, writing_next, writing_all}
+-- The part that was lent came back as the source.
+use Prim.Native.Nat.{◌+◌}
+use native.Mathlib.Omega.{arith}
+use lib.ListN.{length}
+use Rattle.lists.specs.Parts.{lent-part}
 use Rattle.node_table.proofs.copy_to.Goals as goal
 
-pub loop-k-init : goal.loop-k-init
-loop-k-init c = writing_none _ _ _ _ refl
-
-pub loop-k-preserved : goal.loop-k-preserved
-loop-k-preserved c = writing_next 0 c.loop-k.invariant c.loop-k-test.true refl
-
 pub returns : goal.returns
-returns c = writing_all c.loop-k.invariant c.loop-k-test.false
+returns c = rw c.copy_from_slice.ensures.after (lent-part _ _ (c.args.at + length c.args.source.now) _ (omega arith) (omega arith) (omega arith))

@@ -1,8 +1,7 @@
-use Prim.Native.Nat.{ℕ, ◌+◌, ◌*◌}
-use mathlib.Core.Path.{◌≡◌, refl, sym, ap, ap₂, ◌∙◌}
+use Prim.Native.Nat.{ℕ, ◌+◌}
+use mathlib.Core.Path.{◌≡◌, sym, ap, ap₂, ◌∙◌}
 use mathlib.Core.List.{List}
 use native.Mathlib.Omega.{arith}
-use lib.ListN.{length-set}
 use Rattle.node_table.specs.Table.{cell_at, cell, column, start_at, block_start}
 use Rattle.node_table.specs.TableLaws.{written_next, written_none, get_d_written_other, sum_to-next, sum_to-suc, sum-none}
 use Rattle.node_table.proofs.set_starts.Goals as goal
@@ -16,12 +15,12 @@ pub overflow_add-sum : goal.overflow_add-sum
 overflow_add-sum c =
     let at-loop = c.loop-i in
     let args = c.args in
-    let e = count_kept args.at at-loop.i args.numbers.now at-loop.numbers at-loop.invariant.2 in
+    let e = count_kept args.at at-loop.i args.numbers.now at-loop.numbers at-loop.invariant.0 in
     let b = sum_to-next (cell (args.at + 1) args.numbers.now) at-loop.i args.nodes c.loop-i-test.true in
     omega arith
 
 pub loop-i-init : goal.loop-i-init
-loop-i-init c = (omega arith, refl, sym (written_none (cell_at c.args.at) (block_start c.args.at c.args.numbers.now) c.args.numbers.now), sum-none (cell (c.args.at + 1) c.args.numbers.now))
+loop-i-init c = (sym (written_none (cell_at c.args.at) (block_start c.args.at c.args.numbers.now) c.args.numbers.now), sum-none (cell (c.args.at + 1) c.args.numbers.now))
 
 pub loop-i-preserved : goal.loop-i-preserved
 unfolding block_start
@@ -30,17 +29,8 @@ loop-i-preserved c =
     let args = c.args in
     let i = at-loop.i in
     let l = args.numbers.now in
-    let e = count_kept args.at i l at-loop.numbers at-loop.invariant.2 in (
-      omega arith,
-      length-set at-loop.numbers (args.at + 6 * i) c.start_of.result ∙ at-loop.invariant.1,
-      written_next (cell_at args.at) (block_start args.at l) l i c.start_of.result at-loop.numbers at-loop.invariant.2
-          (c.start_of.ensures ∙ ap₂ start_at at-loop.invariant.3 e),
-      ap₂ (λ (a b : ℕ). a + b) at-loop.invariant.3 e ∙ sym (sum_to-suc (cell (args.at + 1) l) i),
+    let e = count_kept args.at i l at-loop.numbers at-loop.invariant.0 in (
+      written_next (cell_at args.at) (block_start args.at l) l i c.start_of.result at-loop.numbers at-loop.invariant.0
+          (c.start_of.ensures ∙ ap₂ start_at at-loop.invariant.1 e),
+      ap₂ (λ (a b : ℕ). a + b) at-loop.invariant.1 e ∙ sym (sum_to-suc (cell (args.at + 1) l) i),
     )
-
-pub returns : goal.returns
-returns c =
-    let at-loop = c.loop-i in
-    let args = c.args in
-    let e : at-loop.i ≡ args.nodes = omega arith in
-    at-loop.invariant.2 ∙ ap (λ (k : ℕ). column args.at k (block_start args.at args.numbers.now) args.numbers.now) e

@@ -1,5 +1,5 @@
 -- `lanes::sums_of` meets its contract. Invariant: what each lane is to be is what is due of its column from component i on, begun at the sum so far.
-use Prim.Native.Nat.{ℕ, ◌+◌, ◌-◌, ◌<◌}
+use Prim.Native.Nat.{ℕ, ◌+◌, ◌<◌}
 use mathlib.Core.Path.{◌≡◌}
 use lib.ListN.{length, get_or, drop}
 use lib.Ieee.{nan}
@@ -11,6 +11,3 @@ abbrev pub invariant-loop-i : goal.invariant-loop-i
 invariant-loop-i l =
     (k : ℕ) → k < 16
     → dot l.vector (column (length l.vector) l.blocks (l.at + k)) ≡ dot_from (get_or (lanes l.sums) k nan) (drop l.i l.vector) (drop l.i (column (length l.vector) l.blocks (l.at + k)))
-
-abbrev pub decreases-loop-i : goal.decreases-loop-i
-decreases-loop-i l = length l.vector - l.i

@@ -1,16 +1,10 @@
 -- `layout::lay_out` meets its contract. Invariant: the columns of the first c centres are the centres.
-use Prim.Native.Nat.{ℕ, ◌+◌, ◌-◌, ◌*◌, ◌≤◌, ◌<◌}
+use Prim.Native.Nat.{ℕ, ◌+◌, ◌*◌, ◌<◌}
 use mathlib.Core.Path.{◌≡◌}
-use lib.ListN.{length}
 use Rattle.lists.specs.Lists.{part}
 use Rattle.centre_blocks.specs.Blocks.{column, column_at}
 use Rattle.centre_blocks.proofs.layout.lay_out.Given as goal
 
 abbrev pub invariant-loop-c : goal.invariant-loop-c
 invariant-loop-c l =
-    (l.c ≤ l.k)
-    × (length l.blocks ≡ length l.initial.blocks)
-    × ((j : ℕ) → j < l.c → column l.dimension l.blocks (column_at l.dimension j) ≡ part (l.centres_at + j * l.dimension) l.dimension l.floats)
-
-abbrev pub decreases-loop-c : goal.decreases-loop-c
-decreases-loop-c l = l.k - l.c
+    (j : ℕ) → j < l.c → column l.dimension l.blocks (column_at l.dimension j) ≡ part (l.centres_at + j * l.dimension) l.dimension l.floats

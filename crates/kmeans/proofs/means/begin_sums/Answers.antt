@@ -6,6 +6,7 @@ use Rattle.kmeans.specs.Means.{begun}
 use Rattle.kmeans.proofs.Centring.{centres-none, writing_end}
 use Rattle.kmeans.proofs.Averaging.{length-each_centre, each_turn, each_kept, counted, not_counted}
 use Rattle.kmeans.proofs.means.begin_sums.Goals as goal
+use Rattle.kmeans.proofs.means.begin_sums.Goals.{then-counts-j-gt0, else-counts-j-gt0}
 
 pub loop-j-init : goal.loop-j-init
 loop-j-init c =
@@ -16,21 +17,22 @@ pub zero-requires : goal.zero-requires
 zero-requires c =
     -- the centre of a turn is within the floats
     let end = row-end c.args.dimension c.loop-j.j c.args.k c.loop-j-test.true in
-    omega (arith, c.requires.dimension_in_bounds, c.loop-j.invariant.same)
-
-pub loop-j-preserved-then-counts-j-gt0 : goal.loop-j-preserved-then-counts-j-gt0
-loop-j-preserved-then-counts-j-gt0 c =
-    let p = c.args in
-    let l = c.loop-j in
-    each_turn p.dimension p.k p.centres_at p.floats.now (begun p.dimension p.counts.now) c.requires.dimension_in_bounds l.floats c.zero.new.floats l.j (replicate p.dimension zero32) l.invariant c.loop-j-test.true
-    c.zero.ensures (counted (get_or p.counts.now l.j 0) _ _ c.if-counts-j-gt0.true) (length-replicate p.dimension zero32)
+    omega (arith, c.requires.dimension_in_bounds, c.loop-j.auto.floats)
 
 pub loop-j-preserved : goal.loop-j-preserved
 loop-j-preserved c =
     let p = c.args in
     let l = c.loop-j in
-    each_kept p.dimension p.k p.centres_at p.floats.now (begun p.dimension p.counts.now) c.requires.dimension_in_bounds l.floats l.j l.invariant c.loop-j-test.true
-    (not_counted (get_or p.counts.now l.j 0) _ _ c.if-counts-j-gt0.false)
+    elim c.if-counts-j-gt0.branch [
+      | then-counts-j-gt0 w ↦
+          rw w.floats-is
+          (each_turn p.dimension p.k p.centres_at p.floats.now (begun p.dimension p.counts.now) c.requires.dimension_in_bounds l.floats w.zero.new.floats l.j (replicate p.dimension zero32) l.invariant l.auto.floats c.loop-j-test.true
+          w.zero.ensures (counted (get_or p.counts.now l.j 0) _ _ w.if-counts-j-gt0.true) (length-replicate p.dimension zero32))
+      | else-counts-j-gt0 w ↦
+          rw w.floats-is
+          (each_kept p.dimension p.k p.centres_at p.floats.now (begun p.dimension p.counts.now) c.requires.dimension_in_bounds l.floats l.j l.invariant l.auto.floats c.loop-j-test.true
+          (not_counted (get_or p.counts.now l.j 0) _ _ w.if-counts-j-gt0.false))
+    ]
 
 pub returns : goal.returns
 returns c =

@@ -1,5 +1,4 @@
 -- `means::begin_sums` meets its contract. Invariant: `WritingCentres`, the first j centres are written.
-use Prim.Native.Nat.{◌-◌}
 use Rattle.cluster.specs.Vectors.{vectors_from}
 use Rattle.kmeans.specs.Means.{each_centre, begun}
 use Rattle.kmeans.proofs.Centring.{WritingCentres}
@@ -8,6 +7,3 @@ use Rattle.kmeans.proofs.means.begin_sums.Given as goal
 abbrev pub invariant-loop-j : goal.invariant-loop-j
 invariant-loop-j l =
     WritingCentres l.dimension l.k l.centres_at l.initial.floats (each_centre l.k (begun l.dimension l.counts) (vectors_from l.dimension l.k l.centres_at l.initial.floats)) l.floats l.j
-
-abbrev pub decreases-loop-j : goal.decreases-loop-j
-decreases-loop-j l = l.k - l.j

@@ -1,11 +1,9 @@
--- `part::divide` meets its contract. Invariant: the first i components are quotients, and the rest is as it was.
-use Prim.Native.Nat.{◌-◌}
-use Rattle.lists.specs.Writes.{Writing}
-use Rattle.mean.proofs.Components.{quotients}
+-- Invariant: the first components of the part are quotients.
+use mathlib.Core.Path.{◌≡◌}
+use mathlib.Core.List.{map, ◌++◌}
+use lib.ListN.{take, drop}
+use lib.Ieee.{binary32, div}
 use Rattle.mean.proofs.part.divide.Given as goal
 
-abbrev pub invariant-loop-i : goal.invariant-loop-i
-invariant-loop-i l = Writing l.initial.floats l.to l.dimension (quotients l.initial.floats l.to l.dimension l.by) l.floats l.i
-
-abbrev pub decreases-loop-i : goal.decreases-loop-i
-decreases-loop-i l = l.dimension - l.i
+abbrev pub invariant-loop-x : goal.invariant-loop-x
+invariant-loop-x l = l.x-items ≡ map (λ x. div binary32 x l.by) (take l.x-index l.initial.x-items) ++ drop l.x-index l.initial.x-items

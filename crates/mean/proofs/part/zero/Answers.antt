@@ -1,16 +1,18 @@
-use mathlib.Core.Path.{sym}
-use lib.ListN.{length-replicate, get_or-replicate}
-use lib.Ieee.{nan}
+-- The part that was lent came back as zeros.
+use Prim.Native.Nat.{◌+◌}
+use mathlib.Core.Path.{◌≡◌, ap, ◌∙◌}
+use native.Mathlib.Omega.{arith}
+use lib.ListN.{length, replicate, length-replicate}
 use Rattle.vector.specs.Vector.{zero32}
-use Rattle.lists.specs.Writes.{writing_none, writing_next, writing_all}
+use Rattle.lists.specs.Parts.{length_part, lent-run, lent-part}
 use Rattle.mean.proofs.part.zero.Goals as goal
 
-pub loop-i-init : goal.loop-i-init
-loop-i-init c = writing_none _ _ _ _ (length-replicate c.args.dimension zero32)
-
-pub loop-i-preserved : goal.loop-i-preserved
-unfolding zero32
-loop-i-preserved c = writing_next nan c.loop-i.invariant c.loop-i-test.true (sym (get_or-replicate _ _ zero32 nan c.loop-i-test.true))
-
 pub returns : goal.returns
-returns c = writing_all c.loop-i.invariant c.loop-i-test.false
+unfolding zero32
+returns c =
+    let p = c.args in
+    let l = p.floats.now in
+    let size = ap length (lent-run p.to p.dimension l) ∙ length_part p.to p.dimension l c.requires in
+    let due : c.fill.new.self ≡ replicate p.dimension zero32 =
+    c.fill.ensures.after (λ y e. e) ∙ ap (λ n. replicate n zero32) size in
+    rw due (lent-part l p.to (p.to + p.dimension) (replicate p.dimension zero32) (omega arith) c.requires (omega (arith, length-replicate p.dimension zero32)))
