@@ -16,6 +16,7 @@ use Rattle.store.specs.Store.{Limits, hits_at, work_size}
 use Rattle.store.specs.declared.Counts.{Counts}
 use Rattle.walk.specs.Walk.{View, Progress, State, damaged, going, walk}
 use Rattle.walk.proofs.WalkLaws.{found-most}
+use Rattle.std.specs.Prelude.{Ok, Err}
 use Rattle.walk.specs.Answer.{document_of, distance_of, drop_repeats, listed, ranked, answer}
 use Rattle.walk.proofs.AnswerLaws.{ranked-is}
 use Rattle.lists.specs.Tests.{all_pass}
@@ -27,18 +28,16 @@ use Rattle.best_first_walk.specs.Walks.{hits_part, found_in, found_at, found_par
 use Rattle.best_first_walk.specs.WalksLaws.{few-hits}
 use Rattle.best_first_search.specs.Ranks.{FirstHits, Firsts}
 use Rattle.best_first_search.proofs.Struck.{listed-is}
-use Rattle.best_first_walk.specs.declared.Walked.TheVariants as walked
-use Rattle.walk.specs.declared.Searched.TheVariants as searched
 
 module _ (s : Shape) (c : Counts) (hit : ℕ → ℕ) where
-  pub damaged-search : (st : State) (test : ℕ → Bool) (k : ℕ) (work ids : List ℕ) (distances : List Float) → WalkEnds s c hit st walked.Damaged work
-      → SearchEnds st test k searched.Damaged ids ids distances distances
+  pub damaged-search : (st : State) (test : ℕ → Bool) (k : ℕ) (work ids : List ℕ) (distances : List Float) → WalkEnds s c hit st (Err (record {})) work
+      → SearchEnds st test k (Err (record {})) ids ids distances distances
   damaged-search damaged test k work ids distances w = record { is = refl; ids_kept = refl; distances_kept = refl }
   damaged-search (going p) test k work ids distances w = absurd w
 
   answered : (p : Progress) (test : ℕ → Bool) (k found opened : ℕ) (complete : Bool) (work ids ids' : List ℕ) (distances distances' : List Float) (r : ℕ)
       → EndsAs s c hit p found opened complete work → Firsts test (map hit (take found (found_part s work))) k ids distances r ids' distances'
-      → Answers (answer test k p) (searched.Found r opened complete) ids ids' distances distances'
+      → Answers (answer test k p) (Ok (record { hits = r; opened = opened; whole = complete })) ids ids' distances distances'
   unfolding answer
   answered p test k found opened complete work ids ids' distances distances' r e q =
       let hits : List ℕ = map hit (take found (found_part s work)) in
@@ -52,15 +51,15 @@ module _ (s : Shape) (c : Counts) (hit : ℕ → ℕ) where
       }
 
   pub ended-search : (st : State) (test : ℕ → Bool) (k found opened : ℕ) (complete : Bool) (work ids ids' : List ℕ) (distances distances' : List Float) (r : ℕ)
-      → WalkEnds s c hit st (walked.Ended found opened complete) work → Firsts test (map hit (take found (found_part s work))) k ids distances r ids' distances'
-      → SearchEnds st test k (searched.Found r opened complete) ids ids' distances distances'
+      → WalkEnds s c hit st (Ok (record { hits = found; opened = opened; whole = complete })) work → Firsts test (map hit (take found (found_part s work))) k ids distances r ids' distances'
+      → SearchEnds st test k (Ok (record { hits = r; opened = opened; whole = complete })) ids ids' distances distances'
   ended-search damaged test k found opened complete work ids ids' distances distances' r w q = absurd w
   ended-search (going p) test k found opened complete work ids ids' distances distances' r w q =
       answered p test k found opened complete work ids ids' distances distances' r w q
 
   -- the vectors that a walk found
   ended-few : (view : View) (ef : ℕ) (st : State) (found opened : ℕ) (complete : Bool) (work : List ℕ) → walk view ef ≡ st
-      → WalkEnds s c hit st (walked.Ended found opened complete) work
+      → WalkEnds s c hit st (Ok (record { hits = found; opened = opened; whole = complete })) work
       → (found ≤ view.most) × (all_pass (λ x. ltb x c.vectors) (take found (found_part s work)) ≡ true)
   ended-few view ef damaged found opened complete work e w = absurd w
   ended-few view ef (going p) found opened complete work e w =
@@ -74,7 +73,7 @@ module _ (s : Shape) (c : Counts) (hit : ℕ → ℕ) where
 
   module _ (wanted : Sought) (view : View) (ef k found opened : ℕ) (complete : Bool) (work heap : List ℕ) (from : ℕ) (limits : Limits s) (most : view.most ≡ Wanted.most wanted c)
       (v : c.vectors ≤ s.vectors) (e : c.entries ≤ s.entries) (size : work_size s ≤ length work) (is : heap ≡ hits_part s work) (at : from ≡ found_in s)
-      (w : WalkEnds s c hit (walk view ef) (walked.Ended found opened complete) work) where
+      (w : WalkEnds s c hit (walk view ef) (Ok (record { hits = found; opened = opened; whole = complete })) work) where
     few : found ≤ max s.vectors s.entries
     few = omega (arith, (ended-few view ef (walk view ef) found opened complete work refl w).0, most, few-hits s c wanted v e)
 

@@ -1,7 +1,9 @@
 -- Hits that are struck. Where one document more is asked for than k for each hit that fails a test, the first k that pass are those of all: the front that is
 -- asked for has at least k that pass, or it is all there is. Repeats dropped, no more fail than did before, and of the hits found as many fail as vectors are
 -- withdrawn. Assumes nothing.
-use Prim.Native.Nat.{ℕ, ◌+◌, ◌^◌, ◌≤◌, ◌<◌}
+use Prim.Native.Nat.{ℕ, ◌+◌, ◌-◌, ◌^◌, ◌≤◌, ◌<◌}
+use native.Mathlib.Numerals.{add-one}
+use mir.Val.{bool_byte}
 use native.Mathlib.Omega.{arith}
 use mathlib.Core.Path.{◌≡◌, refl, sym, ap, ◌∙◌, subst}
 use mathlib.Core.Logic.{◌⊎◌, inl, inr}
@@ -10,11 +12,10 @@ use mathlib.Core.List.{List, [], ◌∷◌, ◌++◌, map, Memᴰ}
 use lib.Dec.{ltb}
 use lib.Ieee.{Float}
 use lib.ListN.{length, get_or, take, drop, length-append, length-take, length-map, take-append-drop}
-use lib.Seq.{length-take-le, take_all, take-append-le}
+use lib.Seq.{length-take-le, take-suc, take_all, take-append-le}
 use borrow.Author.Tests.{ltb-true}
 use Rattle.lists.specs.Lists.{part, keep}
-use Rattle.lists.specs.Tests.{all_pass-Memᴰ}
-use Rattle.lists.specs.Parts.{length_part, get_d_part, part-zero, part-one, part-append-parts}
+use Rattle.lists.specs.Tests.{all_pass, all_pass-Memᴰ}
 use Rattle.lists.specs.Counting.{get_d_Memᴰ, keep-nil, keep-pass, keep_fail, keep_append, keep_congr, keep-map, length-keep_not}
 use Rattle.record_queue.specs.Sorted.{sort}
 use Rattle.record_queue.specs.SortedLaws.{le_or_lt, sort-keep, length-sort}
@@ -111,40 +112,45 @@ struck-are marks numbers hit at =
 -- ---- counting them
 
 -- each number has a mark
-pub number-marked : (marks list : List ℕ) (from found j : ℕ) → CountWithdrawn marks list from found → j < found → get_or list (from + j) 0 < length marks
-number-marked marks list from found j w less =
-    let numbers : List ℕ = part from found list in
-    ltb-true (get_or list (from + j) 0) (length marks)
-    (ap (λ (x : ℕ). ltb x (length marks)) (sym (get_d_part from found list j 0 less))
-    ∙ all_pass-Memᴰ (λ x. ltb x (length marks)) numbers w.held (get_or numbers j 0)
-    (get_d_Memᴰ numbers j 0 (subst (λ (n : ℕ). j < n) (sym (length_part from found list w.inside)) less)))
+pub number-marked : (marks list numbers : List ℕ) (from found j : ℕ) → CountWithdrawn marks list from found → numbers ≡ part from found list → j < length numbers
+    → get_or numbers j 0 < length marks
+number-marked marks list numbers from found j w is less =
+    ltb-true (get_or numbers j 0) (length marks)
+    (all_pass-Memᴰ (λ x. ltb x (length marks)) numbers (ap (all_pass (λ x. ltb x (length marks))) is ∙ w.held) (get_or numbers j 0) (get_d_Memᴰ numbers j 0 less))
+
+-- the numbers as a loop over them reads them
+abbrev pub counted_part : ℕ → ℕ → List ℕ → List ℕ
+counted_part from found list = take (from + found - from) (drop from list)
 
 -- so many of the first j numbers pass
-pub record Passed (p : ℕ → Bool) (list : List ℕ) (from found count j : ℕ) : Type 0 where
-  pub most : j ≤ found
+pub record Passed (p : ℕ → Bool) (numbers : List ℕ) (count j : ℕ) : Type 0 where
   pub few : count ≤ j
-  pub counted : count ≡ length (keep p (part from j list))
+  pub counted : count ≡ length (keep p (take j numbers))
 
-module _ (p : ℕ → Bool) (list : List ℕ) (from found : ℕ) where
-  pub passed_start : Passed p list from found 0 0
-  passed_start = record { most = omega arith; few = omega arith; counted = sym (ap (λ (l : List ℕ). length (keep p l)) (part-zero from list) ∙ ap length (keep-nil p)) }
+module _ (p : ℕ → Bool) (numbers : List ℕ) where
+  pub passed_start : Passed p numbers 0 0
+  passed_start = record { few = omega arith; counted = sym (ap length (keep-nil p)) }
 
-  module _ (count j : ℕ) (inside : from + found ≤ length list) (less : j < found) (c : Passed p list from found count j) where
+  module _ (count j : ℕ) (less : j < length numbers) (c : Passed p numbers count j) where
     abbrev next : ℕ
-    next = get_or list (from + j) 0
+    next = get_or numbers j 0
 
-    more : length (keep p (part from (j + 1) list)) ≡ count + length (keep p (next ∷ []))
+    more : length (keep p (take (j + 1) numbers)) ≡ count + length (keep p (next ∷ []))
     more =
-        ap (λ (l : List ℕ). length (keep p l)) (sym (part-append-parts from j 1 list)) ∙ ap length (keep_append p (part from j list) (part (from + j) 1 list))
-        ∙ length-append (keep p (part from j list)) (keep p (part (from + j) 1 list))
-        ∙ ap (λ (l : List ℕ). length (keep p (part from j list)) + length (keep p l)) (part-one (from + j) list 0 (let t : from + j + 1 ≤ length list = omega arith in t))
+        ap (λ (n : ℕ). length (keep p (take n numbers))) (add-one j) ∙ ap (λ (l : List ℕ). length (keep p l)) (take-suc numbers j 0 less)
+        ∙ ap length (keep_append p (take j numbers) (next ∷ [])) ∙ length-append (keep p (take j numbers)) (keep p (next ∷ []))
         ∙ ap (λ (n : ℕ). n + length (keep p (next ∷ []))) (sym c.counted)
 
-    pub passed-one : p next ≡ true → Passed p list from found (count + 1) (j + 1)
-    passed-one t = record { most = omega arith; few = omega (arith, c.few); counted = omega (arith, more, ap length (keep-pass p next [] t), ap length (keep-nil p)) }
+    one : (b : Bool) → p next ≡ b → length (keep p (next ∷ [])) ≡ bool_byte b
+    one true t = ap length (keep-pass p next [] t) ∙ ap (λ (l : List ℕ). length (next ∷ l)) (keep-nil p)
+    one false f = ap length (keep_fail p next [] f) ∙ ap length (keep-nil p)
 
-    pub passed_none : p next ≡ false → Passed p list from found count (j + 1)
-    passed_none f = record { most = omega arith; few = omega (arith, c.few); counted = omega (arith, more, ap length (keep_fail p next [] f ∙ keep-nil p)) }
+    pub passed-next : Passed p numbers (count + bool_byte (p next)) (j + 1)
+    passed-next = record { few = few (p next); counted = sym (more ∙ ap (λ (n : ℕ). count + n) (one (p next) refl)) }
+      where
+        few : (b : Bool) → count + bool_byte b ≤ j + 1
+        few true = omega (arith, c.few)
+        few false = omega (arith, c.few)
 
-  pub passed-all : (count j : ℕ) → found ≤ j → Passed p list from found count j → count ≡ length (keep p (part from found list))
-  passed-all count j end c = c.counted ∙ ap (λ (n : ℕ). length (keep p (part from n list))) (let t : j ≡ found = omega (arith, end, c.most) in t)
+  pub passed-all : (count j : ℕ) → length numbers ≤ j → Passed p numbers count j → count ≡ length (keep p numbers)
+  passed-all count j end c = c.counted ∙ ap (λ (l : List ℕ). length (keep p l)) (take_all j numbers end)

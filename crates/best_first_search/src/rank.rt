@@ -9,9 +9,10 @@ ghost use Rattle.best_first_search.specs.Ranks.{PopsDocuments, KeepsFirst, Ranke
 use hit_queue::answer::take_hits;
 use hit_queue::popped::{pop_behind, queue_again};
 use hit_queue::queue::measure;
-use store::{Counts, Shape, wide};
+use store::{Counts, Shape};
 
-// What is kept of a queue: how many hits, and a key up to which there are k documents among them; the highest of all keys, if there are not.
+// What is kept of a queue: how many hits, and a key up to which there are k documents among them; the highest of all keys, if there are not. The bound is
+// a number and no `Option`: the key of each vector that is measured is compared with it.
 #[derive(Clone, Copy)]
 struct Kept {
     count: usize,
@@ -25,24 +26,16 @@ fn pop_documents(heap: &mut [u32], count: usize, k: usize) -> Kept
 {
     let mut hits = 0;
     let mut left = count;
+    // 2 ^ 32 before the first; each hit is compared with it, and an `Option` costs a second test.
     let mut last: u64 = 0x1_0000_0000;
     let mut key: u32 = 0;
-    let end: Kept;
-    loop {
-        if hits == k {
-            let kept = count - left;
-            end = Kept {
-                count: kept,
-                bound: key,
-            };
-            break;
-        }
+    // By hand: hits are popped of a queue, which keeps those that are left.
+    while hits != k {
         if left == 0 {
-            end = Kept {
+            return Kept {
                 count,
                 bound: 0xFFFF_FFFF,
             };
-            break;
         }
         let least = pop_behind(heap, left);
         left -= 1;
@@ -53,7 +46,10 @@ fn pop_documents(heap: &mut [u32], count: usize, k: usize) -> Kept
             last = document;
         }
     }
-    end
+    Kept {
+        count: count - left,
+        bound: key,
+    }
 }
 
 // Keeps of a queue its first hits, up to k documents.
@@ -98,6 +94,7 @@ fn rank(
     let mut bound: u32 = 0xFFFF_FFFF;
     let mut at = from;
     let mut left = found;
+    // By hand: each turn takes twice as many as the one before.
     while chunk < left {
         queued = measure(
             shape, counts, floats, numbers, heap, queued, query, bound, at, chunk,
@@ -119,14 +116,10 @@ fn count_withdrawn(marks: &[u32], list: &[u32], from: usize, found: usize) -> us
     requires { CountWithdrawn marks.now list.now from found }
     ensures { result ≡ length (keep (withdrawn marks.now) (part from found list.now)) }
 {
+    let end = from + found;
     let mut count = 0;
-    let mut j = 0;
-    while j < found {
-        let mark = marks[wide(list[from + j])];
-        j += 1;
-        if mark == 0 {
-            count += 1;
-        }
+    for &vector in &list[from..end] {
+        count += (marks[vector as usize] == 0) as usize;
     }
     count
 }
@@ -167,6 +160,5 @@ pub fn first_hits(
     let total = rank(
         shape, counts, floats, numbers, heap, query, from, found, documents,
     );
-    let taken = take_hits(marks, heap, total, k, ids, distances);
-    taken.hits
+    take_hits(marks, heap, total, k, ids, distances).hits
 }

@@ -29,7 +29,7 @@ use Rattle.best_first_walk.specs.MarkLaws.{works-found}
 use Rattle.best_first_walk.specs.GatherLaws.{gather_damages, gather_room, gather_adds}
 use Rattle.best_first_walk.proofs.Steps.{represents_length, popped_waits, represents_opened, represents_hits, popped_number, least-below, works_popped}
 use Rattle.walk.proofs.LentLaws.{works_refl, works_trans}
-use Rattle.best_first_walk.specs.declared.Walked.TheVariants as walked
+use Rattle.std.specs.Prelude.{Ok, Err}
 
 pub record Walking (s : Shape) (c : Counts) (hit : ℕ → ℕ) (view : View) (ef : ℕ) (work₀ : List ℕ) (p : Progress) (work : List ℕ) (waiting found opened : ℕ) : Type 0 where
   pub holds : Represents s c hit p work waiting found
@@ -154,13 +154,13 @@ module _ (s : Shape) (c : Counts) (hit : ℕ → ℕ) (view : View) (ef : ℕ) (
 
   -- ---- how the walk ends
 
-  pub ends-damaged : (work : List ℕ) → walk view ef ≡ damaged → WalkEnds s c hit (walk view ef) walked.Damaged work
-  ends-damaged work e = subst (λ (st : State). WalkEnds s c hit st walked.Damaged work) (sym e) tt
+  pub ends-damaged : (work : List ℕ) → walk view ef ≡ damaged → WalkEnds s c hit (walk view ef) (Err (record {})) work
+  ends-damaged work e = subst (λ (st : State). WalkEnds s c hit st (Err (record {})) work) (sym e) tt
 
   ended : (p : Progress) (work : List ℕ) (waiting found opened : ℕ) (complete : Bool) → Walking s c hit view ef work₀ p work waiting found opened
-      → complete ≡ whole p → walk view ef ≡ going p → WalkEnds s c hit (walk view ef) (walked.Ended found opened complete) work
+      → complete ≡ whole p → walk view ef ≡ going p → WalkEnds s c hit (walk view ef) (Ok (record { hits = found; opened = opened; whole = complete })) work
   ended p work waiting found opened complete w all e =
-      subst (λ (st : State). WalkEnds s c hit st (walked.Ended found opened complete) work) (sym e)
+      subst (λ (st : State). WalkEnds s c hit st (Ok (record { hits = found; opened = opened; whole = complete })) work) (sym e)
       (record {
         finds = w.holds.finds;
         nodes = sym w.nodes;
@@ -169,7 +169,7 @@ module _ (s : Shape) (c : Counts) (hit : ℕ → ℕ) (view : View) (ef : ℕ) (
 
   -- None waits: whole
   pub ends-whole : (work : List ℕ) (waiting found opened : ℕ) → waiting ≡ 0 → Waits s c hit view ef work₀ work waiting found opened
-      → WalkEnds s c hit (walk view ef) (walked.Ended found opened true) work
+      → WalkEnds s c hit (walk view ef) (Ok (record { hits = found; opened = opened; whole = true })) work
   ends-whole work waiting found opened z (p, w, e) =
       let nothing : p.waiting ≡ [] = empty p.waiting (represents_length s c hit p work waiting found w.holds ∙ z) in
       ended p work waiting found opened true w (sym (ap none nothing ∙ nil-waiting)) (e ∙ none_stays view (ef - opened) p nothing)
@@ -180,7 +180,7 @@ module _ (s : Shape) (c : Counts) (hit : ℕ → ℕ) (view : View) (ef : ℕ) (
 
   -- The budget is spent and one waits: cut
   pub ends_cut : (work : List ℕ) (waiting found opened : ℕ) → (waiting ≡ 0 → ⊥) → opened ≡ ef → Waits s c hit view ef work₀ work waiting found opened
-      → WalkEnds s c hit (walk view ef) (walked.Ended found opened false) work
+      → WalkEnds s c hit (walk view ef) (Ok (record { hits = found; opened = opened; whole = false })) work
   ends_cut work waiting found opened more spent (p, w, e) =
       ended p work waiting found opened false w (sym (some_left p.waiting (λ z. more (sym (represents_length s c hit p work waiting found w.holds) ∙ z))))
       (e ∙ ap (λ (n : ℕ). walk_from view n (going p)) (let t : ef - opened ≡ 0 = omega arith in t) ∙ walk-zero view (going p))

@@ -5,7 +5,7 @@ use Rattle.std.proofs.lemmas.List.{map-append, length-replicate, get_or-replicat
 use Rattle.std.proofs.lemmas.List.Edits.{sets}
 use Rattle.std.proofs.Math.Seq.{length-sets}
 use Rattle.std.proofs.lemmas.Bool.{eqb-false}
-use Rattle.lists.specs.Lists.{part, is_in}
+use Rattle.lists.specs.Lists.{is_in}
 use Rattle.lists.specs.Counting.{is_in-nil, is_in-here, is_in-later}
 use Rattle.lists.specs.Parts.{length_part, drop-take, get_d_sets_before, get_d_sets_in, part-written, part-set-before, lent-part, lent_is}
 use Rattle.lists.specs.Tests.{which, all_pass, all_pass-append}

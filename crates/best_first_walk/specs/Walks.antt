@@ -1,5 +1,5 @@
 -- The contracts of the walk: how the work list holds its progress, and how it ends.
-use Rattle.std.specs.Prelude.{ℕ, ◌+◌, ◌-◌, ◌*◌, ◌≤◌, ◌<◌, max, ◌≡◌, Bool, true, cond, List, map, ltb, Float, length, get_or, take, set, replicate}
+use Rattle.std.specs.Prelude.{ℕ, ◌+◌, ◌-◌, ◌*◌, ◌≤◌, ◌<◌, max, ◌≡◌, Bool, true, cond, List, map, ltb, Float, length, get_or, take, set, replicate, Result, Ok, Err}
 use Rattle.std.proofs.lemmas.List.Edits.{sets}
 use Rattle.lists.specs.Lists.{part, is_in}
 use Rattle.record_queue.specs.Sorted.{sort}
@@ -8,13 +8,13 @@ use Rattle.store.specs.declared.Shape.{Shape}
 use Rattle.store.specs.Lent.{store_of}
 use Rattle.store.specs.Store.{Store, CountsWithin, floats_size, work_size, marks_at, hits_at}
 use Rattle.store.specs.declared.Counts.{Counts}
-use Rattle.best_first_walk.specs.declared.Walked.{Walked}
+use Rattle.walk.specs.declared.Searched.{Searched}
+use Rattle.walk.specs.declared.Damaged.{Damaged}
 use Rattle.walk.proofs.WalkLaws.{start_progress}
 use Rattle.walk.specs.Walk.{View, Progress, State, damaged, going, walk, whole}
 use Rattle.walk.specs.Wanted.{Sought}
 use Rattle.walk.specs.StoreView.{hit_at, store_view}
 use Rattle.lists.specs.Tests.{all_pass}
-use Rattle.best_first_walk.specs.declared.Walked.TheVariants as walked
 use Rattle.walk.specs.Promises.{Works}
 
 -- the hits' part of the work list, and in it the numbers of the vectors found: behind two thirds of it, less one place, so that there is room for one
@@ -73,15 +73,15 @@ pub record EndsAs (s : Shape) (c : Counts) (hit : ℕ → ℕ) (p : Progress) (f
   pub nodes : opened ≡ length p.opened
   pub all : complete ≡ whole p
 
-abbrev pub WalkEnds : Shape → Counts → (ℕ → ℕ) → State → Walked → List ℕ → Type 0
-WalkEnds s c hit damaged walked.Damaged work = Unit {0}
-WalkEnds s c hit damaged (walked.Ended found opened complete) work = ⊥
-WalkEnds s c hit (going p) walked.Damaged work = ⊥
-WalkEnds s c hit (going p) (walked.Ended found opened complete) work = EndsAs s c hit p found opened complete work
+abbrev pub WalkEnds : Shape → Counts → (ℕ → ℕ) → State → Result Searched Damaged → List ℕ → Type 0
+WalkEnds s c hit damaged (Err _) work = Unit {0}
+WalkEnds s c hit damaged (Ok r) work = ⊥
+WalkEnds s c hit (going p) (Err _) work = ⊥
+WalkEnds s c hit (going p) (Ok r) work = EndsAs s c hit p r.hits r.opened r.whole work
 
 -- The walk is the walk of the store's view: damaged exactly where that is, and otherwise with its hits, its opened nodes, whole or cut
 pub record Walks (s : Shape) (c : Counts) (ef : ℕ) (store : Store) (query : List Float) (wanted : Sought)
-    (work : List ℕ) (r : Walked) (work' : List ℕ) : Type 0 where
+    (work : List ℕ) (r : Result Searched Damaged) (work' : List ℕ) : Type 0 where
   pub ends : WalkEnds s c (hit_at s store.floats store.numbers query) (walk (store_view s c store query wanted) ef) r work'
   pub works : Works s work work'
 

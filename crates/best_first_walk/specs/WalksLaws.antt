@@ -1,11 +1,16 @@
 -- The hits' part of the work list has a mark for each vector in front, and behind them room for one number more than there are hits. Assumes nothing.
-use Rattle.std.specs.Prelude.{ℕ, ◌+◌, ◌*◌, ◌≤◌, max, ◌≡◌, List, length}
-use Rattle.std.proofs.Common.{arith}
+use Rattle.std.specs.Prelude.{ℕ, ◌+◌, ◌*◌, ◌≤◌, max, ◌≡◌, List, length, Result}
+use Rattle.std.proofs.Common.{arith, sym, subst}
 use Rattle.lists.specs.Parts.{length_part}
 use Rattle.store.specs.declared.Shape.{Shape}
 use Rattle.store.specs.Store.{Limits, hits_at, work_size}
 use Rattle.store.specs.declared.Counts.{Counts}
-use Rattle.walk.specs.Wanted.{Sought, LeafList, vector_list, entry_list, list_read, held_in, most}
+use Rattle.walk.specs.declared.Damaged.{Damaged}
+use Rattle.walk.specs.declared.Wanted.{Wanted}
+use Rattle.walk.specs.declared.look.Look.{Look}
+use Rattle.walk.specs.Promises.{LooksFor, Looks}
+use Rattle.walk.proofs.WantedLaws.{first_name, other_name, about-sought}
+use Rattle.walk.specs.Wanted.{about, Sought, LeafList, vector_list, entry_list, list_read, held_in, most}
 use Rattle.best_first_walk.specs.Walks.{hits_part, found_in, found_at, found_part}
 
 -- no more hits than the larger of the capacities
@@ -25,3 +30,10 @@ length-hits s work size = length_part (hits_at s) (3 * max s.vectors s.entries) 
 -- a mark for each vector stands in front of those found
 pub marks-room : (s : Shape) (c : Counts) (from : ℕ) → Limits s → c.vectors ≤ s.vectors → from ≡ found_in s → c.vectors ≤ from
 marks-room s c from limits held is = omega (arith, limits.vectors_low, held, is)
+
+-- what a node shows, by the labels' names
+pub looks_about : (s : Shape) (c : Counts) (numbers hashes : List ℕ) (wanted : Wanted) (i : ℕ) (r r' : Result Look Damaged) → Looks s c numbers hashes wanted i r → r ≡ r'
+    → LooksFor s c numbers hashes (about wanted) i r'
+looks_about s c numbers hashes wanted i r r' looks e =
+    subst (λ (r : Result Look Damaged). LooksFor s c numbers hashes (about wanted) i r) e
+    (subst (λ (w : Sought). LooksFor s c numbers hashes w i r) (sym (about-sought wanted)) (looks (first_name wanted) (other_name wanted)))

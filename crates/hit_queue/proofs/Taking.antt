@@ -8,7 +8,7 @@ use mathlib.Core.List.{List, [], ◌∷◌, ◌++◌, map, map-append, append_as
 use lib.Dec.{eqb}
 use lib.Ieee.{Float}
 use lib.ListN.{length, get_or, take, set, length-append, length-map}
-use lib.Seq.{sets, take_all, take-append_seam}
+use lib.Seq.{sets, take_all}
 use Rattle.lists.specs.Lists.{keep}
 use Rattle.lists.specs.Counting.{keep-nil, keep-pass, keep_fail}
 use Rattle.lists.specs.Parts.{sets_snoc}
@@ -147,13 +147,6 @@ module _ (test : ℕ → Bool) (heap₀ : List ℕ) (count k : ℕ) (ids₀ : Li
     few = t.few;
     queue = t.queue;
   }
-
-  pub taken-k : (heap ids : List ℕ) (distances : List Float) (found left last : ℕ) → found ≡ k
-      → Taking test heap₀ count k ids₀ distances₀ heap ids distances found left last
-      → Takes test heap₀ count k ids₀ distances₀ (record { hits = found; left = left; last = last }) heap ids distances
-  taken-k heap ids distances found left last full t =
-      taken heap ids distances found left last t
-      (sym (ap₂ take (sym (t.count_is ∙ full)) t.split ∙ take-append_seam t.kept (due test last left heap)))
 
   pub taken-all : (heap ids : List ℕ) (distances : List Float) (found left last : ℕ) → left ≡ 0
       → Taking test heap₀ count k ids₀ distances₀ heap ids distances found left last

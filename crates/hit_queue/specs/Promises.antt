@@ -5,7 +5,7 @@ use Rattle.lists.specs.Lists.{part, keep}
 use Rattle.lists.specs.Tests.{all_pass}
 use Rattle.record_queue.specs.declared.Record.{Record}
 use Rattle.record_queue.specs.Sorted.{sort}
-use Rattle.record_queue.specs.Records.{value, record_at, records, Heap}
+use Rattle.record_queue.specs.Records.{value, records, Heap}
 use Rattle.store.specs.declared.Shape.{Shape}
 use Rattle.store.specs.declared.Counts.{Counts}
 use Rattle.walk.specs.StoreView.{hit_at}

@@ -10,7 +10,8 @@ ghost use Rattle.record_queue.specs.Sorted.{sort};
 use record_queue::{Record, pop};
 use total_order::from_key;
 
-// What was taken of a queue: how many hits, how many records are left, and the last document id, or 2 ^ 32 before the first.
+// What was taken of a queue: how many hits, how many records are left, and the last document id, or 2 ^ 32 before the first. A number and no `Option`:
+// each hit is compared with it, and an `Option` costs a second test.
 #[derive(Clone, Copy)]
 pub struct Taken {
     pub hits: usize,
@@ -23,10 +24,10 @@ fn live(marks: &[u32], hit: Record) -> bool
     ensures { result ≡ is_live marks.now (value hit) }
 {
     let vector = (hit.rest % 0x1_0000_0000) as usize;
-    if vector < marks.len() {
-        return marks[vector] != 0;
+    match marks.get(vector) {
+        Some(&mark) => mark != 0,
+        None => false,
     }
-    false
 }
 
 // Takes the first k live hits out of the queue, each document's first of a run, and writes their ids and distances.
@@ -44,16 +45,8 @@ pub fn take_hits(
     let mut hits = 0;
     let mut left = count;
     let mut last: u64 = 0x1_0000_0000;
-    let end: Taken;
-    loop {
-        if hits == k {
-            end = Taken { hits, left, last };
-            break;
-        }
-        if left == 0 {
-            end = Taken { hits, left, last };
-            break;
-        }
+    // By hand: hits are popped of a queue, which keeps those that are left.
+    while hits < k && 0 < left {
         let least = pop(heap, left, 3);
         left -= 1;
         let document = least.rest / 0x1_0000_0000;
@@ -66,7 +59,7 @@ pub fn take_hits(
             }
         }
     }
-    end
+    Taken { hits, left, last }
 }
 
 // How many live hits are left in the queue behind one with a document id, repeats dropped.
@@ -77,6 +70,7 @@ pub fn count_rest(marks: &[u32], heap: &mut [u32], count: usize, after: u64) -> 
     let mut total = 0;
     let mut left = count;
     let mut last = after;
+    // By hand: as above.
     while 0 < left {
         let least = pop(heap, left, 3);
         left -= 1;

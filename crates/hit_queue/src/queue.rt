@@ -10,10 +10,10 @@ ghost use Rattle.hit_queue.specs.Promises.{hits_of, PushWithin, PushFew, FourHel
 use distance::Four;
 use distance::places::{distances_at, eight_distances_at};
 use record_queue::{Record, push};
-use store::{Counts, Shape, wide};
+use store::{Counts, Shape};
 use total_order::key;
 
-// The hits of four vectors.
+// The hits of four vectors: fields and no array, as `Four` has their distances, so that each is told by name and no place is looked up.
 #[derive(Clone, Copy)]
 struct FourHits {
     a: Record,
@@ -35,7 +35,7 @@ fn hit(numbers: &[u32], vector: usize, distance: f32) -> Record
     requires vector_bound { vector < 4096 }
     ensures { value result ≡ hit_of distance (get_or numbers.now vector 0) vector }
 {
-    let document = wide(numbers[vector]) as u64;
+    let document = numbers[vector] as u64;
     Record {
         key: key(distance),
         rest: document * 0x1_0000_0000 + vector as u64,
@@ -60,15 +60,11 @@ fn hits_of(
     ensures c_value { value result.c ≡ hit_of distances.c (get_or numbers.now third 0) third }
     ensures d_value { value result.d ≡ hit_of distances.d (get_or numbers.now fourth 0) fourth }
 {
-    let a_hit = hit(numbers, first, distances.a);
-    let b_hit = hit(numbers, second, distances.b);
-    let c_hit = hit(numbers, third, distances.c);
-    let d_hit = hit(numbers, fourth, distances.d);
     FourHits {
-        a: a_hit,
-        b: b_hit,
-        c: c_hit,
-        d: d_hit,
+        a: hit(numbers, first, distances.a),
+        b: hit(numbers, second, distances.b),
+        c: hit(numbers, third, distances.c),
+        d: hit(numbers, fourth, distances.d),
     }
 }
 
@@ -85,7 +81,7 @@ fn push_within(heap: &mut [u32], count: usize, bound: u32, record: Record) -> us
     total
 }
 
-// Adds two hits to the queue, each if its key is at most the bound.
+// Adds two hits to the queue, one after the other with no loop, each if its key is at most the bound.
 fn push_two(heap: &mut [u32], count: usize, bound: u32, a: Record, b: Record) -> usize
     requires { PushWithin heap.old count 2 }
     ensures { Measured bound (value a ∷ value b ∷ []) count heap.old result heap.new }
@@ -156,10 +152,10 @@ fn four_hits(
     ensures c_value { value result.c ≡ hit_at shape floats.now numbers.now query.now (get_or list.now c 0) }
     ensures d_value { value result.d ≡ hit_at shape floats.now numbers.now query.now (get_or list.now d 0) }
 {
-    let first = wide(list[a]);
-    let second = wide(list[b]);
-    let third = wide(list[c]);
-    let fourth = wide(list[d]);
+    let first = list[a] as usize;
+    let second = list[b] as usize;
+    let third = list[c] as usize;
+    let fourth = list[d] as usize;
     let size = shape.dimension;
     let four = distances_at(
         floats,
@@ -187,14 +183,14 @@ fn eight_hits(
     ensures d_value { value result.front.a ∷ value result.front.b ∷ value result.front.c ∷ value result.front.d ∷ [] ≡ hits_of shape floats.now numbers.now query.now (part at 4 list.now) }
     ensures d_value_2 { value result.back.a ∷ value result.back.b ∷ value result.back.c ∷ value result.back.d ∷ [] ≡ hits_of shape floats.now numbers.now query.now (part (at + 4) 4 list.now) }
 {
-    let a = wide(list[at]);
-    let b = wide(list[at + 1]);
-    let c = wide(list[at + 2]);
-    let d = wide(list[at + 3]);
-    let e = wide(list[at + 4]);
-    let f = wide(list[at + 5]);
-    let g = wide(list[at + 6]);
-    let h = wide(list[at + 7]);
+    let a = list[at] as usize;
+    let b = list[at + 1] as usize;
+    let c = list[at + 2] as usize;
+    let d = list[at + 3] as usize;
+    let e = list[at + 4] as usize;
+    let f = list[at + 5] as usize;
+    let g = list[at + 6] as usize;
+    let h = list[at + 7] as usize;
     let size = shape.dimension;
     let eight = eight_distances_at(
         floats,
@@ -292,7 +288,7 @@ fn measure_few(
 }
 
 // Adds those hits to a queue whose key is at most the bound, of the vectors whose numbers stand from a place on; eight vectors are measured
-// at a time, four where fewer are left. The queue grows behind the numbers that are still to be read.
+// at a time, four where fewer are left. By hand: a turn takes eight, four or fewer. The queue grows behind the numbers that are still to be read.
 pub fn measure(
     shape: Shape,
     counts: Counts,

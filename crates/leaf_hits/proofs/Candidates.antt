@@ -1,5 +1,6 @@
 -- A leaf's list in two steps: the entries of the hash are gathered, and of these the owners of those with the name are kept. Both tests together are
 -- that of the whole list, and what is left after both steps is what the list gives. Assumes nothing.
+use Rattle.std.specs.Prelude.{Result, Ok, Err}
 use Prim.Native.Nat.{ℕ, ◌+◌, ◌-◌, ◌≤◌, ◌<◌}
 use native.Mathlib.Omega.{arith}
 use mathlib.Core.Path.{◌≡◌, sym, ap, ap₂, ◌∙◌, subst}
@@ -18,8 +19,7 @@ use Rattle.store.specs.declared.Counts.{Counts}
 use Rattle.store.specs.Store.{owners_at, entry_name}
 use Rattle.walk.specs.Wanted.{with_label, number_held, text_held, passes, is_labels}
 use Rattle.walk.specs.StoreView.{entries_in, end_in}
-use Rattle.leaf_hits.specs.declared.Added.{Added}
-use Rattle.leaf_hits.specs.declared.Added.TheVariants as added
+use Rattle.walk.specs.declared.Damaged.{Damaged}
 use Rattle.leaf_hits.specs.Promises.{Gathered, GatheredBy, GatherDamageBy, KeepsNamed, AddedEntries}
 use Rattle.leaf_hits.specs.Gathering.{kept-twice}
 
@@ -108,11 +108,11 @@ module _ (s : Shape) (c : Counts) (numbers hashes text : List ℕ) (hash : ℕ) 
           (λ x m. and_left (ltb x c.entries) (ltb (owner x) c.vectors) (all_pass-Memᴰ test l g.pass x (Memᴰ-keep hashed x l m).1))
 
       -- and what is kept of them is what the list gives
-      owners-kept : (found₂ : List ℕ) (r : Added) → KeepsNamed s c numbers text name (keep hashed l) before found₁ r found₂
+      owners-kept : (found₂ : List ℕ) (r : Result ℕ Damaged) → KeepsNamed s c numbers text name (keep hashed l) before found₁ r found₂
           → AddedEntries s c numbers hashes text hash name l before found r found₂
-      owners-kept found₂ added.Damaged (inl f) = inl (all_whole l ∙ ap (λ (b : Bool). all_pass test l && b) f ∙ and_false (all_pass test l))
-      owners-kept found₂ added.Damaged (inr over) = inr (subst (λ (k : List ℕ). c.entries < length (map owner k) + before) (sym (all-labels l)) over)
-      owners-kept found₂ (added.Hits total) k =
+      owners-kept found₂ (Err _) (inl f) = inl (all_whole l ∙ ap (λ (b : Bool). all_pass test l && b) f ∙ and_false (all_pass test l))
+      owners-kept found₂ (Err _) (inr over) = inr (subst (λ (k : List ℕ). c.entries < length (map owner k) + before) (sym (all-labels l)) over)
+      owners-kept found₂ (Ok total) k =
           let new : map owner (keep labels l) ≡ map owner (keep named (keep hashed l)) = ap (map owner) (all-labels l) in
           record {
             pass = all_whole l ∙ ap₂ ◌&&◌ g.pass k.pass;
@@ -122,6 +122,6 @@ module _ (s : Shape) (c : Counts) (numbers hashes text : List ℕ) (hash : ℕ) 
                 ∙ ap₂ ◌++◌ (stands-before (all_pass test l) (map (λ x. x) (keep hashed l)) (c.entries + 1) before end found found₁ inside g) (sym new);
           }
 
-      pub chunk_kept : (found₂ : List ℕ) (r : Added) → KeepsNamed s c numbers text name (part before (end - before) found₁) before found₁ r found₂
+      pub chunk_kept : (found₂ : List ℕ) (r : Result ℕ Damaged) → KeepsNamed s c numbers text name (part before (end - before) found₁) before found₁ r found₂
           → AddedEntries s c numbers hashes text hash name l before found r found₂
       chunk_kept found₂ r k = owners-kept found₂ r (subst (λ (m : List ℕ). KeepsNamed s c numbers text name m before found₁ r found₂) stands k)

@@ -10,7 +10,7 @@ ghost use Rattle.waiting_nodes.specs.Promises.{PushNode, PushLent, PushedNodes, 
 
 use distance::places::{distance_at, distances_at};
 use record_queue::{Record, push};
-use store::{Shape, wide};
+use store::Shape;
 use total_order::key;
 
 // The key of the distance from the query to vector i of the floats, the part that starts at its number times D.
@@ -50,10 +50,10 @@ fn push_four(
     requires { PushLent shape floats.now numbers.now work.old waiting at 4 }
     ensures { PushedNodes shape work.old waiting (waiting_records shape floats.now query.now (part at 4 numbers.now)) work.new }
 {
-    let a = wide(numbers[at]);
-    let b = wide(numbers[at + 1]);
-    let c = wide(numbers[at + 2]);
-    let d = wide(numbers[at + 3]);
+    let a = numbers[at] as usize;
+    let b = numbers[at + 1] as usize;
+    let c = numbers[at + 2] as usize;
+    let d = numbers[at + 3] as usize;
     let v = shape.vectors;
     let size = shape.dimension;
     let four = distances_at(
@@ -84,12 +84,13 @@ fn push_one(
     requires { PushLent shape floats.now numbers.now work.old waiting at 1 }
     ensures { PushedNodes shape work.old waiting (waiting_records shape floats.now query.now (part at 1 numbers.now)) work.new }
 {
-    let child = wide(numbers[at]);
+    let child = numbers[at] as usize;
     let key = distance_key(floats, query, shape.dimension, shape.vectors + child);
     push_node(shape, work, waiting, child, key);
 }
 
 // Puts the children of a node into the queue of waiting nodes, four at a time, and the last three at most one by one.
+// By hand: a turn takes four or one.
 pub fn push_children(
     shape: Shape,
     floats: &[f32],

@@ -10,7 +10,7 @@ use Rattle.record_queue.specs.Sorted.{sort, NoLater}
 use Rattle.record_queue.specs.SortedLaws.{sort_perm, sort-keep, no_later-sort, no_later-take, no_later-at}
 use Rattle.walk.specs.Walk.{Progress}
 use Rattle.walk.proofs.DifferentLaws.{different_head, different_tail}
-use Rattle.walk.specs.Answer.{document_of, drop_after, drop_repeats, listed, ranked}
+use Rattle.walk.specs.Answer.{document_of, drop_after, drop_repeats, ranked}
 
 -- ---- repeats
 

@@ -1,6 +1,7 @@
 -- Laws that only this crate's proofs need.
 pub mod Looks
 pub mod AnswerLaws
+pub mod Damage
 pub mod BudgetLaws
 pub mod DifferentLaws
 pub mod HeldLaws

@@ -1,5 +1,7 @@
 -- What a search reads of a store, and that nothing else matters: two stores that agree on it give the same search, answer or damage. So garbage in a
 -- denied node, in a node that is not opened, in a list that is not read or past the counts held changes nothing. Assumes nothing.
+use Rattle.std.specs.Prelude.{Result}
+use Rattle.walk.specs.declared.Damaged.{Damaged}
 use Rattle.std.specs.Prelude.{ℕ, zero, suc, ◌+◌, ◌<◌, ◌≡◌, ◌⊎◌, Bool, true, false, eqb, Float, get_or}
 use Rattle.std.proofs.Common.{arith, sym, ap₂, ◌∙◌, subst, inl, inr, eqb-true}
 use Rattle.std.proofs.Math.Path.{refl, ap}
@@ -206,7 +208,7 @@ module _ (s : Shape) (c : Counts) (a b : Store) where
       (λ i o. node_alike query wanted i (same.opened i o))
 
 -- one end of a walk has one answer
-ends_same : (st : State) (test : ℕ → Bool) (k : ℕ) (r r' : Searched) (ids ids' ids'' : List ℕ) (distances distances' distances'' : List Float)
+ends_same : (st : State) (test : ℕ → Bool) (k : ℕ) (r r' : Result Searched Damaged) (ids ids' ids'' : List ℕ) (distances distances' distances'' : List Float)
     → SearchEnds st test k r ids ids' distances distances' → SearchEnds st test k r' ids ids'' distances distances'' → (r ≡ r') × (ids' ≡ ids'') × (distances' ≡ distances'')
 ends_same damaged test k r r' ids ids' ids'' distances distances' distances'' x y =
     (x.is ∙ sym y.is, x.ids_kept ∙ sym y.ids_kept, x.distances_kept ∙ sym y.distances_kept)
@@ -215,7 +217,7 @@ ends_same (going p) test k r r' ids ids' ids'' distances distances' distances'' 
 
 -- and, with the same live marks, the same search, whatever stands in work: the same answer or damage, and the same answer lists
 pub same-search : (s : Shape) (c : Counts) (store store' : Store) (query : List Float) (wanted : Sought)
-    (ef k : ℕ) (work work₁ work' work₂ ids ids₁ ids₂ : List ℕ) (distances distances₁ distances₂ : List Float) (r₁ r₂ : Searched)
+    (ef k : ℕ) (work work₁ work' work₂ ids ids₁ ids₂ : List ℕ) (distances distances₁ distances₂ : List Float) (r₁ r₂ : Result Searched Damaged)
     → SameRead s c store store' query wanted ef → live_marks s c.vectors store.numbers ≡ live_marks s c.vectors store'.numbers
     → SearchGives s c ef store query wanted k work ids distances r₁ work₁ ids₁ distances₁
     → SearchGives s c ef store' query wanted k work' ids distances r₂ work₂ ids₂ distances₂ → (r₁ ≡ r₂) × (ids₁ ≡ ids₂) × (distances₁ ≡ distances₂)

@@ -13,7 +13,26 @@ use Rattle.lists.specs.Same.{same-equal}
 use Rattle.lists.specs.Tests.{which, and_left, and_right, and_both, all_pass, all_pass-Memᴰ, all_pass_congr, all_pass_and}
 use Rattle.lists.specs.Counting.{keep-nil, keep_congr, Memᴰ-keep}
 use Rattle.store.specs.declared.Counts.{Counts}
-use Rattle.walk.specs.Wanted.{Sought, all_vectors, with_label, with_both, EntryRead, number_held, text_held, passes, is_labels, owners_of, given}
+use Rattle.walk.specs.declared.Wanted.{Wanted}
+use Rattle.walk.specs.declared.Wanted.TheVariants.{Everything, Both}
+use Rattle.walk.specs.declared.Wanted.TheVariants as wanted
+use Rattle.walk.specs.Wanted.{Sought, sought, name_of, about, all_vectors, with_label, with_both, EntryRead, number_held, text_held, passes, is_labels, owners_of, given}
+
+-- what is wanted, by the hashes and the names that it has
+abbrev pub first_name : Wanted → List ℕ
+first_name Everything = []
+first_name (wanted.Label l) = name_of l
+first_name (Both l m) = name_of l
+
+abbrev pub other_name : Wanted → List ℕ
+other_name Everything = []
+other_name (wanted.Label l) = []
+other_name (Both l m) = name_of m
+
+pub about-sought : (w : Wanted) → about w ≡ sought w (first_name w) (other_name w)
+about-sought Everything = refl
+about-sought (wanted.Label l) = refl
+about-sought (Both l m) = refl
 
 -- an empty list gives nothing
 pub given-nil : (wanted : Sought) (read : EntryRead) → given wanted read [] ≡ []

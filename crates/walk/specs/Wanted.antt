@@ -1,11 +1,13 @@
 -- What is wanted of a search, its cases told apart (document 01, 'Search'; 02, K4 and K1). A new case is a clause of each of these; its laws are in
 -- WantedLaws.antt. A lent store and the model of all calls differ in how an entry is read alone.
-use Rattle.std.specs.Prelude.{ℕ, Bool, false, not, ◌&&◌, ◌||◌, List, map, leb, ltb, eqb}
+use Rattle.std.specs.Prelude.{ℕ, Bool, false, not, ◌&&◌, ◌||◌, List, ◌++◌, map, leb, ltb, eqb}
 use Rattle.lists.specs.Lists.{keep, is_in, same_list}
 use Rattle.store.specs.declared.Counts.{Counts}
 use Rattle.bloom.specs.Filter.{may_contain}
 use Rattle.walk.specs.declared.Wanted.{Wanted}
-use Rattle.walk.specs.declared.Wanted.TheVariants.{Everything, Label, Both}
+use Rattle.walk.specs.declared.Label.{Label}
+use Rattle.walk.specs.declared.Wanted.TheVariants.{Everything, Both}
+use Rattle.walk.specs.declared.Wanted.TheVariants as wanted
 
 -- what a search is about: every vector, those with a label, which is a hash and bytes, or those with each of two labels
 pub data Sought : Type 0 where
@@ -13,11 +15,21 @@ pub data Sought : Type 0 where
   with_label : ℕ → List ℕ → Sought
   with_both : ℕ → List ℕ → ℕ → List ℕ → Sought
 
--- as code has it: the labels' hashes go by value, their bytes beside them
+-- as code has it, by the labels' hashes alone, for names of any bytes
 abbrev pub sought : Wanted → List ℕ → List ℕ → Sought
 sought Everything name other = all_vectors
-sought (Label hash) name other = with_label hash name
-sought (Both hash others) name other = with_both hash name others other
+sought (wanted.Label l) name other = with_label l.hash name
+sought (Both l m) name other = with_both l.hash name m.hash other
+
+-- the bytes of a label's name
+abbrev pub name_of : Label → List ℕ
+name_of l = l.first.now ++ l.second.now
+
+-- what is wanted, by hashes and names
+abbrev pub about : Wanted → Sought
+about Everything = all_vectors
+about (wanted.Label l) = with_label l.hash (name_of l)
+about (Both l m) = with_both l.hash (name_of l) m.hash (name_of m)
 
 -- what is read of an entry by its number: its hash, the number of the vector that owns it, and the bytes of its label
 pub record EntryRead : Type 0 where

@@ -3,21 +3,30 @@
 
 pub mod look;
 
-// What a search is about: every vector, those with a label, whose hash this is, or those with each of two; their bytes go beside it, each name in two parts.
+// A label: its hash, and its name in two parts.
 #[derive(Clone, Copy)]
-pub enum Wanted {
-    Everything,
-    Label(u64),
-    Both(u64, u64),
+pub struct Label<'a> {
+    pub hash: u64,
+    pub first: &'a [u8],
+    pub second: &'a [u8],
 }
 
-// What a search gives: the hits written to the answer lists, the nodes opened, and whether no node waited.
+// What a search is about: every vector, those with a label, or those with each of two.
 #[derive(Clone, Copy)]
-pub enum Searched {
-    Found {
-        hits: usize,
-        opened: usize,
-        whole: bool,
-    },
-    Damaged,
+pub enum Wanted<'a> {
+    Everything,
+    Label(Label<'a>),
+    Both(Label<'a>, Label<'a>),
 }
+
+// What a walk or a search gives: how many hits it found or wrote to the answer lists, how many nodes it opened, and whether no node waited.
+#[derive(Clone, Copy)]
+pub struct Searched {
+    pub hits: usize,
+    pub opened: usize,
+    pub whole: bool,
+}
+
+// The store has a number that no call writes there.
+#[derive(Clone, Copy)]
+pub struct Damaged;

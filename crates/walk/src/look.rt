@@ -5,9 +5,9 @@ ghost use Rattle.bloom.specs.Filter.{may_contain};
 ghost use Rattle.store.specs.Store.{node_filter};
 ghost use Rattle.walk.specs.Promises.{FilterLent, LeafLent, NumbersLent, NodeLent, BlockAsked, Denies, Placing, LeafPlaced, Shows, Looks};
 
-use crate::Wanted;
+use crate::{Damaged, Wanted};
 use bloom::may_contain;
-use store::{Counts, Shape, wide};
+use store::{Counts, Shape};
 
 // A list's places in the numbers.
 #[derive(Clone, Copy)]
@@ -16,17 +16,9 @@ pub struct Block {
     pub count: usize,
 }
 
-// A node's block, or that it has a place outside what is held.
-#[derive(Clone, Copy)]
-pub enum Placed {
-    Outside,
-    Within(Block),
-}
-
 // What an opened node shows: a leaf its list, an inner node its children. A denied node shows an empty list.
 #[derive(Clone, Copy)]
 pub enum Look {
-    Damaged,
     Leaf(Block),
     Inner(Block),
 }
@@ -44,45 +36,51 @@ fn admits(shape: Shape, hashes: &[u64], hash: u64, i: usize) -> bool
 // Whether the filter of node i denies what is wanted.
 fn denied(shape: Shape, hashes: &[u64], wanted: Wanted, i: usize) -> bool
     requires { FilterLent shape hashes.now i }
-    ensures { Denies shape hashes.now wanted i result }
+    ensures { Denies shape hashes.now wanted.entry i result }
 {
     match wanted {
         Wanted::Everything => false,
-        Wanted::Label(hash) => !admits(shape, hashes, hash, i),
-        Wanted::Both(hash, others) => {
-            let one = admits(shape, hashes, hash, i);
-            let two = admits(shape, hashes, others, i);
+        Wanted::Label(label) => !admits(shape, hashes, label.hash, i),
+        Wanted::Both(label, other) => {
+            let one = admits(shape, hashes, label.hash, i);
+            let two = admits(shape, hashes, other.hash, i);
             !one | !two
         }
     }
 }
 
-// The block whose start and count stand at a place: it counts from `base` on, where `held` numbers are held.
-fn block_at(numbers: &[u32], at: usize, base: usize, held: usize) -> Placed
+// The block whose start and count stand at a place: it counts from `base` on, where `held` numbers are held. One past those is damage.
+fn block_at(numbers: &[u32], at: usize, base: usize, held: usize) -> Result<Block, Damaged>
     requires { BlockAsked numbers.now at base held }
     ensures { Placing numbers.now at base held result }
 {
-    let start = wide(numbers[at]);
-    let count = wide(numbers[at + 1]);
+    let start = numbers[at] as usize;
+    let count = numbers[at + 1] as usize;
     if count == 0 {
-        return Placed::Within(Block {
+        return Ok(Block {
             start: base,
             count: 0,
         });
     }
     if held < start + count {
-        return Placed::Outside;
+        return Err(Damaged);
     }
-    Placed::Within(Block {
+    Ok(Block {
         start: base + start,
         count,
     })
 }
 
 // The list that a search reads in the leaf whose six numbers start at a place: its entries, unfiltered its vectors.
-fn leaf_list(shape: Shape, counts: Counts, numbers: &[u32], wanted: Wanted, at: usize) -> Placed
+fn leaf_list(
+    shape: Shape,
+    counts: Counts,
+    numbers: &[u32],
+    wanted: Wanted,
+    at: usize,
+) -> Result<Block, Damaged>
     requires { LeafLent shape counts numbers.now at }
-    ensures { LeafPlaced shape counts numbers.now wanted at result }
+    ensures { LeafPlaced shape counts numbers.now wanted.entry at result }
 {
     match wanted {
         Wanted::Everything => block_at(numbers, at + 2, shape.order_at(), counts.vectors),
@@ -91,26 +89,27 @@ fn leaf_list(shape: Shape, counts: Counts, numbers: &[u32], wanted: Wanted, at: 
 }
 
 // What node i shows where it is not denied.
-fn node_at(shape: Shape, counts: Counts, numbers: &[u32], wanted: Wanted, i: usize) -> Look
+fn node_at(
+    shape: Shape,
+    counts: Counts,
+    numbers: &[u32],
+    wanted: Wanted,
+    i: usize,
+) -> Result<Look, Damaged>
     requires { NumbersLent shape counts numbers.now i }
-    ensures { Shows shape counts numbers.now wanted i result }
+    ensures { Shows shape counts numbers.now wanted.entry i result }
 {
     let at = shape.nodes_at() + i * 6;
     if numbers[at + 1] == 0 {
-        let list = leaf_list(shape, counts, numbers, wanted, at);
-        return match list {
-            Placed::Outside => Look::Damaged,
-            Placed::Within(block) => Look::Leaf(block),
-        };
+        let list = leaf_list(shape, counts, numbers, wanted, at)?;
+        return Ok(Look::Leaf(list));
     }
-    let children = block_at(numbers, at, shape.links_at(), counts.nodes);
-    match children {
-        Placed::Outside => Look::Damaged,
-        Placed::Within(block) => Look::Inner(block),
-    }
+    let children = block_at(numbers, at, shape.links_at(), counts.nodes)?;
+    Ok(Look::Inner(children))
 }
 
-// What node i shows.
+// What node i shows. Both walks ask it at each node that they open, so that it becomes a part of them.
+#[inline(always)]
 pub fn look_at(
     shape: Shape,
     counts: Counts,
@@ -118,30 +117,12 @@ pub fn look_at(
     hashes: &[u64],
     wanted: Wanted,
     i: usize,
-) -> Look
+) -> Result<Look, Damaged>
     requires { NodeLent shape counts numbers.now hashes.now i }
-    ensures { Looks shape counts numbers.now hashes.now wanted i result }
+    ensures { Looks shape counts numbers.now hashes.now wanted.entry i result }
 {
     if denied(shape, hashes, wanted, i) {
-        return Look::Leaf(Block { start: 0, count: 0 });
-    }
-    node_at(shape, counts, numbers, wanted, i)
-}
-
-// The same for another walk: a function with one caller becomes a part of it.
-pub fn look_over(
-    shape: Shape,
-    counts: Counts,
-    numbers: &[u32],
-    hashes: &[u64],
-    wanted: Wanted,
-    i: usize,
-) -> Look
-    requires { NodeLent shape counts numbers.now hashes.now i }
-    ensures { Looks shape counts numbers.now hashes.now wanted i result }
-{
-    if denied(shape, hashes, wanted, i) {
-        return Look::Leaf(Block { count: 0, start: 0 });
+        return Ok(Look::Leaf(Block { start: 0, count: 0 }));
     }
     node_at(shape, counts, numbers, wanted, i)
 }

@@ -1,5 +1,6 @@
 -- A leaf's list for two labels in three steps: the owners of its entries are held and their marks cleared, those of the other label's entries are marked, and
 -- of the label's owners the marked ones are taken. The tests together are that of the whole list, and what is taken is what the list gives. Assumes nothing.
+use Rattle.std.specs.Prelude.{⊤, Result}
 use Prim.Native.Nat.{ℕ, ◌≤◌, ◌<◌}
 use native.Mathlib.Omega.{arith}
 use mathlib.Core.Path.{◌≡◌, refl, sym, ap, ap₂, ◌∙◌, subst}
@@ -19,7 +20,7 @@ use Rattle.store.specs.declared.Counts.{Counts}
 use Rattle.store.specs.Store.{owners_at}
 use Rattle.walk.specs.Wanted.{EntryRead, with_both, number_held, text_held, passes, is_labels, owners_of, given}
 use Rattle.walk.specs.StoreView.{entries_in, end_in}
-use Rattle.leaf_hits.specs.declared.Added.{Added}
+use Rattle.walk.specs.declared.Damaged.{Damaged}
 use Rattle.leaf_hits.specs.Gathering.{kept-twice}
 use Rattle.leaf_hits.specs.Promises.{Gathers, GatherDamage, new_vectors, AddedHits}
 use Rattle.wanted_hits.specs.Promises.{written, Writes, ClearsOwners, TakesMarked}
@@ -96,7 +97,7 @@ module _ (s : Shape) (c : Counts) (numbers hashes text : List ℕ) (hash : ℕ) 
       ∙ ap (λ (b : Bool). all_held && b) (all_pass_and (text_held c read end hash) (text_held c read end others) l)
 
   -- what is cleared, in these words
-  pub held-cleared : (hits : List ℕ) (r : Bool) (hits' : List ℕ) → ClearsOwners c numbers (owners_at s) l hits r hits'
+  pub held-cleared : (hits : List ℕ) (r : Result ⊤ Damaged) (hits' : List ℕ) → ClearsOwners c numbers (owners_at s) l hits r hits'
       → Writes all_held 0 (map read.owner l) hits r hits'
   unfolding number_held
   held-cleared hits r hits' w = w
@@ -167,7 +168,7 @@ module _ (s : Shape) (c : Counts) (numbers hashes text : List ℕ) (hash : ℕ) 
     gives = keep_congr (λ v. not (eqb (get_or marked v 0) 0)) (λ v. is_in v theirs) (owners_of read hash name l) (λ v m. owner-marked v (own-listed v m))
 
     -- what is taken is what the list gives
-    pub both-taken : (from before : ℕ) (r : Added) (hits' : List ℕ) → c.vectors ≤ from → all_others ≡ true
+    pub both-taken : (from before : ℕ) (r : Result ℕ Damaged) (hits' : List ℕ) → c.vectors ≤ from → all_others ≡ true
         → TakesMarked s c numbers hashes text hash name l from before marked r hits'
         → AddedHits s c numbers hashes text (with_both hash name others other) l before (drop from hits) r (drop from hits')
     both-taken from before r hits' h pass taken =

@@ -1,10 +1,11 @@
 -- A number written at each of some places: what stands at a place then, and, of the places that a list gives, what is still to be written once the first
 -- j of its numbers were looked at. Assumes nothing.
+use Rattle.std.specs.Prelude.{Ok, Err}
 use Prim.Native.Nat.{ℕ, suc, ◌+◌, ◌≤◌, ◌<◌}
 use native.Mathlib.Numerals.{add-one}
 use mathlib.Core.Path.{◌≡◌, refl, sym, ap, ◌∙◌, subst}
 use mathlib.Core.Logic.{◌⊎◌, inl, inr}
-use mathlib.Core.Bool.{Bool, true, false, cond, ◌&&◌, ◌||◌, false≢true}
+use mathlib.Core.Bool.{Bool, true, false, cond, ◌&&◌, ◌||◌}
 use mathlib.Core.List.{List, [], ◌∷◌, Memᴰ}
 use lib.ListN.{length, get_or, drop, set, length-set, drop_of_length-le}
 use lib.Dec.{eqb}
@@ -69,9 +70,6 @@ pub record Marking (test : ℕ → Bool) (places : List ℕ → List ℕ) (x : �
   pub size : length marks ≡ length marks₀
 
 module _ (test : ℕ → Bool) (places : List ℕ → List ℕ) (x : ℕ) (l marks₀ : List ℕ) where
-  pub mark-start : Marking test places x l marks₀ 0 marks₀
-  mark-start = record { sound = refl; due = refl; size = refl }
-
   rest : (j y : ℕ) → j < length l → get_or l j 0 ≡ y → drop j l ≡ y ∷ drop (j + 1) l
   rest j y h at = rw (add-one j) (drop-cons l j 0 h ∙ ap (λ (z : ℕ). z ∷ drop (suc j) l) at)
 
@@ -102,15 +100,14 @@ module _ (test : ℕ → Bool) (places : List ℕ → List ℕ) (x : ℕ) (l mar
 
   -- the next number does not pass
   pub mark_fails : (j y : ℕ) (marks : List ℕ) → Marking test places x l marks₀ j marks → j < length l → get_or l j 0 ≡ y → test y ≡ false
-      → Writes (all_pass test l) x (places l) marks₀ false marks
-  mark_fails j y marks m h e f = record { is = sym (m.sound ∙ tested j y false h e f); wrote = λ t. absurd (false≢true t) }
+      → Writes (all_pass test l) x (places l) marks₀ (Err (record {})) marks
+  mark_fails j y marks m h e f = m.sound ∙ tested j y false h e f
 
   -- the end of the list
   pub mark-end : (j : ℕ) (marks : List ℕ) → Marking test places x l marks₀ j marks → length l ≤ j → places [] ≡ []
-      → Writes (all_pass test l) x (places l) marks₀ true marks
+      → Writes (all_pass test l) x (places l) marks₀ (Ok tt) marks
   mark-end j marks m h none =
-      let over : drop j l ≡ [] = drop_of_length-le l {i = j} h in
-      record {
-        is = sym (m.sound ∙ ap (all_pass test) over ∙ all_pass-nil test);
-        wrote = λ t. sym (m.due ∙ ap (λ (k : List ℕ). written x (places k) marks) over ∙ ap (λ (k : List ℕ). written x k marks) none ∙ written-nil x marks);
-      }
+      let over : drop j l ≡ [] = drop_of_length-le l {i = j} h in (
+        m.sound ∙ ap (all_pass test) over ∙ all_pass-nil test,
+        sym (m.due ∙ ap (λ (k : List ℕ). written x (places k) marks) over ∙ ap (λ (k : List ℕ). written x k marks) none ∙ written-nil x marks),
+      )

@@ -1,50 +1,38 @@
 // The owners of a label's entries in a leaf's list that also have an entry of another label there (02, K1).
-ghost use Rattle.std.specs.Prelude.{◌+◌, ◌<◌, ◌≤◌, length, drop, ◌++◌};
+ghost use Rattle.std.specs.Prelude.{◌+◌, ◌<◌, ◌≤◌, length, drop};
 ghost use Rattle.lists.specs.Lists.{part};
-ghost use Rattle.walk.specs.Wanted.{with_both, is_labels, text_held};
+ghost use Rattle.walk.specs.Wanted.{with_both, name_of, is_labels, text_held};
 ghost use Rattle.walk.specs.StoreView.{entries_in, end_in};
 ghost use Rattle.leaf_hits.specs.Promises.{AddedHits};
 ghost use Rattle.wanted_hits.specs.Promises.{HitsLent, CompareLent, ClearLent, MarkLent, Compares, ClearsOwners, MarksOwners, TakesMarked};
 
-use leaf_hits::{Added, named};
-use store::{Counts, Shape, wide};
+use leaf_hits::{block_of, named};
+use store::{Counts, Lists, Shape};
+use walk::look::Block;
+use walk::{Damaged, Label};
 
-// An entry against a label: it has another hash or other bytes, or is the label's, or has its hash and bytes that are not all held.
-#[derive(Clone, Copy)]
-pub enum Compared {
-    Other,
-    Same,
-    Outside,
-}
-
-// Compares an entry with a label, whose name is given in two parts.
+// Whether an entry is a label's: it has its hash and its name. One that has its hash and bytes that are not all held is damage.
+#[tactic(auto, unfolding(walk::specs::Wanted::text_held, walk::specs::Wanted::is_labels))]
 fn compare_label(
     shape: Shape,
     counts: Counts,
-    numbers: &[u32],
-    hashes: &[u64],
-    text: &[u8],
-    hash: u64,
-    first: &[u8],
-    second: &[u8],
+    lists: Lists,
+    label: Label,
     entry: usize,
-) -> Compared
-    requires { CompareLent shape counts numbers.now hashes.now text.now entry }
-    ensures { Compares (text_held counts (entries_in shape numbers.now hashes.now text.now) (end_in shape numbers.now) hash entry)
-        (is_labels (entries_in shape numbers.now hashes.now text.now) hash (first.now ++ second.now) entry) result }
+) -> Result<bool, Damaged>
+    requires { CompareLent shape counts lists.numbers.now lists.hashes.now lists.text.now entry }
+    ensures { Compares (text_held counts (entries_in shape lists.entry.numbers.now lists.entry.hashes.now lists.entry.text.now) (end_in shape lists.entry.numbers.now) label.entry.hash entry)
+        (is_labels (entries_in shape lists.entry.numbers.now lists.entry.hashes.now lists.entry.text.now) label.entry.hash (name_of label.entry) entry) result }
 {
-    if hashes[entry] != hash {
-        return Compared::Other;
+    if lists.hashes[entry] != label.hash {
+        return Ok(false);
     }
-    let start = wide(numbers[shape.starts_at() + entry]);
-    let size = wide(numbers[shape.lengths_at() + entry]);
+    let start = lists.numbers[shape.starts_at() + entry] as usize;
+    let size = lists.numbers[shape.lengths_at() + entry] as usize;
     if counts.bytes < start + size {
-        return Compared::Outside;
+        return Err(Damaged);
     }
-    if named(text, start, size, first, second) == 0 {
-        return Compared::Other;
-    }
-    Compared::Same
+    Ok(named(lists.text, start, size, label))
 }
 
 // Clears the marks of the owners of a list's entries. Every entry is checked, whatever its hash.
@@ -53,77 +41,47 @@ fn clear_owners(
     numbers: &[u32],
     marks: &mut [u32],
     owners_at: usize,
-    start: usize,
-    count: usize,
-) -> bool
-    requires { ClearLent counts numbers.now marks.old owners_at start count }
-    ensures { ClearsOwners counts numbers.now owners_at (part start count numbers.now) marks.old result marks.new }
+    block: Block,
+) -> Result<(), Damaged>
+    requires { ClearLent counts numbers.now marks.old owners_at block.start block.count }
+    ensures { ClearsOwners counts numbers.now owners_at (part block.start block.count numbers.now) marks.old result marks.new }
 {
-    let mut j = 0;
-    let end: bool;
-    loop {
-        if j == count {
-            end = true;
-            break;
-        }
-        let entry = wide(numbers[start + j]);
+    for &number in block_of(numbers, block) {
+        let entry = number as usize;
         if counts.entries <= entry {
-            end = false;
-            break;
+            return Err(Damaged);
         }
-        let owner = wide(numbers[owners_at + entry]);
+        let owner = numbers[owners_at + entry] as usize;
         if counts.vectors <= owner {
-            end = false;
-            break;
+            return Err(Damaged);
         }
         marks[owner] = 0;
-        j += 1;
     }
-    end
+    Ok(())
 }
 
 // Marks the owners of a label's entries in a list. An entry of its hash whose bytes are not all held is damage.
 fn mark_owners(
     shape: Shape,
     counts: Counts,
-    numbers: &[u32],
-    hashes: &[u64],
-    text: &[u8],
+    lists: Lists,
     marks: &mut [u32],
-    hash: u64,
-    first: &[u8],
-    second: &[u8],
-    start: usize,
-    count: usize,
-) -> bool
-    requires { MarkLent shape counts numbers.now hashes.now text.now marks.old start count }
-    ensures { MarksOwners shape counts numbers.now hashes.now text.now hash (first.now ++ second.now) (part start count numbers.now) marks.old result marks.new }
+    label: Label,
+    block: Block,
+) -> Result<(), Damaged>
+    requires { MarkLent shape counts lists.numbers.now lists.hashes.now lists.text.now marks.old block.start block.count }
+    ensures { MarksOwners shape counts lists.entry.numbers.now lists.entry.hashes.now lists.entry.text.now label.entry.hash (name_of label.entry) (part block.start block.count lists.entry.numbers.now) marks.old result marks.new }
 {
+    let numbers = lists.numbers;
     let owners_at = shape.owners_at();
-    let mut j = 0;
-    let end: bool;
-    loop {
-        if j == count {
-            end = true;
-            break;
-        }
-        let entry = wide(numbers[start + j]);
-        j += 1;
-        match compare_label(
-            shape, counts, numbers, hashes, text, hash, first, second, entry,
-        ) {
-            Compared::Outside => {
-                end = false;
-                break;
-            }
-            Compared::Same => {
-                let owner = wide(numbers[owners_at + entry]);
-                marks[owner] = 1;
-            }
-            Compared::Other => {}
+    for &number in block_of(numbers, block) {
+        let entry = number as usize;
+        if compare_label(shape, counts, lists, label, entry)? {
+            let owner = numbers[owners_at + entry] as usize;
+            marks[owner] = 1;
         }
     }
-    end
+    Ok(())
 }
 
 // Adds the owners of a label's entries in a list that are marked to the vectors found, which stand from a place on behind the marks. An entry of the
@@ -131,101 +89,55 @@ fn mark_owners(
 fn take_marked(
     shape: Shape,
     counts: Counts,
-    numbers: &[u32],
-    hashes: &[u64],
-    text: &[u8],
+    lists: Lists,
     hits: &mut [u32],
     from: usize,
     before: usize,
-    hash: u64,
-    first: &[u8],
-    second: &[u8],
-    start: usize,
-    count: usize,
-) -> Added
-    requires mark_lent { MarkLent shape counts numbers.now hashes.now text.now hits.old start count }
+    label: Label,
+    block: Block,
+) -> Result<usize, Damaged>
+    requires mark_lent { MarkLent shape counts lists.numbers.now lists.hashes.now lists.text.now hits.old block.start block.count }
     requires vectors_le_from { counts.vectors ≤ from }
     requires before_le_entries { before ≤ counts.entries }
     requires entries_in_bounds { from + counts.entries < length hits.old }
-    ensures { TakesMarked shape counts numbers.now hashes.now text.now hash (first.now ++ second.now) (part start count numbers.now) from before hits.old result hits.new }
+    ensures { TakesMarked shape counts lists.entry.numbers.now lists.entry.hashes.now lists.entry.text.now label.entry.hash (name_of label.entry) (part block.start block.count lists.entry.numbers.now) from before hits.old result hits.new }
 {
+    let numbers = lists.numbers;
     let owners_at = shape.owners_at();
     let mut total = before;
-    let mut j = 0;
-    let end: Added;
-    loop {
-        if j == count {
-            end = Added::Hits(total);
-            break;
-        }
-        let entry = wide(numbers[start + j]);
-        j += 1;
-        match compare_label(
-            shape, counts, numbers, hashes, text, hash, first, second, entry,
-        ) {
-            Compared::Outside => {
-                end = Added::Damaged;
-                break;
-            }
-            Compared::Same => {
-                let owner = numbers[owners_at + entry];
-                if hits[wide(owner)] != 0 {
-                    if total == counts.entries {
-                        end = Added::Damaged;
-                        break;
-                    }
-                    hits[from + total] = owner;
-                    total += 1;
+    for &number in block_of(numbers, block) {
+        let entry = number as usize;
+        if compare_label(shape, counts, lists, label, entry)? {
+            let owner = numbers[owners_at + entry];
+            if hits[owner as usize] != 0 {
+                if total == counts.entries {
+                    return Err(Damaged);
                 }
+                hits[from + total] = owner;
+                total += 1;
             }
-            Compared::Other => {}
         }
     }
-    end
+    Ok(total)
 }
 
-// Adds the owners of a label's entries in a list that also have an entry of another label there. Each name is given in two parts. Marks of vectors stand
-// in the front of the hits' part: those of the list's owners are cleared, the other label's owners are marked, and of the label's owners the marked ones taken.
+// Adds the owners of a label's entries in a list that also have an entry of another label there. Marks of vectors stand in the front of the hits' part:
+// those of the list's owners are cleared, the other label's owners are marked, and of the label's owners the marked ones taken.
 pub fn add_both(
     shape: Shape,
     counts: Counts,
-    numbers: &[u32],
-    hashes: &[u64],
-    text: &[u8],
+    lists: Lists,
     hits: &mut [u32],
     from: usize,
     before: usize,
-    hash: u64,
-    first: &[u8],
-    second: &[u8],
-    others: u64,
-    other_first: &[u8],
-    other_second: &[u8],
-    start: usize,
-    count: usize,
-) -> Added
-    requires { HitsLent shape counts numbers.now hashes.now text.now hits.old (with_both hash (first.now ++ second.now) others (other_first.now ++ other_second.now)) from before start count }
-    ensures { AddedHits shape counts numbers.now hashes.now text.now (with_both hash (first.now ++ second.now) others (other_first.now ++ other_second.now)) (part start count numbers.now) before (drop from hits.old) result (drop from hits.new) }
+    label: Label,
+    other: Label,
+    block: Block,
+) -> Result<usize, Damaged>
+    requires { HitsLent shape counts lists.numbers.now lists.hashes.now lists.text.now hits.old (with_both label.hash (name_of label) other.hash (name_of other)) from before block.start block.count }
+    ensures { AddedHits shape counts lists.entry.numbers.now lists.entry.hashes.now lists.entry.text.now (with_both label.entry.hash (name_of label.entry) other.entry.hash (name_of other.entry)) (part block.start block.count lists.entry.numbers.now) before (drop from hits.old) result (drop from hits.new) }
 {
-    if !clear_owners(counts, numbers, hits, shape.owners_at(), start, count) {
-        return Added::Damaged;
-    }
-    if !mark_owners(
-        shape,
-        counts,
-        numbers,
-        hashes,
-        text,
-        hits,
-        others,
-        other_first,
-        other_second,
-        start,
-        count,
-    ) {
-        return Added::Damaged;
-    }
-    take_marked(
-        shape, counts, numbers, hashes, text, hits, from, before, hash, first, second, start, count,
-    )
+    clear_owners(counts, lists.numbers, hits, shape.owners_at(), block)?;
+    mark_owners(shape, counts, lists, hits, other, block)?;
+    take_marked(shape, counts, lists, hits, from, before, label, block)
 }

@@ -3,82 +3,53 @@
 
 pub mod both;
 
-ghost use Rattle.std.specs.Prelude.{drop, ◌++◌};
+ghost use Rattle.std.specs.Prelude.{drop};
 ghost use Rattle.lists.specs.Lists.{part};
-ghost use Rattle.walk.specs.Wanted.{sought};
+ghost use Rattle.walk.specs.Wanted.{about};
 ghost use Rattle.leaf_hits.specs.Promises.{AddedHits};
 ghost use Rattle.wanted_hits.specs.Promises.{HitsLent};
 
 use crate::both::add_both;
-use leaf_hits::{Added, add_entries, add_vectors};
-use store::{Counts, Shape};
-use walk::Wanted;
+use leaf_hits::{add_entries, add_vectors};
+use store::{Counts, Lists, Shape};
 use walk::look::Block;
+use walk::{Damaged, Wanted};
 
 // Adds the vectors that a leaf's list is about, and that have what is wanted, to those found, which stand from a place on in the hits' part of the work
-// list. Each label's bytes are given in two parts. A number that does not pass, or one hit too many, is damage.
+// list. A number that does not pass, or one hit too many, is damage.
 pub fn add_hits(
     shape: Shape,
     counts: Counts,
-    numbers: &[u32],
-    hashes: &[u64],
-    text: &[u8],
+    lists: Lists,
     hits: &mut [u32],
     from: usize,
     before: usize,
     wanted: Wanted,
-    first: &[u8],
-    second: &[u8],
-    other_first: &[u8],
-    other_second: &[u8],
     block: Block,
-) -> Added
-    requires { HitsLent shape counts numbers.now hashes.now text.now hits.old (sought wanted (first.now ++ second.now) (other_first.now ++ other_second.now)) from before block.start block.count }
-    ensures { AddedHits shape counts numbers.now hashes.now text.now (sought wanted (first.now ++ second.now) (other_first.now ++ other_second.now)) (part block.start block.count numbers.now) before (drop from hits.old) result (drop from hits.new) }
+) -> Result<usize, Damaged>
+    requires { HitsLent shape counts lists.numbers.now lists.hashes.now lists.text.now hits.old (about wanted) from before block.start block.count }
+    ensures { AddedHits shape counts lists.entry.numbers.now lists.entry.hashes.now lists.entry.text.now (about wanted.entry) (part block.start block.count lists.entry.numbers.now) before (drop from hits.old) result (drop from hits.new) }
 {
-    let start = block.start;
-    let count = block.count;
     let end = hits.len();
     match wanted {
         Wanted::Everything => add_vectors(
             counts,
-            numbers,
+            lists.numbers,
             &mut hits[from..end],
             before,
-            start,
-            count,
+            block,
         ),
-        Wanted::Label(hash) => add_entries(
+        Wanted::Label(label) => add_entries(
             shape,
             counts,
-            numbers,
-            hashes,
-            text,
+            lists,
             &mut hits[from..end],
             before,
-            hash,
-            first,
-            second,
-            start,
-            count,
+            label,
+            block,
         ),
-        Wanted::Both(hash, others) => add_both(
-            shape,
-            counts,
-            numbers,
-            hashes,
-            text,
-            hits,
-            from,
-            before,
-            hash,
-            first,
-            second,
-            others,
-            other_first,
-            other_second,
-            start,
-            count,
+        Wanted::Both(label, other) => add_both(
+            shape, counts, lists, hits, from, before, label, other, block,
         ),
     }
 }

@@ -20,9 +20,9 @@ use Rattle.walk.proofs.WalkLaws.{pushed_one}
 use Rattle.walk.specs.StoreView.{children_shown}
 use Rattle.walk.specs.Promises.{Works}
 use Rattle.walk.proofs.LentLaws.{works_refl, works_trans}
-use Rattle.leaf_hits.specs.declared.Added.TheVariants as added
+use Rattle.std.specs.Prelude.{Ok, Err}
 use Rattle.best_first_walk.specs.MarkLaws.{mark_tells, marked-one, works-marked, found_unmarked, finds-same}
-use Rattle.best_first_walk.specs.ChildLaws.{child_test, children-shown, push_checked, checked_give, checked_nil, checked_fails, checked_again, checked_fresh, fresh-is}
+use Rattle.best_first_walk.specs.ChildLaws.{child_test, children-shown, push_checked, checked_give, checked_nil, checked_fails, checked_again, checked_fresh}
 use Rattle.whole_walk.specs.Promises.{Notes, NotesState}
 
 -- The first j children of a list are marked, and they are pushed, whatever the keys
@@ -46,13 +46,13 @@ module _ (s : Shape) (c : Counts) (found parent : ℕ) (l work₀ : List ℕ) (w
 
   -- all of them
   pub marks-all : length l ≤ j → (hit : ℕ → ℕ) (view : View) (store : Store) (p : Progress) → Notes s c hit p work₀ found
-      → NotesState s c hit (give view (children_shown s c store parent l) p) (added.Hits found) work
+      → NotesState s c hit (give view (children_shown s c store parent l) p) (Ok found) work
   marks-all all hit view store p n =
       let r = m.gives hit view p n in
       let state : give view (children_shown s c store parent l) p ≡ going r.0 =
       left_over hit view store p n ∙ ap (λ (t : List ℕ). push_checked view (child_test c parent) t (going r.0)) (drop_of_length-le l all)
       ∙ checked_nil view (child_test c parent) (going r.0) in
-      subst (λ (st : State). NotesState s c hit st (added.Hits found) work) (sym state) r.1
+      subst (λ (st : State). NotesState s c hit st (Ok found) work) (sym state) r.1
 
   -- the next child
   module _ (child : ℕ) (more : (j < length l) × (get_or l j 0 ≡ child)) where
@@ -61,12 +61,12 @@ module _ (s : Shape) (c : Counts) (found parent : ℕ) (l work₀ : List ℕ) (w
 
     -- that is not fresh is damage
     pub marks-damage : (child_test c parent child && eqb (get_or work (marks_at s + child) 0) 0) ≡ false → (hit : ℕ → ℕ) (view : View) (store : Store) (p : Progress)
-        → Notes s c hit p work₀ found → NotesState s c hit (give view (children_shown s c store parent l) p) added.Damaged work
+        → Notes s c hit p work₀ found → NotesState s c hit (give view (children_shown s c store parent l) p) (Err (record {})) work
     marks-damage f hit view store p n =
         let state : give view (children_shown s c store parent l) p ≡ damaged =
         left_over hit view store p n ∙ ap (λ (t : List ℕ). push_checked view (child_test c parent) t (going (m.gives hit view p n).0)) split
         ∙ go (which (child_test c parent child)) in
-        subst (λ (st : State). NotesState s c hit st added.Damaged work) (sym state) tt
+        subst (λ (st : State). NotesState s c hit st (Err (record {})) work) (sym state) tt
       where
         go : (child_test c parent child ≡ true) ⊎ (child_test c parent child ≡ false)
             → push_checked view (child_test c parent) (child ∷ drop (j + 1) l) (going (m.gives hit view p n).0) ≡ damaged
@@ -83,7 +83,7 @@ module _ (s : Shape) (c : Counts) (found parent : ℕ) (l work₀ : List ℕ) (w
       test : child_test c parent child ≡ true
       test = and_left (child_test c parent child) (eqb (get_or work (marks_at s + child) 0) 0) fresh
 
-      pub child_low : child < c.nodes
+      child_low : child < c.nodes
       child_low = ltb-true child c.nodes (and_right (ltb parent child) (ltb child c.nodes) test)
 
       pub marks-next : Marks s c found parent l work₀ (j + 1) (set work (marks_at s + child) 1)
@@ -107,10 +107,3 @@ module _ (s : Shape) (c : Counts) (found parent : ℕ) (l work₀ : List ℕ) (w
                 );
             works = works_trans s work₀ work (set work (marks_at s + child) 1) m.works (works-marked s work child inside);
           }
-
--- whether a child is fresh, by a test with the node count and the place of the marks
-pub fresh_by : (s : Shape) (c : Counts) (work : List ℕ) (parent child at nodes : ℕ) (r b : Bool) → at ≡ marks_at s → nodes ≡ c.nodes
-    → r ≡ ((ltb parent child && ltb child nodes) && eqb (get_or work (at + child) 0) 0) → r ≡ b
-    → (child_test c parent child && eqb (get_or work (marks_at s + child) 0) 0) ≡ b
-fresh_by s c work parent child at nodes r b p q e f =
-    fresh-is s c work parent child at r b p (e ∙ ap (λ (n : ℕ). (ltb parent child && ltb child n) && eqb (get_or work (at + child) 0) 0) q) f

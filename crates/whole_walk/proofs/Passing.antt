@@ -27,9 +27,9 @@ use Rattle.walk.proofs.BudgetLaws.{walk_more, damaged_stays, none_stays}
 use Rattle.walk.proofs.DifferentLaws.{ChildrenBelow}
 use Rattle.walk.proofs.SameWalkLaws.{walk-last}
 use Rattle.walk.proofs.KeysLaws.{keyed, shown-keyed, SameEnd, keys_free}
-use Rattle.leaf_hits.specs.declared.Added.TheVariants as added
-use Rattle.best_first_walk.specs.declared.Walked.{Walked}
-use Rattle.best_first_walk.specs.declared.Walked.TheVariants as walked
+use Rattle.std.specs.Prelude.{Result, Ok, Err}
+use Rattle.walk.specs.declared.Searched.{Searched}
+use Rattle.walk.specs.declared.Damaged.{Damaged}
 use Rattle.best_first_walk.specs.Walks.{WalkEnds, root_marked}
 use Rattle.best_first_walk.specs.MarkLaws.{Marked, mark_tells, marked-root, works-root}
 use Rattle.whole_walk.specs.Promises.{Notes, NotesState}
@@ -229,35 +229,35 @@ module _ (s : Shape) (c : Counts) (hit : ℕ → ℕ) (view : View) where
 
       -- and the pass goes on
       pub passes-next : (work' : List ℕ) (total : ℕ)
-          → ((q : Progress) → Notes s c hit q work found → NotesState s c hit (give (unkeyed view) (shown view i) q) (added.Hits total) work')
+          → ((q : Progress) → Notes s c hit q work found → NotesState s c hit (give (unkeyed view) (shown view i) q) (Ok total) work')
           → Passes s c hit view work' (i + 1) total (opened + 1)
       passes-next work' total gives = go (give (unkeyed view) (shown view i) opened_at) opened-state opened_rises (gives opened_at opened-notes)
         where
           go : (st : State) → walk (unkeyed view) (opened + 1) ≡ st → Holds (Rises (node_number i ∷ p.opened) (i + 1) (c.nodes - (i + 1))) st
-              → NotesState s c hit st (added.Hits total) work' → Passes s c hit view work' (i + 1) total (opened + 1)
+              → NotesState s c hit st (Ok total) work' → Passes s c hit view work' (i + 1) total (opened + 1)
           go damaged e r n = absurd n
           go (going q) e r n =
               (q, record { notes = n; waits = r.waits; nodes = ap length r.opens ∙ ap suc w.nodes ∙ sym (add-one opened); so_far = e })
 
       -- or ends in damage
       pub passes-damage : (work' : List ℕ)
-          → ((q : Progress) → Notes s c hit q work found → NotesState s c hit (give (unkeyed view) (shown view i) q) added.Damaged work')
+          → ((q : Progress) → Notes s c hit q work found → NotesState s c hit (give (unkeyed view) (shown view i) q) (Err (record {})) work')
           → walk (unkeyed view) (opened + 1) ≡ damaged
       passes-damage work' gives = go (give (unkeyed view) (shown view i) opened_at) opened-state (gives opened_at opened-notes)
         where
-          go : (st : State) → walk (unkeyed view) (opened + 1) ≡ st → NotesState s c hit st added.Damaged work' → walk (unkeyed view) (opened + 1) ≡ damaged
+          go : (st : State) → walk (unkeyed view) (opened + 1) ≡ st → NotesState s c hit st (Err (record {})) work' → walk (unkeyed view) (opened + 1) ≡ damaged
           go damaged e n = e
           go (going q) e n = absurd n
 
 -- ---- how the pass ends
 
 -- walks that end alike, as the work list holds them
-ends_same : (s : Shape) (c : Counts) (hit : ℕ → ℕ) (work : List ℕ) (st st' : State) → SameEnd st st' → (r : Walked) → WalkEnds s c hit st' r work → WalkEnds s c hit st r work
+ends_same : (s : Shape) (c : Counts) (hit : ℕ → ℕ) (work : List ℕ) (st st' : State) → SameEnd st st' → (r : Result Searched Damaged) → WalkEnds s c hit st' r work → WalkEnds s c hit st r work
 ends_same s c hit work damaged damaged e r w = w
 ends_same s c hit work damaged (going q) e r w = absurd e
 ends_same s c hit work (going p) damaged e r w = absurd e
-ends_same s c hit work (going p) (going q) e walked.Damaged w = w
-ends_same s c hit work (going p) (going q) e (walked.Ended found opened complete) w =
+ends_same s c hit work (going p) (going q) e (Err _) w = w
+ends_same s c hit work (going p) (going q) e (Ok r) w =
     let long : length q.found ≡ length p.found = sym (length-sort q.found) ∙ ap length (sym e.found) ∙ length-sort p.found in
     record {
       finds = record { count = w.finds.count ∙ long; held = w.finds.held; are = w.finds.are ∙ sym e.found };
@@ -272,25 +272,25 @@ walk-later view k b h =
     ∙ walk_more view k (b - k) (going (start_progress view)) ∙ ap (walk_from view (b - k)) (sym (walk_is view k))
 
 module _ (s : Shape) (c : Counts) (hit : ℕ → ℕ) (view : View) (fits : c.nodes ≤ 2 ^ 64) (some : 1 ≤ c.nodes) (below : ChildrenBelow view c.nodes) (ef : ℕ) (enough : c.nodes ≤ ef) where
-  carried : (work : List ℕ) (r : Walked) → WalkEnds s c hit (walk (unkeyed view) ef) r work → WalkEnds s c hit (walk view ef) r work
+  carried : (work : List ℕ) (r : Result Searched Damaged) → WalkEnds s c hit (walk (unkeyed view) ef) r work → WalkEnds s c hit (walk view ef) r work
   carried work r w =
       ends_same s c hit work (walk view ef) (walk (unkeyed view) ef)
       (keys_free view (unkeyed view) c.nodes fits some below refl (λ i h. sym (shown-keyed (λ j. 0) view i)) ef enough) r w
 
   -- every node was come to: whole
   pub ends-whole : (work : List ℕ) (i found opened : ℕ) → i ≡ c.nodes → opened ≤ i → Passes s c hit view work i found opened
-      → WalkEnds s c hit (walk view ef) (walked.Ended found opened true) work
+      → WalkEnds s c hit (walk view ef) (Ok (record { hits = found; opened = opened; whole = true })) work
   ends-whole work i found opened all few (p, w) =
       let nothing : p.waiting ≡ [] = w.waits ∙ ap (rising p.pushed i) (let t : c.nodes - i ≡ 0 = omega arith in t) ∙ rising_none p.pushed i in
       let state : walk (unkeyed view) ef ≡ going p =
       walk-later (unkeyed view) opened ef (omega arith) ∙ ap (walk_from (unkeyed view) (ef - opened)) w.so_far ∙ none_stays (unkeyed view) (ef - opened) p nothing in
-      carried work (walked.Ended found opened true)
-      (subst (λ (st : State). WalkEnds s c hit st (walked.Ended found opened true) work) (sym state)
+      carried work (Ok (record { hits = found; opened = opened; whole = true }))
+      (subst (λ (st : State). WalkEnds s c hit st (Ok (record { hits = found; opened = opened; whole = true })) work) (sym state)
       (record { finds = w.notes.finds; nodes = sym w.nodes; all = sym (ap none nothing ∙ nil-waiting) }))
 
   -- damage stays
-  pub ends-damaged : (work : List ℕ) (opened : ℕ) → opened ≤ ef → walk (unkeyed view) opened ≡ damaged → WalkEnds s c hit (walk view ef) walked.Damaged work
+  pub ends-damaged : (work : List ℕ) (opened : ℕ) → opened ≤ ef → walk (unkeyed view) opened ≡ damaged → WalkEnds s c hit (walk view ef) (Err (record {})) work
   ends-damaged work opened few e =
       let state : walk (unkeyed view) ef ≡ damaged =
       walk-later (unkeyed view) opened ef few ∙ ap (walk_from (unkeyed view) (ef - opened)) e ∙ damaged_stays (unkeyed view) (ef - opened) in
-      carried work walked.Damaged (subst (λ (st : State). WalkEnds s c hit st walked.Damaged work) (sym state) tt)
+      carried work (Err (record {})) (subst (λ (st : State). WalkEnds s c hit st (Err (record {})) work) (sym state) tt)

@@ -4,95 +4,74 @@
 #![tactic(auto)]
 
 ghost use Rattle.lists.specs.Lists.{part};
-ghost use Rattle.std.specs.Prelude.{◌++◌};
-ghost use Rattle.walk.specs.Wanted.{sought};
+ghost use Rattle.walk.specs.Wanted.{about};
 ghost use Rattle.whole_walk.specs.Promises.{ChildrenLent, MarksChildren, OpenLent, OpensNode, PassLent, WalksAny};
 
-use best_first_walk::{Walked, found_at, fresh_child, mark_root};
-use leaf_hits::Added;
-use store::{Counts, Shape, wide};
-use walk::Wanted;
-use walk::look::{Block, Look, look_over};
+use best_first_walk::{found_at, fresh_child, mark_root};
+use store::{Counts, Lists, Shape};
+use walk::look::{Block, Look, look_at};
+use walk::{Damaged, Searched, Wanted};
 use wanted_hits::add_hits;
 
-// Marks the children of an inner node; the hits stay. A child that is not fresh is damage.
+// Marks the children of an inner node. A child that is not fresh is damage.
 fn mark_children(
     shape: Shape,
     counts: Counts,
     numbers: &[u32],
     work: &mut [u32],
-    hits: usize,
     parent: usize,
     children: Block,
-) -> Added
+) -> Result<(), Damaged>
     requires { ChildrenLent shape counts numbers.now work.old children.start children.count }
-    ensures { MarksChildren shape counts hits parent (part children.start children.count numbers.now) work.old result work.new }
+    ensures { MarksChildren shape counts parent (part children.start children.count numbers.now) work.old result work.new }
 {
     let nodes = counts.nodes;
     let marks_at = shape.marks_at();
     let start = children.start;
-    let count = children.count;
-    let mut j = 0;
-    let end: Added;
-    loop {
-        if j == count {
-            end = Added::Hits(hits);
-            break;
-        }
-        let child = wide(numbers[start + j]);
+    let end = start + children.count;
+    for &number in &numbers[start..end] {
+        let child = number as usize;
         if !fresh_child(work, marks_at, nodes, parent, child) {
-            end = Added::Damaged;
-            break;
+            return Err(Damaged);
         }
         let at = marks_at + child;
         work[at] = 1;
-        j += 1;
     }
-    end
+    Ok(())
 }
 
 // Opens node i: the hits after those of a leaf, or the children of an inner node are marked, or damage.
 fn open_node(
     shape: Shape,
     counts: Counts,
-    numbers: &[u32],
-    hashes: &[u64],
-    text: &[u8],
+    lists: Lists,
     work: &mut [u32],
     hits: usize,
     wanted: Wanted,
-    first: &[u8],
-    second: &[u8],
-    other_first: &[u8],
-    other_second: &[u8],
     i: usize,
-) -> Added
-    requires { OpenLent shape counts numbers.now hashes.now text.now work.old hits (sought wanted (first.now ++ second.now) (other_first.now ++ other_second.now)) i }
-    ensures { OpensNode shape counts numbers.now hashes.now text.now hits (sought wanted (first.now ++ second.now) (other_first.now ++ other_second.now)) i work.old result work.new }
+) -> Result<usize, Damaged>
+    requires { OpenLent shape counts lists.numbers.now lists.hashes.now lists.text.now work.old hits (about wanted) i }
+    ensures { OpensNode shape counts lists.entry.numbers.now lists.entry.hashes.now lists.entry.text.now hits (about wanted.entry) i work.old result work.new }
 {
     let hits_at = shape.hits_at();
     let hits_end = shape.work_size();
     let from = found_at(shape) - hits_at;
-    let shown = look_over(shape, counts, numbers, hashes, wanted, i);
+    let shown = look_at(shape, counts, lists.numbers, lists.hashes, wanted, i)?;
     match shown {
-        Look::Damaged => Added::Damaged,
         Look::Leaf(list) => add_hits(
             shape,
             counts,
-            numbers,
-            hashes,
-            text,
+            lists,
             &mut work[hits_at..hits_end],
             from,
             hits,
             wanted,
-            first,
-            second,
-            other_first,
-            other_second,
             list,
         ),
-        Look::Inner(children) => mark_children(shape, counts, numbers, work, hits, i, children),
+        Look::Inner(children) => {
+            mark_children(shape, counts, lists.numbers, work, i, children)?;
+            Ok(hits)
+        }
     }
 }
 
@@ -100,64 +79,28 @@ fn open_node(
 pub fn whole_walk(
     shape: Shape,
     counts: Counts,
-    numbers: &[u32],
-    hashes: &[u64],
-    text: &[u8],
+    lists: Lists,
     work: &mut [u32],
     wanted: Wanted,
-    first: &[u8],
-    second: &[u8],
-    other_first: &[u8],
-    other_second: &[u8],
-) -> Walked
-    requires { PassLent shape counts numbers.now hashes.now text.now work.old }
-    ensures { WalksAny shape counts numbers.now hashes.now text.now (sought wanted (first.now ++ second.now) (other_first.now ++ other_second.now)) work.old result work.new }
+) -> Result<Searched, Damaged>
+    requires { PassLent shape counts lists.numbers.now lists.hashes.now lists.text.now work.old }
+    ensures { WalksAny shape counts lists.entry.numbers.now lists.entry.hashes.now lists.entry.text.now (about wanted.entry) work.old result work.new }
 {
     let nodes = counts.nodes;
     let marks_at = shape.marks_at();
     mark_root(shape, counts, work);
-    let mut i = 0;
     let mut opened = 0;
     let mut hits = 0;
-    let end: Walked;
-    'walk: loop {
-        if i == nodes {
-            end = Walked::Ended {
-                hits,
-                opened,
-                whole: true,
-            };
-            break 'walk;
-        }
+    for i in 0..nodes {
         if work[marks_at + i] == 0 {
-            i += 1;
-        } else {
-            opened += 1;
-            match open_node(
-                shape,
-                counts,
-                numbers,
-                hashes,
-                text,
-                work,
-                hits,
-                wanted,
-                first,
-                second,
-                other_first,
-                other_second,
-                i,
-            ) {
-                Added::Damaged => {
-                    end = Walked::Damaged;
-                    break 'walk;
-                }
-                Added::Hits(total) => {
-                    hits = total;
-                    i += 1;
-                }
-            }
+            continue;
         }
+        opened += 1;
+        hits = open_node(shape, counts, lists, work, hits, wanted, i)?;
     }
-    end
+    Ok(Searched {
+        hits,
+        opened,
+        whole: true,
+    })
 }

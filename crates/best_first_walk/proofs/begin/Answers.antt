@@ -9,11 +9,11 @@ use Rattle.store.specs.Store.{marks_at}
 use Rattle.record_queue.specs.RecordsLaws.{heap-none}
 use lib.Seq.{sets, length-sets}
 use lib.ListN.{length, replicate, length-set}
-use mathlib.Core.List.{List, [], ◌∷◌}
-use mathlib.Core.Path.{◌≡◌, sym, ap, subst₂, ◌∙◌}
+use mathlib.Core.List.{[], ◌∷◌}
+use mathlib.Core.Path.{◌≡◌, sym, subst₂, ◌∙◌}
 use native.Mathlib.Omega.{arith}
 use native.Mathlib.Nat.{add-zero}
-use Prim.Native.Nat.{ℕ, ◌+◌, ◌-◌, ◌*◌, ◌^◌}
+use Prim.Native.Nat.{◌+◌, ◌*◌, ◌^◌}
 use Rattle.best_first_walk.proofs.begin.Goals as goal
 use Rattle.best_first_walk.proofs.begin.Goals.{After-mark_root}
 

@@ -1,29 +1,24 @@
 -- `best_first_walk` meets its contract: the walk's loop keeps what `Walking` says, the children's what `Marking` says, and each way out is an end of
--- `Walking`. The measures are the budget and the children that are left. Assumes nothing.
-use Rattle.std.specs.Prelude.{◌-◌, ◌≤◌, ◌+◌, ◌++◌, length}
+-- `Walking`. The measure is the budget. Assumes nothing.
+use Rattle.std.specs.Prelude.{◌-◌}
 use Rattle.best_first_walk.proofs.Walking.{Waits}
 use Rattle.best_first_walk.proofs.Marking.{Marks}
-use Rattle.store.specs.Lent.{store_of}
-use Rattle.walk.specs.Wanted.{sought}
+use Rattle.store.specs.Lent.{stored}
+use Rattle.walk.specs.Wanted.{about}
 use Rattle.walk.specs.StoreView.{hit_at, store_view}
 use Rattle.lists.specs.Lists.{part}
 use Rattle.best_first_walk.proofs.best_first_walk.Given as goal
 
-abbrev pub invariant-loop-j : goal.invariant-loop-j
-invariant-loop-j l =
-    (l.j ≤ l.count)
-    × (l.start + l.count ≤ length l.numbers)
-    × Marks l.shape l.counts (hit_at l.shape l.floats l.numbers l.query)
-    (store_view l.shape l.counts (store_of l.floats l.numbers l.hashes l.text) l.query (sought l.wanted (l.first ++ l.second) (l.other_first ++ l.other_second)))
-    l.ef_search l.initial.work l.node (part l.start l.count l.numbers) l.j l.work l.waiting l.hits l.opened
-
-abbrev pub decreases-loop-j : goal.decreases-loop-j
-decreases-loop-j l = l.count - l.j
+abbrev pub invariant-loop-number : goal.invariant-loop-number
+invariant-loop-number l =
+    Marks l.shape l.counts (hit_at l.shape l.lists.floats.now l.lists.numbers.now l.query)
+    (store_view l.shape l.counts (stored l.lists) l.query (about l.wanted))
+    l.ef_search l.initial.work l.node (part l.start l.count l.numbers) l.number-index l.work l.waiting l.hits l.opened
 
 abbrev pub invariant-walk : goal.invariant-walk
 invariant-walk l =
-    Waits l.shape l.counts (hit_at l.shape l.floats l.numbers l.query)
-    (store_view l.shape l.counts (store_of l.floats l.numbers l.hashes l.text) l.query (sought l.wanted (l.first ++ l.second) (l.other_first ++ l.other_second)))
+    Waits l.shape l.counts (hit_at l.shape l.lists.floats.now l.lists.numbers.now l.query)
+    (store_view l.shape l.counts (stored l.lists) l.query (about l.wanted))
     l.ef_search l.initial.work l.work l.waiting l.hits l.opened
 
 abbrev pub decreases-walk : goal.decreases-walk

@@ -1,92 +1,69 @@
-use Rattle.leaf_hits.specs.Gathering.{gathered_none, gathered_few}
-use Rattle.leaf_hits.proofs.LeafLists.{gathers_further, damage-further}
-use Rattle.leaf_hits.specs.Promises.{GathersBy}
-use Rattle.leaf_hits.specs.declared.Added.{Added}
-use Rattle.leaf_hits.specs.declared.Added.TheVariants as added
+use Rattle.std.specs.Prelude.{Ok, Err}
+use Rattle.std.proofs.Common.{◌≡◌, subst, ◌+◌, ◌-◌, ◌≤◌, arith}
 use Rattle.lists.specs.Lists.{part}
 use Rattle.lists.specs.Parts.{length_part}
-use Rattle.store.specs.declared.Counts.{Counts}
-use Rattle.std.proofs.Common.{ℕ, List, ◌≡◌, refl, subst, ◌∙◌, Bool, ◌&&◌, ltb, eqb, ◌+◌, ◌-◌, ◌≤◌, arith, length, get_or}
-use Rattle.leaf_hits.proofs.gather_entries.Goals.{At-loop-found}
+use Rattle.walk.proofs.Damage.{is_damage}
+use Rattle.leaf_hits.specs.Gathering.{gathered_none, gathered_few}
+use Rattle.leaf_hits.specs.Promises.{GathersHash}
+use Rattle.leaf_hits.proofs.LeafLists.{gathers_further, damage-further}
+use Rattle.leaf_hits.proofs.gather_entries.Goals.{At-loop-read}
 use Rattle.leaf_hits.proofs.gather_entries.Goals as goal
 
-abbrev test : Counts → List ℕ → ℕ → ℕ → Bool
-test counts numbers at x = ltb x counts.entries && ltb (get_or numbers (at + x) 0) counts.vectors
-
-abbrev wants : List ℕ → ℕ → ℕ → Bool
-wants hashes hash x = eqb (get_or hashes x 0) hash
-
--- of those read, and the m behind them
-further : (t : At-loop-found) (m : ℕ) (r : Added) (found : List ℕ) → let a = t.args in
-    GathersBy (test a.counts a.numbers.now a.owners_at) (wants a.hashes.now a.hash) (λ x. x) (a.counts.entries + 1) (part (a.start + t.loop-found.read) m a.numbers.now)
-    t.loop-found.total t.loop-found.found r found
-    → GathersBy (test a.counts a.numbers.now a.owners_at) (wants a.hashes.now a.hash) (λ x. x) (a.counts.entries + 1) (part a.start (t.loop-found.read + m) a.numbers.now)
-    a.before a.found.now r found
-further t m r found came =
-    let a = t.args in
-    gathers_further (test a.counts a.numbers.now a.owners_at) (wants a.hashes.now a.hash) (λ x. x) (a.counts.entries + 1) a.numbers.now a.start a.before
-    t.loop-found.read m t.loop-found.total a.found.now t.loop-found.found found r t.loop-found.invariant.gathered came
-
 -- no more were gathered than read
-few : (t : At-loop-found) → t.loop-found.total ≤ t.args.before + t.loop-found.read
+few : (t : At-loop-read) → t.loop-read.total ≤ t.args.before + t.loop-read.read
 few t =
     let a = t.args in
     omega (
       arith,
-      gathered_few (test a.counts a.numbers.now a.owners_at) (wants a.hashes.now a.hash) (λ x. x) (a.counts.entries + 1) (part a.start t.loop-found.read a.numbers.now)
-          a.before t.loop-found.total a.found.now t.loop-found.found t.loop-found.invariant.gathered,
-      length_part a.start t.loop-found.read a.numbers.now (omega (arith, t.requires.block, t.loop-found.invariant.within)),
+      gathered_few _ _ _ _ _ _ _ _ _ t.loop-read.invariant.gathered,
+      length_part a.block.start t.loop-read.read a.lists.numbers.now (omega (arith, t.requires.block, t.loop-read.invariant.within)),
     )
 
-pub loop-found-init : goal.loop-found-init
-loop-found-init c =
-    let a = c.args in
-    record {
-      within = omega arith;
-      gathered = gathered_none (test a.counts a.numbers.now a.owners_at) (wants a.hashes.now a.hash) (λ x. x) (a.counts.entries + 1) a.before a.found.now
-          (omega (arith, c.requires.few));
-      size = refl;
-    }
-
-pub gather_rest-end-requires : goal.gather_rest-end-requires
-gather_rest-end-requires c =
-    let f = few ((goal.at.gather_rest-end-requires c).At-loop-found) in
-    record {
-      owners_held = c.requires.owners_held;
-      hashes_held = c.requires.hashes_held;
-      block = omega arith;
-      few = omega (arith, f, c.requires.few);
-      room = omega (arith, c.requires.room, c.loop-found.invariant.size);
-    }
+pub loop-read-init : goal.loop-read-init
+loop-read-init c = record {
+  within = omega arith;
+  gathered = gathered_none _ _ _ _ _ _ (omega (arith, c.requires.few));
+}
 
 pub gather_four-requires : goal.gather_four-requires
 gather_four-requires c =
-    let f = few ((goal.at.gather_four-requires c).At-loop-found) in
+    let f = few ((goal.at.gather_four-requires c).At-loop-read) in
     record {
       owners_held = c.requires.owners_held;
       hashes_held = c.requires.hashes_held;
       block = omega arith;
       few = omega (arith, f, c.requires.few);
-      room = omega (arith, c.requires.room, c.loop-found.invariant.size);
+      room = omega (arith, c.requires.room);
     }
 
-pub loop-found-preserved : goal.loop-found-preserved
-loop-found-preserved c = record {
+pub gather_rest-requires : goal.gather_rest-requires
+gather_rest-requires c =
+    let f = few ((goal.at.gather_rest-requires c).At-loop-read) in
+    record {
+      owners_held = c.requires.owners_held;
+      hashes_held = c.requires.hashes_held;
+      block = omega arith;
+      few = omega (arith, f, c.requires.few);
+      room = omega (arith, c.requires.room);
+    }
+
+pub loop-read-preserved : goal.loop-read-preserved
+loop-read-preserved c = record {
   within = omega arith;
-  gathered = further ((goal.at.loop-found-preserved c).At-loop-found) 4 (added.Hits c.in-Hits.more) c.gather_four.new.found c.in-Hits.ensures;
-  size = c.gather_four.auto.found ∙ c.loop-found.invariant.size;
+  gathered = gathers_further _ _ _ _ c.args.lists.numbers.now c.args.block.start _ c.loop-read.read 4 _ _ _ _ (Ok c.in_ok-total.total) c.loop-read.invariant.gathered c.in_ok-total.ensures;
 }
 
-pub returns-then-left-lt4 : goal.returns-then-left-lt4
-returns-then-left-lt4 c =
+pub returns-in_err-total : goal.returns-in_err-total
+returns-in_err-total c =
     let a = c.args in
-    let all : c.loop-found.read + (a.count - c.loop-found.read) ≡ a.count = omega arith in
-    subst (λ (n : ℕ). GathersBy (test a.counts a.numbers.now a.owners_at) (wants a.hashes.now a.hash) (λ x. x) (a.counts.entries + 1) (part a.start n a.numbers.now)
-    a.before a.found.now c.gather_rest-end.result c.gather_rest-end.new.found) all
-    (further ((goal.at.returns-then-left-lt4 c).At-loop-found) (a.count - c.loop-found.read) c.gather_rest-end.result c.gather_rest-end.new.found c.gather_rest-end.ensures)
+    rw (is_damage c.from_residual.result c.from_residual.ensures.0)
+    (damage-further _ _ _ _ a.lists.numbers.now a.block.start _ (c.loop-read.read + 4) _ (omega arith)
+    (gathers_further _ _ _ _ a.lists.numbers.now a.block.start _ c.loop-read.read 4 _ _ _ c.gather_four.new.found (Err (record {})) c.loop-read.invariant.gathered c.in_err-total.ensures))
 
-pub returns-in-Damaged : goal.returns-in-Damaged
-returns-in-Damaged c =
+pub returns : goal.returns
+returns c =
     let a = c.args in
-    damage-further (test a.counts a.numbers.now a.owners_at) (wants a.hashes.now a.hash) (λ x. x) (a.counts.entries + 1) a.numbers.now a.start a.before (c.loop-found.read + 4) a.count
-    (omega arith) (further ((goal.at.returns-in-Damaged c).At-loop-found) 4 added.Damaged c.gather_four.new.found c.in-Damaged.ensures)
+    let all : c.loop-read.read + (a.block.count - c.loop-read.read) ≡ a.block.count = omega arith in
+    subst (λ n. GathersHash a.counts a.lists.numbers.now a.lists.hashes.now a.hash a.owners_at (part a.block.start n a.lists.numbers.now)
+    a.before a.found.now c.gather_rest.result c.gather_rest.new.found) all
+    (gathers_further _ _ _ _ a.lists.numbers.now a.block.start _ c.loop-read.read _ _ _ _ _ c.gather_rest.result c.loop-read.invariant.gathered c.gather_rest.ensures)

@@ -5,7 +5,7 @@ use Rattle.lists.specs.Lists.{part}
 use mathlib.Core.List.{List}
 use mathlib.Core.Path.{◌≡◌, subst}
 use native.Mathlib.Omega.{arith}
-use Prim.Native.Nat.{ℕ, ◌+◌, ◌-◌, ◌^◌, ◌≤◌, ◌<◌}
+use Prim.Native.Nat.{ℕ, ◌+◌, ◌≤◌}
 use Rattle.waiting_nodes.proofs.push_children.Goals.{At-loop-j}
 use Rattle.waiting_nodes.proofs.push_children.Goals as goal
 

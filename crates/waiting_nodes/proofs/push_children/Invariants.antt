@@ -1,5 +1,5 @@
 -- `push_children` meets its contract: the loop keeps the first j nodes, four more a turn or one. The measure is the nodes left. Assumes nothing.
-use Rattle.std.proofs.Common.{◌-◌, ◌+◌, ◌≤◌}
+use Rattle.std.proofs.Common.{◌-◌, ◌≤◌}
 use Rattle.lists.specs.Lists.{part}
 use Rattle.waiting_nodes.specs.Promises.{waiting_records, PushedNodes}
 use Rattle.waiting_nodes.proofs.push_children.Given as goal

@@ -10,52 +10,21 @@ use lib.ListN.{length}
 use mathlib.Core.List.{List, [], ◌∷◌}
 use mathlib.Core.Path.{◌≡◌, refl, ap, ◌∙◌, subst}
 use native.Mathlib.Omega.{arith}
+use lib.ListN.{get_or}
 use Prim.Native.Nat.{ℕ, ◌+◌, ◌*◌, ◌≤◌, ◌<◌}
-use Rattle.waiting_nodes.proofs.push_four.Goals.{After-push_node, After-push_node-2, After-push_node-3, After-wide-d}
+use Rattle.waiting_nodes.proofs.push_four.Goals.{After-push_node, After-push_node-2, After-push_node-3, Start}
 use Rattle.waiting_nodes.proofs.push_four.Goals as goal
 
--- the four numbers are read
-abbrev Read : Type 0
-Read = After-wide-d
-
-abbrev a : Read → ℕ
-a r = r.wide-a.result
-
-abbrev b : Read → ℕ
-b r = r.wide-b.result
-
-abbrev c' : Read → ℕ
-c' r = r.wide-c.result
-
-abbrev d : Read → ℕ
-d r = r.wide-d.result
-
-low-a : (r : Read) → a r < r.args.shape.nodes
-low-a r =
-    let e = r in
-    child_held e.args.shape e.args.numbers.now e.args.at 4 0 e.args.at (a r) e.requires.children (omega arith) (omega arith) r.wide-a.ensures.0
-
-low-b : (r : Read) → b r < r.args.shape.nodes
-low-b r =
-    let e = r in
-    child_held e.args.shape e.args.numbers.now e.args.at 4 1 (e.args.at + 1) (b r) e.requires.children (omega arith) refl r.wide-b.ensures.0
-
-low-c : (r : Read) → c' r < r.args.shape.nodes
-low-c r =
-    let e = r in
-    child_held e.args.shape e.args.numbers.now e.args.at 4 2 (e.args.at + 2) (c' r) e.requires.children (omega arith) refl r.wide-c.ensures.0
-
-low-d : (r : Read) → d r < r.args.shape.nodes
-low-d r =
-    let e = r in
-    child_held e.args.shape e.args.numbers.now e.args.at 4 3 (e.args.at + 3) (d r) e.requires.children (omega arith) refl r.wide-d.ensures.0
+-- a number read is that of a node
+low : (r : Start) (k at : ℕ) → k < 4 → at ≡ r.args.at + k → get_or r.args.numbers.now at 0 < r.args.shape.nodes
+low r k at h e =
+    child_held r.args.shape r.args.numbers.now r.args.at 4 k at _ r.requires.children h e refl
 
 -- a centroid lies within the floats
-within : (r : Read) (i : ℕ) → i < r.args.shape.nodes
+within : (r : Start) (i : ℕ) → i < r.args.shape.nodes
     → (r.args.shape.vectors + i) * r.args.shape.dimension + r.args.shape.dimension ≤ length r.args.floats.now
 within r i h =
-    let e = r in
-    vector-within e.args.shape e.args.floats.now (e.args.shape.vectors + i) (e.args.shape.vectors + e.args.shape.nodes) e.requires.nodes.limits e.requires.floats_enough (omega (arith, h)) (omega arith)
+    vector-within r.args.shape r.args.floats.now (r.args.shape.vectors + i) (r.args.shape.vectors + r.args.shape.nodes) r.requires.nodes.limits r.requires.floats_enough (omega (arith, h)) (omega arith)
 
 -- each is pushed
 abbrev Pushed1 : Type 0
@@ -98,27 +67,27 @@ after3 p =
 
 pub distances_at-four-requires : goal.distances_at-four-requires
 distances_at-four-requires c =
-    let r = (goal.at.distances_at-four-requires c).After-wide-d in
+    let r = (goal.at.distances_at-four-requires c).Start in
     record {
-      dimension_in_bounds = within r (a r) (low-a r);
-      dimension_in_bounds_2 = within r (b r) (low-b r);
-      dimension_in_bounds_3 = within r (c' r) (low-c r);
-      dimension_in_bounds_4 = within r (d r) (low-d r);
+      dimension_in_bounds = within r _ (low r 0 _ (omega arith) (omega arith));
+      dimension_in_bounds_2 = within r _ (low r 1 _ (omega arith) (omega arith));
+      dimension_in_bounds_3 = within r _ (low r 2 _ (omega arith) (omega arith));
+      dimension_in_bounds_4 = within r _ (low r 3 _ (omega arith) (omega arith));
     }
 
 pub push_node-requires : goal.push_node-requires
 push_node-requires c =
     let w = c.requires.nodes in
-    record { nodes = record { size = w.size; limits = w.limits; room = omega (arith, w.room); queue = w.queue }; below = low-a ((goal.at.push_node-requires c).After-wide-d) }
+    record { nodes = record { size = w.size; limits = w.limits; room = omega (arith, w.room); queue = w.queue }; below = low ((goal.at.push_node-requires c).Start) 0 _ (omega arith) (omega arith) }
 
 pub push_node-requires-2 : goal.push_node-requires-2
-push_node-requires-2 c = record { nodes = after1 ((goal.at.push_node-requires-2 c).After-push_node); below = low-b ((goal.at.push_node-requires-2 c).After-wide-d) }
+push_node-requires-2 c = record { nodes = after1 ((goal.at.push_node-requires-2 c).After-push_node); below = low ((goal.at.push_node-requires-2 c).Start) 1 _ (omega arith) (omega arith) }
 
 pub push_node-requires-3 : goal.push_node-requires-3
-push_node-requires-3 c = record { nodes = after2 ((goal.at.push_node-requires-3 c).After-push_node-2); below = low-c ((goal.at.push_node-requires-3 c).After-wide-d) }
+push_node-requires-3 c = record { nodes = after2 ((goal.at.push_node-requires-3 c).After-push_node-2); below = low ((goal.at.push_node-requires-3 c).Start) 2 _ (omega arith) (omega arith) }
 
 pub push_node-requires-4 : goal.push_node-requires-4
-push_node-requires-4 c = record { nodes = after3 ((goal.at.push_node-requires-4 c).After-push_node-3); below = low-d ((goal.at.push_node-requires-4 c).After-wide-d) }
+push_node-requires-4 c = record { nodes = after3 ((goal.at.push_node-requires-4 c).After-push_node-3); below = low ((goal.at.push_node-requires-4 c).Start) 3 _ (omega arith) (omega arith) }
 
 pub returns : goal.returns
 returns c =
@@ -133,8 +102,8 @@ returns c =
     let all = pushed-append s w c.push_node-3.new.work c.push_node-4.new.work q (q + 3) (_ ∷ _ ∷ _ ∷ []) (_ ∷ []) refl first_three c.push_node-4.ensures in
     subst (λ (l : List ℕ). PushedNodes s w q l c.push_node-4.new.work)
     (four_mapped f c.args.numbers.now c.args.at 0 _ _ _ _ c.requires.children.inside
-    (node _ c.wide-a.result _ _ (c.key.ensures ∙ ap key_of at.a_value) refl c.wide-a.ensures.0)
-    (node _ c.wide-b.result _ _ (c.key-2.ensures ∙ ap key_of at.b_value) refl c.wide-b.ensures.0)
-    (node _ c.wide-c.result _ _ (c.key-3.ensures ∙ ap key_of at.c_value) refl c.wide-c.ensures.0)
-    (node _ c.wide-d.result _ _ (c.key-4.ensures ∙ ap key_of at.d_value) refl c.wide-d.ensures.0))
+    (node _ _ _ _ (c.key.ensures ∙ ap key_of at.a_value) refl refl)
+    (node _ _ _ _ (c.key-2.ensures ∙ ap key_of at.b_value) refl refl)
+    (node _ _ _ _ (c.key-3.ensures ∙ ap key_of at.c_value) refl refl)
+    (node _ _ _ _ (c.key-4.ensures ∙ ap key_of at.d_value) refl refl))
     all

@@ -1,15 +1,9 @@
--- `mark_children` meets its contract: the loop keeps `Marks`, and each way out is one of its ends. The measure is the children that are left. Assumes
--- nothing.
-use Rattle.std.specs.Prelude.{◌-◌, ◌+◌, ◌≤◌, length}
+-- `mark_children` meets its contract: the loop keeps `Marks`, whatever was found, and each way out is one of its ends. Assumes nothing.
+use Rattle.std.specs.Prelude.{ℕ}
 use Rattle.lists.specs.Lists.{part}
 use Rattle.whole_walk.proofs.Marking.{Marks}
 use Rattle.whole_walk.proofs.mark_children.Given as goal
 
-abbrev pub invariant-loop-j : goal.invariant-loop-j
-invariant-loop-j l =
-    (l.j ≤ l.count)
-    × (l.start + l.count ≤ length l.numbers)
-    × Marks l.fn.shape l.fn.counts l.hits l.parent (part l.start l.count l.numbers) l.initial.work l.j l.work
-
-abbrev pub decreases-loop-j : goal.decreases-loop-j
-decreases-loop-j l = l.count - l.j
+abbrev pub invariant-loop-number : goal.invariant-loop-number
+invariant-loop-number l =
+    (found : ℕ) → Marks l.fn.shape l.fn.counts found l.parent (part l.fn.children.start l.fn.children.count l.numbers) l.initial.work l.number-index l.work

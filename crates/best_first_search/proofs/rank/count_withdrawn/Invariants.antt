@@ -1,11 +1,7 @@
--- `count_withdrawn` meets its contract: so many of the first j numbers are of withdrawn vectors. The measure is how many numbers are left. Assumes nothing.
-use Rattle.best_first_search.proofs.Struck.{Passed}
+-- `count_withdrawn` meets its contract: so many of the first numbers are of withdrawn vectors. Assumes nothing.
+use Rattle.best_first_search.proofs.Struck.{Passed, counted_part}
 use Rattle.best_first_search.specs.Ranks.{withdrawn}
-use Prim.Native.Nat.{◌-◌}
 use Rattle.best_first_search.proofs.rank.count_withdrawn.Given as goal
 
-abbrev pub invariant-loop-j : goal.invariant-loop-j
-invariant-loop-j l = Passed (withdrawn l.marks) l.list l.from l.found l.count l.j
-
-abbrev pub decreases-loop-j : goal.decreases-loop-j
-decreases-loop-j l = l.found - l.j
+abbrev pub invariant-loop-vector : goal.invariant-loop-vector
+invariant-loop-vector l = Passed (withdrawn l.marks) (counted_part l.from l.found l.list) l.count l.vector-index

@@ -40,5 +40,5 @@ returns c =
     let a = c.args in
     let l = (goal.at.returns c).After-live_at-start in
     firsts_live a.shape a.counts a.floats.now a.numbers.now a.query.now a.from a.found a.heap.now c.requires.vectors
-    (marks l) _ _ a.ids.now _ a.distances.now _ a.k c.documents_asked-documents.result c.rank-total.result c.take_hits-taken.result (marks-are l)
-    c.documents_asked-documents.ensures c.rank-total.ensures c.take_hits-taken.ensures
+    (marks l) _ _ a.ids.now _ a.distances.now _ a.k c.documents_asked-documents.result c.rank-total.result c.take_hits.result (marks-are l)
+    c.documents_asked-documents.ensures c.rank-total.ensures c.take_hits.ensures

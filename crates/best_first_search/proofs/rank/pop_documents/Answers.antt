@@ -15,7 +15,7 @@ loop-hits-preserved-then-document-last c =
     let a = c.args in
     let loop = c.loop-hits in
     popping_other a.heap.now a.count a.k loop.heap _ loop.hits loop.left loop.last loop.key c.pop_behind-least.result loop.invariant c.pop_behind-least.ensures
-    (omega (arith, c.if-left-eq0.false)) (omega arith) c.if-document-last.true c.if-hits-k.false
+    (omega (arith, c.if-left-eq0.false)) (omega arith) c.if-document-last.true c.loop-hits-test.true
 
 pub loop-hits-preserved : goal.loop-hits-preserved
 loop-hits-preserved c =
@@ -24,11 +24,11 @@ loop-hits-preserved c =
     popping_same a.heap.now a.count a.k loop.heap _ loop.hits loop.left loop.last loop.key c.pop_behind-least.result loop.invariant c.pop_behind-least.ensures
     (omega (arith, c.if-left-eq0.false)) (omega arith) c.if-document-last.false
 
-pub returns-then-hits-k : goal.returns-then-hits-k
-returns-then-hits-k c =
+pub returns : goal.returns
+returns c =
     let a = c.args in
     let loop = c.loop-hits in
-    pops_enough a.heap.now a.count a.k loop.heap loop.hits loop.left loop.last loop.key loop.invariant c.if-hits-k.true
+    pops_enough a.heap.now a.count a.k loop.heap loop.hits loop.left loop.last loop.key loop.invariant c.loop-hits-test.false
 
 pub returns-then-left-eq0 : goal.returns-then-left-eq0
 returns-then-left-eq0 c =

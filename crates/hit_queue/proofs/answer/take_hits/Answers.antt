@@ -1,4 +1,4 @@
-use Rattle.hit_queue.proofs.Taking.{due-same, due-struck, taking_start, taking_skip, taking_other, taken-k, taken-all}
+use Rattle.hit_queue.proofs.Taking.{due-same, due-struck, taking_start, taking_skip, taking_other, taken-all}
 use Rattle.walk.specs.Answer.{is_live}
 use Rattle.std.proofs.Common.{sym, ◌∙◌, arith}
 use Rattle.hit_queue.proofs.answer.take_hits.Goals as goal
@@ -12,25 +12,17 @@ pop-least-requires c =
     record {
       narrow = omega arith;
       wide = omega arith;
-      some = omega (arith, c.if-left-eq0.false);
+      some = c.if-left-gt0.true;
       room = omega (arith, c.loop-hits.invariant.few, c.loop-hits.invariant.size, c.requires.room);
       heap = c.loop-hits.invariant.queue;
     }
-
-pub bounds-ids-hits : goal.bounds-ids-hits
-bounds-ids-hits c =
-    omega (arith, c.loop-hits.invariant.within, c.if-hits-k.false, c.requires.ids_room, c.loop-hits.auto.ids)
-
-pub bounds-distances-hits : goal.bounds-distances-hits
-bounds-distances-hits c =
-    omega (arith, c.loop-hits.invariant.within, c.if-hits-k.false, c.requires.distances_room, c.loop-hits.auto.distances)
 
 pub loop-hits-preserved-then-live : goal.loop-hits-preserved-then-live
 loop-hits-preserved-then-live c =
     let loop = c.loop-hits in
     let a = c.args in
     taking_other (is_live a.marks.now) a.heap.now a.count a.k a.ids.now a.distances.now loop.heap _ loop.ids loop.distances loop.hits loop.left loop.last
-    c.pop-least.result _ loop.invariant c.pop-least.ensures (omega arith) c.if-document-last.true (sym c.live.ensures ∙ c.if-live.true) c.if-hits-k.false
+    c.pop-least.result _ loop.invariant c.pop-least.ensures (omega arith) c.if-document-last.true (sym c.live.ensures ∙ c.if-live.true) (omega arith)
     c.from_key.ensures
 
 pub loop-hits-preserved-else-live : goal.loop-hits-preserved-else-live
@@ -49,16 +41,9 @@ loop-hits-preserved c =
     c.pop-least.result loop.invariant c.pop-least.ensures
     (due-same (is_live a.marks.now) loop.heap _ loop.left loop.last c.pop-least.result c.pop-least.ensures (omega arith) c.if-document-last.false)
 
-pub returns-then-hits-k : goal.returns-then-hits-k
-returns-then-hits-k c =
-    let loop = c.loop-hits in
-    let a = c.args in
-    taken-k (is_live a.marks.now) a.heap.now a.count a.k a.ids.now a.distances.now loop.heap loop.ids loop.distances loop.hits loop.left
-    loop.last c.if-hits-k.true loop.invariant
-
-pub returns-then-left-eq0 : goal.returns-then-left-eq0
-returns-then-left-eq0 c =
+pub returns-else-left-gt0 : goal.returns-else-left-gt0
+returns-else-left-gt0 c =
     let loop = c.loop-hits in
     let a = c.args in
     taken-all (is_live a.marks.now) a.heap.now a.count a.k a.ids.now a.distances.now loop.heap loop.ids loop.distances loop.hits loop.left
-    loop.last c.if-left-eq0.true loop.invariant
+    loop.last (omega arith) loop.invariant

@@ -1,5 +1,4 @@
 -- `look::denied` meets its contract: everything is denied nowhere, a label where the filter lacks one of its hash's bits, two where either is. Assumes nothing.
-use Rattle.std.proofs.Common.{Bool, not, ◌||◌, ap₂}
 use Rattle.walk.specs.Wanted.{denies}
 use Rattle.walk.proofs.look.denied.Goals as goal
 

@@ -1,39 +1,48 @@
 -- `look::node_at` meets its contract: what was read of the node decides what it shows. Assumes nothing.
-use Rattle.walk.proofs.Looks.{shows_leaf, shows_inner, leaf_look, inner_look}
-use Rattle.walk.specs.Wanted.{sought}
-use Rattle.walk.specs.Promises.{Placing, LeafPlacing, Shows}
-use Rattle.walk.specs.declared.look.Placed.{Placed}
-use Rattle.walk.specs.declared.look.Placed.TheVariants.{Outside, Within}
+use Rattle.std.proofs.Common.{◌≡◌, ℕ, List, ◌+◌, ◌*◌, get_or, subst, subst₂}
+use Rattle.std.specs.Prelude.{Result, Ok, Err}
+use Rattle.store.specs.declared.Shape.{Shape}
+use Rattle.store.specs.declared.Counts.{Counts}
 use Rattle.store.specs.Store.{nodes_at, links_at}
-use lib.ListN.{get_or}
-use mathlib.Core.Path.{◌≡◌, subst, subst₂}
-use Prim.Native.Nat.{ℕ, ◌+◌, ◌*◌}
-use Rattle.walk.proofs.look.node_at.Goals.{After-block_at-children, After-leaf_list-list}
+use Rattle.walk.specs.declared.Wanted.{Wanted}
+use Rattle.walk.specs.declared.Damaged.{Damaged}
+use Rattle.walk.specs.declared.look.Block.{Block}
+use Rattle.walk.specs.Wanted.{sought}
+use Rattle.walk.specs.Promises.{Placing, LeafPlacing, LeafPlaced, Shows}
+use Rattle.walk.proofs.Damage.{is_damage}
+use Rattle.walk.proofs.Looks.{shows_leaf, shows_inner, leaf_look, inner_look}
 use Rattle.walk.proofs.look.node_at.Goals as goal
 
-leaf-shows : (l : After-leaf_list-list) (r : Placed) → l.leaf_list-list.result ≡ r → Shows l.args.shape l.args.counts l.args.numbers.now l.args.wanted l.args.i (leaf_look r)
-leaf-shows l r is name other =
-    let a = l.args in
-    shows_leaf a.shape a.counts a.numbers.now (sought a.wanted name other) a.i
-    (subst (λ (at : ℕ). get_or a.numbers.now (at + a.i * 6 + 1) 0 ≡ 0) l.nodes_at.ensures l.if-numbers-at-eq0.true) r
-    (subst₂ (λ (at : ℕ) (r : Placed). LeafPlacing a.shape a.counts a.numbers.now (sought a.wanted name other) (at + a.i * 6) r) l.nodes_at.ensures is (l.leaf_list-list.ensures name other))
+leaf-shows : (s : Shape) (c : Counts) (numbers : List ℕ) (wanted : Wanted) (i at : ℕ) (r : Result Block Damaged) → at ≡ nodes_at s
+    → get_or numbers (at + i * 6 + 1) 0 ≡ 0 → LeafPlaced s c numbers wanted (at + i * 6) r → Shows s c numbers wanted i (leaf_look r)
+leaf-shows s c numbers wanted i at r e z h name other =
+    shows_leaf s c numbers (sought wanted name other) i (subst (λ (at : ℕ). get_or numbers (at + i * 6 + 1) 0 ≡ 0) e z) r
+    (subst (λ (at : ℕ). LeafPlacing s c numbers (sought wanted name other) (at + i * 6) r) e (h name other))
 
-inner_shows : (b : After-block_at-children) (r : Placed) → b.block_at-children.result ≡ r → Shows b.args.shape b.args.counts b.args.numbers.now b.args.wanted b.args.i (inner_look r)
-inner_shows b r is name other =
-    let a = b.args in
-    shows_inner a.shape a.counts a.numbers.now (sought a.wanted name other) a.i
-    (subst (λ (at : ℕ). get_or a.numbers.now (at + a.i * 6 + 1) 0 ≡ 0 → ⊥) b.nodes_at.ensures b.if-numbers-at-eq0.false) r
-    (subst (λ (r : Placed). Placing a.numbers.now (nodes_at a.shape + a.i * 6) (links_at a.shape) a.counts.nodes r) is
-    (subst₂ (λ (at base : ℕ). Placing a.numbers.now (at + a.i * 6) base a.counts.nodes b.block_at-children.result) b.nodes_at.ensures b.links_at.ensures b.block_at-children.ensures))
+inner_shows : (s : Shape) (c : Counts) (numbers : List ℕ) (wanted : Wanted) (i at base : ℕ) (r : Result Block Damaged) → at ≡ nodes_at s → base ≡ links_at s
+    → (get_or numbers (at + i * 6 + 1) 0 ≡ 0 → ⊥) → Placing numbers (at + i * 6) base c.nodes r → Shows s c numbers wanted i (inner_look r)
+inner_shows s c numbers wanted i at base r e d n h name other =
+    shows_inner s c numbers (sought wanted name other) i (subst (λ (at : ℕ). get_or numbers (at + i * 6 + 1) 0 ≡ 0 → ⊥) e n) r
+    (subst₂ (λ (at base : ℕ). Placing numbers (at + i * 6) base c.nodes r) e d h)
 
-pub returns-in-Outside : goal.returns-in-Outside
-returns-in-Outside c = leaf-shows ((goal.at.returns-in-Outside c).After-leaf_list-list) Outside c.in-Outside.is
+pub returns-in_err-list : goal.returns-in_err-list
+returns-in_err-list c =
+    let a = c.args in
+    rw (is_damage c.from_residual.result c.from_residual.ensures.0)
+    (leaf-shows a.shape a.counts a.numbers.now a.wanted a.i _ (Err (record {})) c.nodes_at.ensures c.if-numbers-at-eq0.true c.in_err-list.ensures)
 
-pub returns-in-Within : goal.returns-in-Within
-returns-in-Within c = leaf-shows ((goal.at.returns-in-Within c).After-leaf_list-list) (Within c.in-Within.block) c.in-Within.is
+pub returns-then-numbers-at-eq0 : goal.returns-then-numbers-at-eq0
+returns-then-numbers-at-eq0 c =
+    let a = c.args in
+    leaf-shows a.shape a.counts a.numbers.now a.wanted a.i _ (Ok c.in_ok-list.list) c.nodes_at.ensures c.if-numbers-at-eq0.true c.in_ok-list.ensures
 
-pub returns-in-Outside-children : goal.returns-in-Outside-children
-returns-in-Outside-children c = inner_shows ((goal.at.returns-in-Outside-children c).After-block_at-children) Outside c.in-Outside-children.is
+pub returns-in_err-children : goal.returns-in_err-children
+returns-in_err-children c =
+    let a = c.args in
+    rw (is_damage c.from_residual-in_err-children.result c.from_residual-in_err-children.ensures.0)
+    (inner_shows a.shape a.counts a.numbers.now a.wanted a.i _ _ (Err (record {})) c.nodes_at.ensures c.links_at.ensures c.if-numbers-at-eq0.false c.in_err-children.ensures)
 
-pub returns-in-Within-children : goal.returns-in-Within-children
-returns-in-Within-children c = inner_shows ((goal.at.returns-in-Within-children c).After-block_at-children) (Within c.in-Within-children.block) c.in-Within-children.is
+pub returns : goal.returns
+returns c =
+    let a = c.args in
+    inner_shows a.shape a.counts a.numbers.now a.wanted a.i _ _ (Ok c.in_ok-children.children) c.nodes_at.ensures c.links_at.ensures c.if-numbers-at-eq0.false c.in_ok-children.ensures
