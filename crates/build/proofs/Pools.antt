@@ -3,7 +3,7 @@
 use Rattle.std.specs.Prelude.{ℕ, ◌≤◌, ◌<◌, false, List, ◌≡◌}
 use Rattle.std.proofs.Common.{sym, subst}
 use Rattle.store.specs.Store.{Store, node_field}
-use Rattle.curator.specs.declared.Changed.TheVariants as Changed'
+use Rattle.std.specs.Prelude.{Ok}
 use Rattle.curator.specs.declared.CuratorIndex.{CuratorIndex}
 use Rattle.curator.specs.Limits.{index_shape}
 use Rattle.curator.specs.Calls.{held_vectors, held_entries, splitting_of}
@@ -15,7 +15,7 @@ use Rattle.build.proofs.PooledLaws.{laid_pooled}
 
 -- of every state, store and work list: each node below the node count whose count of children is not 0
 pub build_pools : (index : CuratorIndex) (store : Store) (work : List ℕ) (index' : CuratorIndex) (store' : Store) (work' : List ℕ)
-    → Builds index store work (Changed'.Index index') store' work' → index.built ≡ false
+    → Builds index store work (Ok index') store' work' → index.built ≡ false
     → (i : ℕ) → i < index'.counts.nodes → 1 ≤ node_field (index_shape index) store'.numbers i 1
     → Pooled (index_shape index) index'.counts.nodes store' i
 unfolding held_nodes

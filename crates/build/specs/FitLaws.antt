@@ -10,7 +10,7 @@ use Rattle.store.specs.Lent.{lengths_of}
 use Rattle.cluster.specs.VectorsLaws.{length-vectors_in}
 use Rattle.tree.specs.Tree.{tree_of, size}
 use Rattle.tree.proofs.LayoutLaws.{NodesFit, nodes_of-fit}
-use Rattle.settings.specs.declared.Check.TheVariants.{Fine}
+use Rattle.std.specs.Prelude.{Ok}
 use Rattle.curator.specs.declared.CuratorIndex.{CuratorIndex}
 use Rattle.curator.specs.Limits.{index_shape}
 use Rattle.curator.specs.Calls.{held_vectors, held_entries, splitting_of}
@@ -21,7 +21,7 @@ use Rattle.build.specs.Asked.{BuildReady}
 use Rattle.build.specs.CheckLaws.{early_build_rows, full_row, check-rows, checked_rows, ready}
 use Rattle.build.specs.WrittenLaws.{held-vectors-are}
 
-module _ (index : CuratorIndex) (store : Store) (work : List ℕ) (f : build_check index store work ≡ Fine) (u : index.built ≡ false) where
+module _ (index : CuratorIndex) (store : Store) (work : List ℕ) (f : build_check index store work ≡ (Ok tt)) (u : index.built ≡ false) where
   abbrev early : List Row
   early = early_build_rows index (lengths_of store) (length work) store.numbers
 

@@ -20,10 +20,8 @@ use Rattle.tree.specs.Layout.{six_from, numbers_of, hashes_of, floats_of}
 use Rattle.tree.proofs.LayoutLaws.{length_blocks, length-six_from, numbers-order, numbers-six, numbers-links, numbers-entries, floats-centroids}
 use Rattle.store.specs.declared.Counts.{Counts}
 use Rattle.lists.specs.Tests.{all_pass}
-use Rattle.curator.specs.declared.Changed.{Changed}
-use Rattle.curator.specs.declared.Changed.TheVariants as Changed'
-use Rattle.settings.specs.declared.Check.{Check}
-use Rattle.settings.specs.declared.Check.TheVariants.{Fine, Refused}
+use Rattle.std.specs.Prelude.{Result, Ok, Err, ⊤}
+use Rattle.settings.specs.declared.refusal.Refusal.{Refusal}
 use Rattle.curator.specs.declared.CuratorIndex.{CuratorIndex}
 use Rattle.settings.specs.declared.refusal.Refusal.TheVariants as Refusal'
 use Rattle.settings.specs.declared.refusal.StateRefusal.TheVariants.{EmptyIndex}
@@ -72,7 +70,7 @@ pub record SameNodes (s : Shape) (c : Counts) (a b : Store) : Type 0 where
 -- ---- the answer
 
 -- what the rows come to, by the three cases that look at lists
-rows_by : CuratorIndex → Bool → Bool → Bool → Check
+rows_by : CuratorIndex → Bool → Bool → Bool → Result ⊤ Refusal
 rows_by index short damaged full =
     first_of
     (state_row (state_sound index) ∷ row short (Refusal'.Store ListTooShort)
@@ -110,15 +108,15 @@ module _ (index : CuratorIndex) (s : Store) (work : List ℕ) (t : Store) (other
       ∙ sym (check_by index t other)
 
 -- what a build answers, by what its rows come to
-answer_fine : Bool → CuratorIndex → List Node → Changed
-answer_fine true index nodes = Changed'.Index index
-answer_fine false index nodes = Changed'.Index (built_with index (length nodes))
+answer_fine : Bool → CuratorIndex → List Node → Result CuratorIndex Refusal
+answer_fine true index nodes = Ok index
+answer_fine false index nodes = Ok (built_with index (length nodes))
 
-answer_by : Check → CuratorIndex → List Node → Changed
-answer_by Fine index nodes = answer_fine index.built index nodes
-answer_by (Refused r) index nodes = Changed'.Refused r
+answer_by : Result ⊤ Refusal → CuratorIndex → List Node → Result CuratorIndex Refusal
+answer_by (Ok _) index nodes = answer_fine index.built index nodes
+answer_by (Err r) index nodes = Err r
 
-answer-is : (index : CuratorIndex) (store : Store) (work : List ℕ) (a : Changed) (store' : Store) (work' : List ℕ)
+answer-is : (index : CuratorIndex) (store : Store) (work : List ℕ) (a : Result CuratorIndex Refusal) (store' : Store) (work' : List ℕ)
     → Builds index store work a store' work' → a ≡ answer_by (build_check index store work) index (held_nodes index store)
 unfolding Builds BuildsBy BuildsFine answer_by answer_fine
 answer-is index store work a store' work' h = by (build_check index store work) h
@@ -127,9 +125,9 @@ answer-is index store work a store' work' h = by (build_check index store work) 
     fine true (e, same, lent) = carried-is index a e
     fine false (e, laid) = carried-is (built_with index (length (held_nodes index store))) a e
 
-    by : (check : Check) → BuildsBy check index store work a store' work' → a ≡ answer_by check index (held_nodes index store)
-    by Fine g = fine index.built g
-    by (Refused r) (e, left) = refused_is r a e
+    by : (check : Result ⊤ Refusal) → BuildsBy check index store work a store' work' → a ≡ answer_by check index (held_nodes index store)
+    by (Ok _) g = fine index.built g
+    by (Err r) (e, left) = refused_is r a e
 
 -- ---- what is written
 
@@ -217,26 +215,26 @@ same_standing s c nodes a b x y =
 
 -- Stores that agree on what a build reads give the same answer; where it makes an unbuilt index built, the same nodes are laid out in both, and they
 -- agree on these nodes afterwards.
-pub builds-same : (index : CuratorIndex) (s t : Store) (work other : List ℕ) (a b : Changed) (s' t' : Store) (work' other' : List ℕ)
+pub builds-same : (index : CuratorIndex) (s t : Store) (work other : List ℕ) (a b : Result CuratorIndex Refusal) (s' t' : Store) (work' other' : List ℕ)
     → SameBuildRead index s work t other → Builds index s work a s' work' → Builds index t other b t' other'
     → (a ≡ b)
-    × ((index' : CuratorIndex) → a ≡ Changed'.Index index' → index.built ≡ false
+    × ((index' : CuratorIndex) → a ≡ Ok index' → index.built ≡ false
     → SameWritten (index_shape index) s t s' t' × SameNodes (index_shape index) index'.counts s' t')
 builds-same index s t work other a b s' t' work' other' same x y = (answers, written)
   where
     answers : a ≡ b
     answers =
         answer-is index s work a s' work' x
-        ∙ ap₂ (λ (c : Check) (n : List Node). answer_by c index n) (build-check-same index s work t other same) (nodes-same index s work t other same)
+        ∙ ap₂ (λ (c : Result ⊤ Refusal) (n : List Node). answer_by c index n) (build-check-same index s work t other same) (nodes-same index s work t other same)
         ∙ sym (answer-is index t other b t' other' y)
 
-    written : (index' : CuratorIndex) → a ≡ Changed'.Index index' → index.built ≡ false
+    written : (index' : CuratorIndex) → a ≡ Ok index' → index.built ≡ false
         → SameWritten (index_shape index) s t s' t' × SameNodes (index_shape index) index'.counts s' t'
     written index' e u =
         let nodes = held_nodes index s in
         let n = nodes-same index s work t other same in
-        let (f, i, l) = builds-accepted index s work index' s' work' (subst (λ (c : Changed). Builds index s work c s' work') e x) u in
-        let (g, j, m) = builds-accepted index t other index' t' other' (subst (λ (c : Changed). Builds index t other c t' other') (sym answers ∙ e) y) u in
+        let (f, i, l) = builds-accepted index s work index' s' work' (subst (λ (c : Result CuratorIndex Refusal). Builds index s work c s' work') e x) u in
+        let (g, j, m) = builds-accepted index t other index' t' other' (subst (λ (c : Result CuratorIndex Refusal). Builds index t other c t' other') (sym answers ∙ e) y) u in
         let first = laid_of index s work s' work' nodes refl l in
         let one = standing index s work (fine_ready index s work f u) (fine_few index s work f u) s' first in
         let two =

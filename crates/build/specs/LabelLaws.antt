@@ -1,6 +1,6 @@
 -- 02, K4 and K10: a build leaves start, length and bytes of each label and the live marks as they were, whatever it answers. Why: what it writes of the numbers
 -- ends before the starts, and the label text is lent to be read.
-use Rattle.std.specs.Prelude.{ℕ, ◌+◌, ◌*◌, Bool, true, false, ◌≡◌, refl, length, drop}
+use Rattle.std.specs.Prelude.{ℕ, ◌+◌, ◌*◌, Bool, true, false, ◌≡◌, refl, drop}
 use mathlib.Core.List.{List}
 use Rattle.std.proofs.Common.{sym, ◌∙◌, drop-drop}
 use Rattle.std.proofs.Math.Path.{ap}
@@ -10,13 +10,11 @@ use Rattle.lists.specs.Frame.{Before, freed_drop}
 use Rattle.store.specs.declared.Shape.{Shape}
 use Rattle.store.specs.Store.{Store, starts_at, lengths_at, live_at}
 use Rattle.tree.proofs.LayoutLaws.{NodesFit, numbers-behind}
-use Rattle.settings.specs.declared.Check.{Check}
-use Rattle.settings.specs.declared.Check.TheVariants.{Fine, Refused}
+use Rattle.std.specs.Prelude.{Result, Ok, Err, ⊤}
 use Rattle.settings.specs.declared.refusal.Refusal.{Refusal}
 use Rattle.settings.specs.declared.refusal.Refusal.TheVariants as Refusal'
 use Rattle.settings.specs.declared.refusal.StoreRefusal.{StoreRefusal}
 use Rattle.settings.specs.declared.refusal.StoreRefusal.TheVariants.{ListTooShort, VectorsFull, EntriesFull, NodesFull, Damaged, TextFull}
-use Rattle.curator.specs.declared.Changed.{Changed}
 use Rattle.curator.specs.declared.CuratorIndex.{CuratorIndex}
 use Rattle.curator.specs.Limits.{index_shape}
 use Rattle.curator.specs.Calls.{held_starts, held_lengths, held_text, held_marks}
@@ -61,21 +59,21 @@ laid-labels index store work store' work' fit l =
       text = l.text;
     }
 
-pub builds-labels : (index : CuratorIndex) (store : Store) (work : List ℕ) (answer : Changed) (store' : Store) (work' : List ℕ)
+pub builds-labels : (index : CuratorIndex) (store : Store) (work : List ℕ) (answer : Result CuratorIndex Refusal) (store' : Store) (work' : List ℕ)
     → Builds index store work answer store' work' → LabelsKept (index_shape index) store store'
 unfolding Builds BuildsBy BuildsFine
 builds-labels index store work answer store' work' h = by (build_check index store work) refl h
   where
-    fine : (b : Bool) → index.built ≡ b → build_check index store work ≡ Fine → BuildsFine b index store work answer store' work'
+    fine : (b : Bool) → index.built ≡ b → build_check index store work ≡ (Ok tt) → BuildsFine b index store work answer store' work'
         → LabelsKept (index_shape index) store store'
     fine true u f (e, same, lent) =
         record { numbers = ap (λ (s : Store). drop (starts_at (index_shape index)) s.numbers) same; text = ap (λ (s : Store). s.text) same }
     fine false u f (e, laid) =
         laid-labels index store work store' work' (nodes_fit index store work (fine_ready index store work f u) (fine_few index store work f u)) laid
 
-    by : (check : Check) → build_check index store work ≡ check → BuildsBy check index store work answer store' work' → LabelsKept (index_shape index) store store'
-    by Fine f g = fine index.built refl f g
-    by (Refused r) f (e, left) = left-labels (index_shape index) store work store' work' r left
+    by : (check : Result ⊤ Refusal) → build_check index store work ≡ check → BuildsBy check index store work answer store' work' → LabelsKept (index_shape index) store store'
+    by (Ok _) f g = fine index.built refl f g
+    by (Err r) f (e, left) = left-labels (index_shape index) store work store' work' r left
 
 -- ---- what is held of the labels, and the marks
 

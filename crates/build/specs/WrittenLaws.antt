@@ -20,7 +20,7 @@ use Rattle.tree.proofs.NodeLaws.{length-nodes_of, length_ids}
 use Rattle.tree.specs.Layout.{six_from, numbers_of, hashes_of, floats_of}
 use Rattle.tree.proofs.LayoutLaws.{length-six_from}
 use Rattle.tree.specs.Made.{made_from}
-use Rattle.build_tree.specs.declared.Made.{Made}
+use Rattle.std.specs.Prelude.{Option}
 use Rattle.build_tree.specs.Promises.{Whole, Overfull}
 use Rattle.label_entries.specs.Promises as finish
 use Rattle.label_entries.specs.Promises.{held, AllMade, Finished}
@@ -69,7 +69,7 @@ length-held index store = ap length (held-nodes index store) ∙ length-nodes_of
 -- ---- row 13
 
 -- the parts that no tree was written to are as they were
-pub left_full : (index : CuratorIndex) (store : Store) (work numbers' : List ℕ) (floats' : List Float) (work' : List ℕ) (made : Made)
+pub left_full : (index : CuratorIndex) (store : Store) (work numbers' : List ℕ) (floats' : List Float) (work' : List ℕ) (made : Option ℕ)
     → BuildReady index store work → Overfull (index_shape index) store.floats floats' store.numbers numbers' work work' made
     → Left (index_shape index) (Refusal'.Store NodesFull) store work (store_of floats' numbers' store.hashes store.text) work'
 unfolding free_of
@@ -113,7 +113,7 @@ laid_over s nodes numbers made h e =
     ∙ sets-sets-same ordered (nodes_at s) before six (length-made_from 0 nodes ∙ sym (length-six_from 0 0 0 nodes)))
 
 module _
-    (index : CuratorIndex) (store : Store) (work : List ℕ) (floats' : List Float) (numbers' work' : List ℕ) (made : Made) (r : BuildReady index store work)
+    (index : CuratorIndex) (store : Store) (work : List ℕ) (floats' : List Float) (numbers' work' : List ℕ) (made : Option ℕ) (r : BuildReady index store work)
     (w : Whole (index_shape index) index.params.max_leaf_size index.counts.vectors store.floats floats' store.numbers numbers' work work' made)
   where
     numbers_length : length numbers' ≡ length store.numbers

@@ -5,42 +5,45 @@ ghost use Rattle.lists.specs.Tests.{all_pass};
 ghost use Rattle.build.specs.Asked.{build_checked};
 
 use curator::{CuratorIndex, limits};
-use settings::Check;
 use settings::refusal::{Refusal, StateRefusal, StoreRefusal};
-use store::{Lengths, wide};
+use store::Lengths;
 
 // Whether the owners from a place on are all below n.
 fn owners_sound(numbers: &[u32], at: usize, count: usize, n: usize) -> bool
     requires { at + count ≤ length numbers.now }
     ensures { result ≡ all_pass (λ owner. ltb owner n) (part at count numbers.now) }
 {
-    let mut i = 0;
-    while i < count {
-        if n <= wide(numbers[at + i]) {
+    let end = at + count;
+    for &owner in &numbers[at..end] {
+        if n <= owner as usize {
             return false;
         }
-        i += 1;
     }
     true
 }
 
 // The first refusal whose case holds, row 13 apart.
-pub fn build_check(index: CuratorIndex, lent: Lengths, work: usize, numbers: &[u32]) -> Check
+pub fn build_check(
+    index: CuratorIndex,
+    lent: Lengths,
+    work: usize,
+    numbers: &[u32],
+) -> Result<(), Refusal>
     requires { lent.numbers ≡ length numbers.now }
     ensures { result ≡ build_checked index lent work numbers.now }
 {
     if !limits::state_sound(index) {
-        return Check::Refused(Refusal::State(StateRefusal::InvalidState));
+        return Err(Refusal::State(StateRefusal::InvalidState));
     }
     let shape = limits::shape_of(index);
     if shape.lists_short(lent, work) {
-        return Check::Refused(Refusal::Store(StoreRefusal::ListTooShort));
+        return Err(Refusal::Store(StoreRefusal::ListTooShort));
     }
     if index.built {
-        return Check::Fine;
+        return Ok(());
     }
     if index.counts.vectors == 0 {
-        return Check::Refused(Refusal::State(StateRefusal::EmptyIndex));
+        return Err(Refusal::State(StateRefusal::EmptyIndex));
     }
     if !owners_sound(
         numbers,
@@ -48,7 +51,7 @@ pub fn build_check(index: CuratorIndex, lent: Lengths, work: usize, numbers: &[u
         index.counts.entries,
         index.counts.vectors,
     ) {
-        return Check::Refused(Refusal::Store(StoreRefusal::Damaged));
+        return Err(Refusal::Store(StoreRefusal::Damaged));
     }
-    Check::Fine
+    Ok(())
 }

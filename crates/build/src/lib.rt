@@ -7,8 +7,8 @@ ghost use Rattle.store.specs.Lent.{store_of};
 mod check;
 mod make;
 
-use curator::{Changed, CuratorIndex};
-use settings::Check;
+use curator::CuratorIndex;
+use settings::refusal::Refusal;
 use store::Lengths;
 
 // Makes the tree of what is held, once: a built index stays as it is. Of the label text only the length is read.
@@ -19,7 +19,7 @@ pub fn build(
     hashes: &mut [u64],
     text: &[u8],
     work: &mut [u32],
-) -> Changed
+) -> Result<CuratorIndex, Refusal>
     ensures { Builds index (store_of floats.old numbers.old hashes.old text.now) work.old
         result
         (store_of floats.new numbers.new hashes.new text.now) work.new }
@@ -30,14 +30,9 @@ pub fn build(
         hashes: hashes.len(),
         text: text.len(),
     };
-    let check = check::build_check(index, lent, work.len(), numbers);
-    match check {
-        Check::Refused(refusal) => Changed::Refused(refusal),
-        Check::Fine => {
-            if index.built {
-                return Changed::Index(index);
-            }
-            make::make_index(index, floats, numbers, hashes, text, work)
-        }
+    check::build_check(index, lent, work.len(), numbers)?;
+    if index.built {
+        return Ok(index);
     }
+    make::make_index(index, floats, numbers, hashes, text, work)
 }

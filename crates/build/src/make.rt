@@ -5,8 +5,7 @@ ghost use Rattle.curator.specs.Changes.{Builds};
 ghost use Rattle.store.specs.Lent.{store_of};
 ghost use Rattle.build.specs.Asked.{BuildReady};
 
-use build_tree::Made;
-use curator::{Changed, CuratorIndex, limits};
+use curator::{CuratorIndex, limits};
 use settings::refusal::{Refusal, StoreRefusal};
 use store::Counts;
 
@@ -15,15 +14,7 @@ fn built_with(index: CuratorIndex, nodes: usize) -> CuratorIndex
     ensures { result ≡ built_with index nodes }
 {
     let held = index.counts;
-    index.with_counts(
-        Counts {
-            vectors: held.vectors,
-            entries: held.entries,
-            nodes,
-            bytes: held.bytes,
-        },
-        true,
-    )
+    index.with_counts(Counts { nodes, ..held }, true)
 }
 
 // Makes the tree and finishes it, or refuses a tree that has more nodes than there is room for.
@@ -34,7 +25,7 @@ pub fn make_index(
     hashes: &mut [u64],
     text: &[u8],
     work: &mut [u32],
-) -> Changed
+) -> Result<CuratorIndex, Refusal>
     requires { BuildReady index (store_of floats.old numbers.old hashes.old text.now) work.old }
     ensures { Builds index (store_of floats.old numbers.old hashes.old text.now) work.old
         result
@@ -50,19 +41,15 @@ pub fn make_index(
         numbers,
         work,
     );
-    match made {
-        Made::TooMany => Changed::Refused(Refusal::Store(StoreRefusal::NodesFull)),
-        Made::Nodes(nodes) => {
-            label_entries::insert_label_entries(
-                shape,
-                held.vectors,
-                held.entries,
-                nodes,
-                numbers,
-                hashes,
-                work,
-            );
-            Changed::Index(built_with(index, nodes))
-        }
-    }
+    let nodes = made.ok_or(Refusal::Store(StoreRefusal::NodesFull))?;
+    label_entries::insert_label_entries(
+        shape,
+        held.vectors,
+        held.entries,
+        nodes,
+        numbers,
+        hashes,
+        work,
+    );
+    Ok(built_with(index, nodes))
 }

@@ -5,10 +5,8 @@ use Rattle.std.proofs.lemmas.Bool.{not-false, eqb-false}
 use Rattle.vector.specs.Vector.{all_finite}
 use Rattle.store.specs.Store.{Store}
 use Rattle.store.specs.LentLaws.{store_long}
-use Rattle.curator.specs.declared.Changed.{Changed}
-use Rattle.curator.specs.declared.Changed.TheVariants as Changed'
-use Rattle.settings.specs.declared.Check.{Check}
-use Rattle.settings.specs.declared.Check.TheVariants.{Fine, Refused}
+use Rattle.std.specs.Prelude.{Result, Ok, Err, ⊤}
+use Rattle.settings.specs.declared.refusal.Refusal.{Refusal}
 use Rattle.curator.specs.declared.CuratorIndex.{CuratorIndex}
 use Rattle.curator.specs.Limits.{index_shape}
 use Rattle.curator.specs.Rows.{add_rows}
@@ -49,23 +47,23 @@ accepted_of index store call (sound, (short, (built, (dimension, (finite, (label
           };
     }
 
-pub add_facts : (index : CuratorIndex) (store : Store) (call : AddCall) → add_check index store call ≡ Fine → Accepted index store call
+pub add_facts : (index : CuratorIndex) (store : Store) (call : AddCall) → add_check index store call ≡ (Ok tt) → Accepted index store call
 add_facts index store call fine = accepted_of index store call (fine_none _ (sym (add-check-rows index store call) ∙ fine))
 
 -- ---- the relation by what the check comes to
 
-pub adds_by : (index : CuratorIndex) (store : Store) (call : AddCall) (answer : Changed) (store' : Store) (check : Check)
+pub adds_by : (index : CuratorIndex) (store : Store) (call : AddCall) (answer : Result CuratorIndex Refusal) (store' : Store) (check : Result ⊤ Refusal)
     → add_check index store call ≡ check → AddsBy check index store call answer store' → Adds index store call answer store'
 unfolding Adds
-adds_by index store call answer store' check e h = subst (λ (k : Check). AddsBy k index store call answer store') (sym e) h
+adds_by index store call answer store' check e h = subst (λ (k : Result ⊤ Refusal). AddsBy k index store call answer store') (sym e) h
 
 pub adds-accepted : (index : CuratorIndex) (store : Store) (call : AddCall) (index' : CuratorIndex) (store' : Store)
-    → Adds index store call (Changed'.Index index') store'
-    → (add_check index store call ≡ Fine) × (index' ≡ grown index call.names) × Wrote index store call store'
+    → Adds index store call (Ok index') store'
+    → (add_check index store call ≡ (Ok tt)) × (index' ≡ grown index call.names) × Wrote index store call store'
 unfolding Adds AddsBy
 adds-accepted index store call index' store' h = by (add_check index store call) refl h
   where
-    by : (check : Check) → add_check index store call ≡ check → AddsBy check index store call (Changed'.Index index') store'
-        → (add_check index store call ≡ Fine) × (index' ≡ grown index call.names) × Wrote index store call store'
-    by Fine e (a, w) = let same = carried-is (grown index call.names) (Changed'.Index index') a in (e, (cc), w)
-    by (Refused r) e (a, w) = let same = refused_is r (Changed'.Index index') a in let z : ◌≡◌ {A = ℕ} 0 1 = cc in absurd (omega arith)
+    by : (check : Result ⊤ Refusal) → add_check index store call ≡ check → AddsBy check index store call (Ok index') store'
+        → (add_check index store call ≡ (Ok tt)) × (index' ≡ grown index call.names) × Wrote index store call store'
+    by (Ok _) e (a, w) = let same = carried-is (grown index call.names) (Ok index') a in (e, (cc), w)
+    by (Err r) e (a, w) = let same = refused_is r (Ok index') a in let z : ◌≡◌ {A = ℕ} 0 1 = cc in absurd (omega arith)

@@ -8,10 +8,8 @@ use Rattle.tree.specs.Nodes.{Node}
 use Rattle.walk.specs.StoreView.{live_in, store_view}
 use Rattle.walk.specs.Walk.{View, State, damaged, going, walk}
 use Rattle.settings.specs.declared.Capacities.{Capacities}
-use Rattle.curator.specs.declared.Changed.{Changed}
-use Rattle.curator.specs.declared.Changed.TheVariants as Changed'
-use Rattle.settings.specs.declared.Check.{Check}
-use Rattle.settings.specs.declared.Check.TheVariants.{Fine, Refused}
+use Rattle.std.specs.Prelude.{Result, Ok, Err, ⊤}
+use Rattle.settings.specs.declared.refusal.Refusal.{Refusal}
 use Rattle.curator.specs.declared.CuratorIndex.{CuratorIndex}
 use Rattle.settings.specs.declared.CuratorParams.{CuratorParams}
 use Rattle.settings.specs.declared.refusal.Refusal.TheVariants.{Settings}
@@ -48,9 +46,9 @@ with_beam beam index =
       built = index.built;
     }
 
-abbrev pub answer_with_beam : ℕ → Changed → Changed
-answer_with_beam beam (Changed'.Index index) = Changed'.Index (with_beam beam index)
-answer_with_beam beam (Changed'.Refused r) = Changed'.Refused r
+abbrev pub answer_with_beam : ℕ → Result CuratorIndex Refusal → Result CuratorIndex Refusal
+answer_with_beam beam (Ok index) = Ok (with_beam beam index)
+answer_with_beam beam (Err r) = Err r
 
 pub params_beam : (beam : ℕ) (p : CuratorParams) → beam ≤ 65535 → p.beam_width ≤ 65535 → params_allowed (params_with_beam beam p) ≡ params_allowed p
 unfolding params_allowed
@@ -71,10 +69,10 @@ created_beam beam dimension params capacities h g =
         ∷ row (not (allowed && capacities_allowed capacities)) (Settings InvalidConfig)
         ∷ []
 
-    by : (check : Check)
+    by : (check : Result ⊤ Refusal)
         → new_answer check dimension (params_with_beam beam params) capacities ≡ answer_with_beam beam (new_answer check dimension params capacities)
-    by Fine = refl
-    by (Refused r) = refl
+    by (Ok _) = refl
+    by (Err r) = refl
 
 -- ---- add
 
@@ -97,7 +95,7 @@ add-check_beam beam index store call h g =
     ap (λ (b : Bool). first_of (state_row b ∷ add_rows (facts_of index) (lengths_of store) call))
     (sound_beam beam index h g)
 
-pub adds_beam : (beam : ℕ) (index : CuratorIndex) (store : Store) (call : AddCall) (answer : Changed) (store' : Store) → beam ≤ 65535
+pub adds_beam : (beam : ℕ) (index : CuratorIndex) (store : Store) (call : AddCall) (answer : Result CuratorIndex Refusal) (store' : Store) → beam ≤ 65535
     → index.params.beam_width ≤ 65535 → Adds index store call answer store'
     → Adds (with_beam beam index) store call (answer_with_beam beam answer) store'
 unfolding Adds AddsBy
@@ -106,13 +104,13 @@ adds_beam beam index store call answer store' h g adds =
     (add-check_beam beam index store call h g)
     (by (add_check index store call) adds)
   where
-    by : (check : Check) → AddsBy check index store call answer store'
+    by : (check : Result ⊤ Refusal) → AddsBy check index store call answer store'
         → AddsBy check (with_beam beam index) store call (answer_with_beam beam answer) store'
-    by Fine (e, w) = (
+    by (Ok _) (e, w) = (
       is_carried _ _ (ap (answer_with_beam beam) (carried-is (grown index call.names) answer e)),
       record { stored = w.stored; normalized = w.normalized; floats = w.floats; numbers = w.numbers; hashes = w.hashes; text = w.text },
     )
-    by (Refused r) (e, same) = (is_refused r _ (ap (answer_with_beam beam) (refused_is r answer e)), same)
+    by (Err r) (e, same) = (is_refused r _ (ap (answer_with_beam beam) (refused_is r answer e)), same)
 
 -- ---- build
 
@@ -129,12 +127,12 @@ build-check_beam beam index store work h g =
     first_of (state_row b ∷ build_rows (facts_of index) (lengths_of store) (length work) (owners_damaged index store) (too_many_nodes index store)))
     (sound_beam beam index h g)
 
-pub builds_beam : (beam : ℕ) (index : CuratorIndex) (store : Store) (work : List ℕ) (answer : Changed) (store' : Store) (work' : List ℕ)
+pub builds_beam : (beam : ℕ) (index : CuratorIndex) (store : Store) (work : List ℕ) (answer : Result CuratorIndex Refusal) (store' : Store) (work' : List ℕ)
     → beam ≤ 65535 → index.params.beam_width ≤ 65535 → Builds index store work answer store' work'
     → Builds (with_beam beam index) store work (answer_with_beam beam answer) store' work'
 unfolding Builds BuildsBy BuildsFine
 builds_beam beam index store work answer store' work' h g builds =
-    subst (λ (k : Check). BuildsBy k (with_beam beam index) store work (answer_with_beam beam answer) store' work')
+    subst (λ (k : Result ⊤ Refusal). BuildsBy k (with_beam beam index) store work (answer_with_beam beam answer) store' work')
     (sym (build-check_beam beam index store work h g))
     (by (build_check index store work) builds)
   where
@@ -147,7 +145,7 @@ builds_beam beam index store work answer store' work' h g builds =
     fine false (e, w) = (
       is_carried _ _
           (ap (answer_with_beam beam) (carried-is (built_with index (length (held_nodes index store))) answer e)
-          ∙ ap (λ (n : List Node). Changed'.Index (built_with (with_beam beam index) (length n))) (sym nodes)),
+          ∙ ap (λ (n : List Node). Ok (built_with (with_beam beam index) (length n))) (sym nodes)),
       record {
         centres = w.centres;
         centres_length = w.centres_length;
@@ -159,10 +157,10 @@ builds_beam beam index store work answer store' work' h g builds =
       },
     )
 
-    by : (check : Check) → BuildsBy check index store work answer store' work'
+    by : (check : Result ⊤ Refusal) → BuildsBy check index store work answer store' work'
         → BuildsBy check (with_beam beam index) store work (answer_with_beam beam answer) store' work'
-    by Fine w = fine index.built w
-    by (Refused r) (e, l) =
+    by (Ok _) w = fine index.built w
+    by (Err r) (e, l) =
         (is_refused r _ (ap (answer_with_beam beam) (refused_is r answer e)), record { floats = l.floats; numbers = l.numbers; hashes = l.hashes; text = l.text; work = l.work })
 
 -- ---- search
@@ -182,7 +180,7 @@ pub searches_beam : (beam : ℕ) (index : CuratorIndex) (store : Store) (work : 
     → index.params.beam_width ≤ 65535 → Searches index store work call end → Searches (with_beam beam index) store work call end
 unfolding Searches SearchesBy WalkedTo
 searches_beam beam index store work call end h g searches =
-    subst (λ (k : Check). SearchesBy k (with_beam beam index) store work call end) (sym (search-check_beam beam index store work call h g))
+    subst (λ (k : Result ⊤ Refusal). SearchesBy k (with_beam beam index) store work call end) (sym (search-check_beam beam index store work call h g))
     (by (search_check index store work call) searches)
   where
     view : List Float → View
@@ -192,11 +190,11 @@ searches_beam beam index store work call end h g searches =
     walked damaged test w = record { answer = w.answer; work = w.work; ids = w.ids; distances = w.distances }
     walked (going p) test w = record { answer = w.answer; work = w.work; ids = w.ids; distances = w.distances }
 
-    by : (check : Check) → SearchesBy check index store work call end → SearchesBy check (with_beam beam index) store work call end
-    by Fine w =
+    by : (check : Result ⊤ Refusal) → SearchesBy check index store work call end → SearchesBy check (with_beam beam index) store work call end
+    by (Ok _) w =
         record {
           query = w.query;
           normalized = w.normalized;
           walked = walked (walk (view w.query) index.params.ef_search) (live_in (index_shape index) index.counts store) w.walked;
         }
-    by (Refused r) u = u
+    by (Err r) u = u

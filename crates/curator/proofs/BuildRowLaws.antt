@@ -10,9 +10,8 @@ use borrow.Author.Tests.{eqb-true, eqb-false, eq-eqb, ne_eqb, ltb-true, lt-ltb}
 use Rattle.std.proofs.Math.Dec.{eqb}
 use Rattle.store.specs.Store.{Store}
 use Rattle.tree.specs.Tree.{tree_of, size}
-use Rattle.curator.specs.declared.Changed.{Changed}
-use Rattle.settings.specs.declared.Check.{Check}
-use Rattle.settings.specs.declared.Check.TheVariants.{Fine, Refused}
+use Rattle.std.specs.Prelude.{Result, Ok, Err, ⊤}
+use Rattle.settings.specs.declared.refusal.Refusal.{Refusal}
 use Rattle.curator.specs.declared.CuratorIndex.{CuratorIndex}
 use Rattle.curator.specs.Calls.{facts_of, held_vectors, splitting_of}
 use Rattle.store.specs.Lent.{lengths_of, lists_short}
@@ -58,7 +57,7 @@ unbuilt-passes built case u = (λ e. sym same ∙ e, λ e. same ∙ e)
     same : not built && case ≡ case
     same = ap (λ (t : Bool). not t && case) u
 
-module _ (index : CuratorIndex) (store : Store) (work : List ℕ) (answer : Changed) (store' : Store) (work' : List ℕ)
+module _ (index : CuratorIndex) (store : Store) (work : List ℕ) (answer : Result CuratorIndex Refusal) (store' : Store) (work' : List ℕ)
     (builds : Builds index store work answer store' work') where
   builds-number : changed_number answer ≡ check_number (first_of (rows_of_build index store work))
   unfolding Builds BuildsBy BuildsFine
@@ -68,9 +67,9 @@ module _ (index : CuratorIndex) (store : Store) (work : List ℕ) (answer : Chan
       fine true (e, same, lent) = e.number_is
       fine false (e, laid) = e.number_is
 
-      by : (check : Check) → BuildsBy check index store work answer store' work' → changed_number answer ≡ check_number check
-      by Fine h = fine index.built h
-      by (Refused r) (e, left) = e.number_is
+      by : (check : Result ⊤ Refusal) → BuildsBy check index store work answer store' work' → changed_number answer ≡ check_number check
+      by (Ok _) h = fine index.built h
+      by (Err r) (e, left) = e.number_is
 
   -- each of the numbers exactly if its row's case holds and no earlier row's does
   pub build_returned : (i : ℕ) → i < 5 → (changed_number answer ≡ get_or build_numbers i 0) ↔ FirstAt (rows_of_build index store work) i
@@ -166,7 +165,7 @@ module _ (index : CuratorIndex) (store : Store) (work : List ℕ) (answer : Chan
   unfolding Builds BuildsBy BuildsFine build_rows
   build-built (sound, (long, built)) =
       subst (λ (b : Bool). BuildsFine b index store work answer store' work') built
-      (subst (λ (c : Check). BuildsBy c index store work answer store' work')
+      (subst (λ (c : Result ⊤ Refusal). BuildsBy c index store work answer store' work')
       (build-check-rows index store work
       ∙ none_fine (rows_of_build index store work) ((test-passed _).1 sound, (long, (passes _, (passes _, (passes _, tt))))))
       builds)

@@ -13,10 +13,8 @@ use Rattle.lists.specs.Parts.{part-append-parts, part-set-before, part-sets-befo
 use Rattle.store.specs.declared.Shape.{Shape}
 use Rattle.store.specs.Store.{Store, vector_at, owners_at, starts_at, lengths_at, live_at}
 use Rattle.tree.specs.Nodes.{Entries}
-use Rattle.curator.specs.declared.Changed.{Changed}
-use Rattle.curator.specs.declared.Changed.TheVariants as Changed'
-use Rattle.settings.specs.declared.Check.{Check}
-use Rattle.settings.specs.declared.Check.TheVariants.{Fine, Refused}
+use Rattle.std.specs.Prelude.{Result, Ok, Err, ⊤}
+use Rattle.settings.specs.declared.refusal.Refusal.{Refusal}
 use Rattle.curator.specs.declared.CuratorIndex.{CuratorIndex}
 use Rattle.curator.proofs.AddLaws.{add_facts}
 use Rattle.label.specs.Names.{hashes_of_labels, starts_from, lengths_of_names, bytes_of_names}
@@ -371,23 +369,23 @@ added-wrote index store call =
     }
 
 -- what an add answers, and the store that it leaves, by what its check comes to
-abbrev pub added_answer : Check → CuratorIndex → AddCall → Changed
-added_answer Fine index call = Changed'.Index (grown index call.names)
-added_answer (Refused r) index call = Changed'.Refused r
+abbrev pub added_answer : Result ⊤ Refusal → CuratorIndex → AddCall → Result CuratorIndex Refusal
+added_answer (Ok _) index call = Ok (grown index call.names)
+added_answer (Err r) index call = Err r
 
-abbrev pub added_store : Check → CuratorIndex → Store → AddCall → Store
-added_store Fine index store call = added index store call
-added_store (Refused r) index store call = store
+abbrev pub added_store : Result ⊤ Refusal → CuratorIndex → Store → AddCall → Store
+added_store (Ok _) index store call = added index store call
+added_store (Err r) index store call = store
 
-pub adds-is : (index : CuratorIndex) (store : Store) (call : AddCall) (answer : Changed) (store' : Store) → Adds index store call answer store'
+pub adds-is : (index : CuratorIndex) (store : Store) (call : AddCall) (answer : Result CuratorIndex Refusal) (store' : Store) → Adds index store call answer store'
     → (answer ≡ added_answer (add_check index store call) index call) × (store' ≡ added_store (add_check index store call) index store call)
 unfolding Adds AddsBy
 adds-is index store call answer store' h = by (add_check index store call) h
   where
-    by : (check : Check) → AddsBy check index store call answer store'
+    by : (check : Result ⊤ Refusal) → AddsBy check index store call answer store'
         → (answer ≡ added_answer check index call) × (store' ≡ added_store check index store call)
-    by Fine (e, w) = (carried-is (grown index call.names) answer e, wrote-added index store call store' w)
-    by (Refused r) (e, same) = (refused_is r answer e, same)
+    by (Ok _) (e, w) = (carried-is (grown index call.names) answer e, wrote-added index store call store' w)
+    by (Err r) (e, same) = (refused_is r answer e, same)
 
 -- every call has a result
 pub adds_has : (index : CuratorIndex) (store : Store) (call : AddCall)
@@ -395,9 +393,9 @@ pub adds_has : (index : CuratorIndex) (store : Store) (call : AddCall)
 unfolding Adds AddsBy
 adds_has index store call = by (add_check index store call)
   where
-    by : (check : Check) → AddsBy check index store call (added_answer check index call) (added_store check index store call)
-    by Fine = (is_carried (grown index call.names) (added_answer Fine index call) refl, added-wrote index store call)
-    by (Refused r) = (is_refused r (Changed'.Refused r) refl, refl)
+    by : (check : Result ⊤ Refusal) → AddsBy check index store call (added_answer check index call) (added_store check index store call)
+    by (Ok _) = (is_carried (grown index call.names) (added_answer (Ok tt) index call) refl, added-wrote index store call)
+    by (Err r) = (is_refused r (Err r) refl, refl)
 
 -- ---- 'Parts past the counts held are never read'
 
@@ -408,9 +406,9 @@ add-check-same index s t call h =
     ap (λ (l : Lengths). first_of (state_row (state_sound index) ∷ add_rows (facts_of index) l call)) h
 
 -- the state from now on
-abbrev pub state_after : CuratorIndex → Changed → CuratorIndex
-state_after index (Changed'.Index next) = next
-state_after index (Changed'.Refused r) = index
+abbrev pub state_after : CuratorIndex → Result CuratorIndex Refusal → CuratorIndex
+state_after index (Ok next) = next
+state_after index (Err r) = index
 
 grown-same : (index : CuratorIndex) (s t : Store) (call : AddCall) → SameOfIndex index s t → AddRoom index s call → AddRoom index t call
     → SameOfIndex (grown index call.names) (added index s call) (added index t call)
@@ -446,17 +444,17 @@ grown-same index s t call h r q =
     }
 
 -- stores that agree on what is held give the same answer, are written alike, and agree afterwards on what is held
-pub adds_same : (index : CuratorIndex) (s t : Store) (call : AddCall) (a b : Changed) (s' t' : Store) → lengths_of s ≡ lengths_of t → SameOfIndex index s t
+pub adds_same : (index : CuratorIndex) (s t : Store) (call : AddCall) (a b : Result CuratorIndex Refusal) (s' t' : Store) → lengths_of s ≡ lengths_of t → SameOfIndex index s t
     → Adds index s call a s' → Adds index t call b t' → (a ≡ b) × SameOfIndex (state_after index a) s' t'
 adds_same index s t call a b s' t' l h x y =
     let check = add-check-same index s t call l in
     let (e, f) = adds-is index s call a s' x in
     let (g, k) = adds-is index t call b t' y in
-    let g' : b ≡ added_answer (add_check index s call) index call = g ∙ ap (λ (c : Check). added_answer c index call) (sym check) in
-    let k' : t' ≡ added_store (add_check index s call) index t call = k ∙ ap (λ (c : Check). added_store c index t call) (sym check) in
+    let g' : b ≡ added_answer (add_check index s call) index call = g ∙ ap (λ (c : Result ⊤ Refusal). added_answer c index call) (sym check) in
+    let k' : t' ≡ added_store (add_check index s call) index t call = k ∙ ap (λ (c : Result ⊤ Refusal). added_store c index t call) (sym check) in
     (e ∙ sym g', rw (e, f, k') (after (add_check index s call) refl (sym check)))
   where
-    after : (c : Check) → add_check index s call ≡ c → add_check index t call ≡ c
+    after : (c : Result ⊤ Refusal) → add_check index s call ≡ c → add_check index t call ≡ c
         → SameOfIndex (state_after index (added_answer c index call)) (added_store c index s call) (added_store c index t call)
-    after Fine m n = grown-same index s t call h (add_facts index s call m).room (add_facts index t call n).room
-    after (Refused r) m n = h
+    after (Ok _) m n = grown-same index s t call h (add_facts index s call m).room (add_facts index t call n).room
+    after (Err r) m n = h

@@ -15,8 +15,8 @@ use Rattle.lists.specs.Counting.{is_in-nil, is_in-append, is_in-here, is_in-late
 use Rattle.store.specs.Store.{Store, live_at}
 use Rattle.store.specs.Lent.{store_of, lengths_of, Long}
 use Rattle.store.specs.LentLaws.{store_long}
-use Rattle.settings.specs.declared.Check.{Check}
-use Rattle.settings.specs.declared.Check.TheVariants.{Fine, Refused}
+use Rattle.std.specs.Prelude.{Result, Ok, Err, ⊤}
+use Rattle.settings.specs.declared.refusal.Refusal.{Refusal}
 use Rattle.settings.specs.declared.refusal.Refusal.TheVariants as Refusal'
 use Rattle.settings.specs.declared.refusal.InputRefusal.TheVariants.{UnknownDocument}
 use Rattle.curator.specs.declared.CuratorIndex.{CuratorIndex}
@@ -149,30 +149,30 @@ module _ (document at count : ℕ) (numbers₀ : List ℕ) (apart : count ≤ at
 
 module _ (index : CuratorIndex) (store : Store) (document : ℕ) where
   -- by what rows 4 and 3 come to
-  pub checked : (check : Check) → first_of (lent_rows index (lengths_of store)) ≡ check
+  pub checked : (check : Result ⊤ Refusal) → first_of (lent_rows index (lengths_of store)) ≡ check
       → withdraw_check index store document ≡ check_then check (first_of (row (not (holds_document index store document)) (Refusal'.Input UnknownDocument) ∷ []))
   unfolding withdraw_check withdraw_rows
   checked check e = rows_then (lent_rows index (lengths_of store)) (row (not (holds_document index store document)) (Refusal'.Input UnknownDocument) ∷ []) check e
 
-  pub lent_facts : first_of (lent_rows index (lengths_of store)) ≡ Fine → Sound index × Long (index_shape index) (lengths_of store)
+  pub lent_facts : first_of (lent_rows index (lengths_of store)) ≡ (Ok tt) → Sound index × Long (index_shape index) (lengths_of store)
   lent_facts fine =
       let (sound, (short, _)) = fine_none (lent_rows index (lengths_of store)) fine in
       (sound_facts index (not-false _ sound), store_long (index_shape index) (lengths_of store) short)
 
-  module _ (at : ℕ) (numbers' : List ℕ) (e : at ≡ live_at (index_shape index)) (fine : first_of (lent_rows index (lengths_of store)) ≡ Fine) where
+  module _ (at : ℕ) (numbers' : List ℕ) (e : at ≡ live_at (index_shape index)) (fine : first_of (lent_rows index (lengths_of store)) ≡ (Ok tt)) where
     -- a vector has the id
     pub withdrawn_fine : (held : Bool) → MarksWritten document at index.counts.vectors store.numbers held numbers' → held ≡ true
-        → (withdraw_check index store document ≡ Fine) × (store_of store.floats numbers' store.hashes store.text ≡ withdrawn_from index store document)
+        → (withdraw_check index store document ≡ (Ok tt)) × (store_of store.floats numbers' store.hashes store.text ≡ withdrawn_from index store document)
     unfolding holds_document held_documents held_marks withdrawn_from
     withdrawn_fine held w h =
         let n = index.counts.vectors in
         let is : numbers' ≡ sets store.numbers (live_at (index_shape index)) (marks_withdrawn document (part 0 n store.numbers) (part (live_at (index_shape index)) n store.numbers)) =
         w.numbers_are ∙ ap (λ (k : ℕ). sets store.numbers k (marks_withdrawn document (part 0 n store.numbers) (part k n store.numbers))) e in
-        (checked Fine fine ∙ row-passes _ _ (ap not (sym w.held_is ∙ h)) ∙ no_rows, λ i. record { floats = store.floats; numbers = is i; hashes = store.hashes; text = store.text })
+        (checked (Ok _) fine ∙ row-passes _ _ (ap not (sym w.held_is ∙ h)) ∙ no_rows, λ i. record { floats = store.floats; numbers = is i; hashes = store.hashes; text = store.text })
 
     -- no vector has it: nothing was written
     pub withdrawn-none : (held : Bool) → MarksWritten document at index.counts.vectors store.numbers held numbers' → held ≡ false
-        → (withdraw_check index store document ≡ Refused (Refusal'.Input UnknownDocument)) × (store_of store.floats numbers' store.hashes store.text ≡ store)
+        → (withdraw_check index store document ≡ Err (Refusal'.Input UnknownDocument)) × (store_of store.floats numbers' store.hashes store.text ≡ store)
     unfolding holds_document held_documents
     withdrawn-none held w h =
         let n = index.counts.vectors in
@@ -183,4 +183,4 @@ module _ (index : CuratorIndex) (store : Store) (document : ℕ) where
         let is : numbers' ≡ store.numbers =
         w.numbers_are ∙ ap (sets store.numbers at) (marks-none document documents (part at n store.numbers) (a ∙ sym b) (sym w.held_is ∙ h))
         ∙ sets_self store.numbers at n in
-        (checked Fine fine ∙ row-stops _ _ (ap not (sym w.held_is ∙ h)), λ i. record { floats = store.floats; numbers = is i; hashes = store.hashes; text = store.text })
+        (checked (Ok _) fine ∙ row-stops _ _ (ap not (sym w.held_is ∙ h)), λ i. record { floats = store.floats; numbers = is i; hashes = store.hashes; text = store.text })

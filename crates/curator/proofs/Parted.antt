@@ -4,7 +4,8 @@ use Rattle.std.proofs.Common.{sym, ◌∙◌, subst}
 use Rattle.label.specs.Names.{names_of, lengths_fit, Name, joined_name, part_lengths, part_bytes}
 use Rattle.label.specs.NameLaws.{names_parted, parts-fit}
 use Rattle.store.specs.Store.{Store}
-use Rattle.curator.specs.declared.Changed.{Changed}
+use Rattle.std.specs.Prelude.{Result}
+use Rattle.settings.specs.declared.refusal.Refusal.{Refusal}
 use Rattle.curator.specs.declared.CuratorIndex.{CuratorIndex}
 use Rattle.curator.specs.Arguments.{AddCall, add_of}
 use Rattle.curator.specs.Changes.{Adds}
@@ -19,7 +20,7 @@ names-alike document vector lengths bytes lengths' bytes' fits fits' e =
     λ i. record { document = document; vector = vector; lengths_allowed = same i; names = e i }
 
 -- so names in two parts that are the same joined give the same answer and leave the same lists
-pub adds_parted : (index : CuratorIndex) (store : Store) (document : ℕ) (vector : List Float) (names names' : List Name) (answer answer' : Changed)
+pub adds_parted : (index : CuratorIndex) (store : Store) (document : ℕ) (vector : List Float) (names names' : List Name) (answer answer' : Result CuratorIndex Refusal)
     (after after' : Store) → map joined_name names ≡ map joined_name names'
     → Adds index store (add_of document vector (part_lengths names) (part_bytes names)) answer after
     → Adds index store (add_of document vector (part_lengths names') (part_bytes names')) answer' after' → (answer ≡ answer') × (after ≡ after')

@@ -8,11 +8,7 @@ use Rattle.lists.specs.Lists.{is_in}
 use Rattle.lists.specs.Counting.{place-is_in}
 use Rattle.store.specs.Store.{Store}
 use Rattle.settings.specs.declared.Capacities.{Capacities}
-use Rattle.curator.specs.declared.Changed.{Changed}
-use Rattle.curator.specs.declared.Changed.TheVariants as Changed'
-use Rattle.curator.specs.declared.VectorCheck.TheVariants as VectorCheck'
-use Rattle.settings.specs.declared.Check.{Check}
-use Rattle.settings.specs.declared.Check.TheVariants.{Fine, Refused}
+use Rattle.std.specs.Prelude.{Result, Ok, Err, ⊤}
 use Rattle.curator.specs.declared.CuratorIndex.{CuratorIndex}
 use Rattle.settings.specs.declared.CuratorParams.{CuratorParams}
 use Rattle.settings.specs.declared.refusal.Refusal.{Refusal}
@@ -34,11 +30,11 @@ use Rattle.curator.specs.Lent.{with_squares}
 
 -- ---- one row
 
-pub no_rows : first_of [] ≡ Fine
+pub no_rows : first_of [] ≡ (Ok tt)
 unfolding first_of
 no_rows = refl
 
-pub row-stops : (r : Row) (rows : List Row) → r.holds ≡ true → first_of (r ∷ rows) ≡ Refused r.refusal
+pub row-stops : (r : Row) (rows : List Row) → r.holds ≡ true → first_of (r ∷ rows) ≡ Err r.refusal
 unfolding first_of
 row-stops r rows e = rw e
 
@@ -56,16 +52,16 @@ test-passed t = (not-false t, λ e. ap not e)
 -- ---- a check that carries the sum of squares
 
 -- the answer by what the rows come to
-pub squares_by : (rows : List Row) (sum : Float) {check : Check} → first_of rows ≡ check → with_squares check sum ≡ with_squares (first_of rows) sum
-squares_by rows sum e = ap (λ (k : Check). with_squares k sum) (sym e)
+pub squares_by : (rows : List Row) (sum : Float) {check : Result ⊤ Refusal} → first_of rows ≡ check → with_squares check sum ≡ with_squares (first_of rows) sum
+squares_by rows sum e = ap (λ (k : Result ⊤ Refusal). with_squares k sum) (sym e)
 
-pub squares_fine : (check : Check) (sum squares : Float) → with_squares check sum ≡ VectorCheck'.Squares squares → (check ≡ Fine) × (squares ≡ sum)
-squares_fine Fine sum squares e = (refl, cc)
-squares_fine (Refused r) sum squares e = let z : ◌≡◌ {A = ℕ} 0 1 = cc in absurd (omega arith)
+pub squares_fine : (check : Result ⊤ Refusal) (sum squares : Float) → with_squares check sum ≡ Ok squares → (check ≡ (Ok tt)) × (squares ≡ sum)
+squares_fine (Ok _) sum squares e = (refl, cc)
+squares_fine (Err r) sum squares e = let z : ◌≡◌ {A = ℕ} 0 1 = cc in absurd (omega arith)
 
-pub squares_refused : (check : Check) (sum : Float) (r : Refusal) → with_squares check sum ≡ VectorCheck'.Refused r → check ≡ Refused r
-squares_refused Fine sum r e = let z : ◌≡◌ {A = ℕ} 0 1 = cc in absurd (omega arith)
-squares_refused (Refused q) sum r e = cc
+pub squares_refused : (check : Result ⊤ Refusal) (sum : Float) (r : Refusal) → with_squares check sum ≡ Err r → check ≡ Err r
+squares_refused (Ok _) sum r e = let z : ◌≡◌ {A = ℕ} 0 1 = cc in absurd (omega arith)
+squares_refused (Err q) sum r e = cc
 
 -- ---- any list of rows
 
@@ -81,9 +77,9 @@ FirstAt (r ∷ rows) zero = r.holds ≡ true
 FirstAt (r ∷ rows) (suc i) = (r.holds ≡ false) × FirstAt rows i
 
 -- what is returned in the case of the row at a place
-abbrev pub refusal_at : List Row → ℕ → Check
-refusal_at [] i = Fine
-refusal_at (r ∷ rows) zero = Refused r.refusal
+abbrev pub refusal_at : List Row → ℕ → Result ⊤ Refusal
+refusal_at [] i = (Ok tt)
+refusal_at (r ∷ rows) zero = Err r.refusal
 refusal_at (r ∷ rows) (suc i) = refusal_at rows i
 
 -- the numbers of some rows, in order
@@ -97,7 +93,7 @@ unfolding is_in
 different [] = true
 different (x ∷ xs) = not (is_in x xs) && different xs
 
-fine_refused : {r : Refusal} → Fine ≡ Refused r → ⊥
+fine_refused : {r : Refusal} → ◌≡◌ {A = Result ⊤ Refusal} (Ok tt) (Err r) → ⊥
 fine_refused e = let z : ◌≡◌ {A = ℕ} 0 1 = cc in omega arith
 
 true_false : true ≡ false → ⊥
@@ -113,15 +109,15 @@ first_or_none (r ∷ rows) = by r.holds refl (first_or_none rows)
     by false e (inl none) = inl (e, none)
     by false e (inr (i, first)) = inr (suc i, (e, first))
 
-pub none_fine : (rows : List Row) → NoneHolds rows → first_of rows ≡ Fine
+pub none_fine : (rows : List Row) → NoneHolds rows → first_of rows ≡ (Ok tt)
 none_fine [] h = no_rows
 none_fine (r ∷ rows) (e, h) = row-passes r rows e ∙ none_fine rows h
 
-pub fine_none : (rows : List Row) → first_of rows ≡ Fine → NoneHolds rows
+pub fine_none : (rows : List Row) → first_of rows ≡ (Ok tt) → NoneHolds rows
 fine_none [] f = tt
 fine_none (r ∷ rows) f = by r.holds refl (fine_none rows)
   where
-    by : (h : Bool) → r.holds ≡ h → (first_of rows ≡ Fine → NoneHolds rows) → NoneHolds (r ∷ rows)
+    by : (h : Bool) → r.holds ≡ h → (first_of rows ≡ (Ok tt) → NoneHolds rows) → NoneHolds (r ∷ rows)
     by true e later = absurd (fine_refused (sym f ∙ row-stops r rows e))
     by false e later = (e, later (sym (row-passes r rows e) ∙ f))
 
@@ -131,26 +127,26 @@ first_refused (r ∷ rows) zero e = row-stops r rows e
 first_refused (r ∷ rows) (suc i) (e, h) = row-passes r rows e ∙ first_refused rows i h
 
 -- rows that others follow
-abbrev pub check_then : Check → Check → Check
-check_then Fine later = later
-check_then (Refused r) later = Refused r
+abbrev pub check_then : Result ⊤ Refusal → Result ⊤ Refusal → Result ⊤ Refusal
+check_then (Ok _) later = later
+check_then (Err r) later = Err r
 
-pub rows_then : (rows more : List Row) (check : Check) → first_of rows ≡ check → first_of (rows ++ more) ≡ check_then check (first_of more)
-rows_then rows more check f = then rows ∙ ap (λ (c : Check). check_then c (first_of more)) f
+pub rows_then : (rows more : List Row) (check : Result ⊤ Refusal) → first_of rows ≡ check → first_of (rows ++ more) ≡ check_then check (first_of more)
+rows_then rows more check f = then rows ∙ ap (λ (c : Result ⊤ Refusal). check_then c (first_of more)) f
   where
     then : (rows : List Row) → first_of (rows ++ more) ≡ check_then (first_of rows) (first_of more)
-    then [] = ap (λ (c : Check). check_then c (first_of more)) (sym no_rows)
+    then [] = ap (λ (c : Result ⊤ Refusal). check_then c (first_of more)) (sym no_rows)
     then (r ∷ rows) = by r.holds refl (then rows)
       where
         by : (h : Bool) → r.holds ≡ h → first_of (rows ++ more) ≡ check_then (first_of rows) (first_of more)
             → first_of (r ∷ (rows ++ more)) ≡ check_then (first_of (r ∷ rows)) (first_of more)
-        by true e later = row-stops r (rows ++ more) e ∙ ap (λ (c : Check). check_then c (first_of more)) (sym (row-stops r rows e))
-        by false e later = row-passes r (rows ++ more) e ∙ later ∙ ap (λ (c : Check). check_then c (first_of more)) (sym (row-passes r rows e))
+        by true e later = row-stops r (rows ++ more) e ∙ ap (λ (c : Result ⊤ Refusal). check_then c (first_of more)) (sym (row-stops r rows e))
+        by false e later = row-passes r (rows ++ more) e ∙ later ∙ ap (λ (c : Result ⊤ Refusal). check_then c (first_of more)) (sym (row-passes r rows e))
 
-pub refused_first : (rows : List Row) (r : Refusal) → first_of rows ≡ Refused r → (i : ℕ) × FirstAt rows i × (refusal_at rows i ≡ Refused r)
+pub refused_first : (rows : List Row) (r : Refusal) → first_of rows ≡ Err r → (i : ℕ) × FirstAt rows i × (refusal_at rows i ≡ Err r)
 refused_first rows r f = by (first_or_none rows)
   where
-    by : NoneHolds rows ⊎ ((i : ℕ) × FirstAt rows i) → (i : ℕ) × FirstAt rows i × (refusal_at rows i ≡ Refused r)
+    by : NoneHolds rows ⊎ ((i : ℕ) × FirstAt rows i) → (i : ℕ) × FirstAt rows i × (refusal_at rows i ≡ Err r)
     by (inl none) = absurd (fine_refused (sym (none_fine rows none) ∙ f))
     by (inr (i, first)) = (i, first, sym (first_refused rows i first) ∙ f)
 
@@ -180,13 +176,13 @@ number-positive (StoreR NodesFull) = omega arith
 number-positive (StoreR Damaged) = omega arith
 number-positive (StoreR TextFull) = omega arith
 
-pub zero_fine : (check : Check) → check_number check ≡ 0 → check ≡ Fine
-zero_fine Fine e = refl
-zero_fine (Refused r) e = let h = number-positive r in absurd (omega arith)
+pub zero_fine : (check : Result ⊤ Refusal) → check_number check ≡ 0 → check ≡ (Ok tt)
+zero_fine (Ok _) e = refl
+zero_fine (Err r) e = let h = number-positive r in absurd (omega arith)
 
-pub accepted-zero : (answer : Changed) → changed_number answer ≡ 0 → (index : CuratorIndex) × (answer ≡ Changed'.Index index)
-accepted-zero (Changed'.Index index) e = (index, refl)
-accepted-zero (Changed'.Refused r) e = let h = number-positive r in absurd (omega arith)
+pub accepted-zero : (answer : Result CuratorIndex Refusal) → changed_number answer ≡ 0 → (index : CuratorIndex) × (answer ≡ Ok index)
+accepted-zero (Ok index) e = (index, refl)
+accepted-zero (Err r) e = let h = number-positive r in absurd (omega arith)
 
 -- the first row's number is returned
 pub first-number : (rows : List Row) (i : ℕ) → FirstAt rows i → check_number (first_of rows) ≡ get_or (numbers_of_rows rows) i 0
@@ -259,31 +255,31 @@ pub created-number : (dimension : ℕ) (params : CuratorParams) (capacities : Ca
 unfolding created
 created-number dimension params capacities = by (first_of (new_rows dimension params capacities))
   where
-    by : (check : Check) → changed_number (new_answer check dimension params capacities) ≡ check_number check
-    by Fine = refl
-    by (Refused r) = refl
+    by : (check : Result ⊤ Refusal) → changed_number (new_answer check dimension params capacities) ≡ check_number check
+    by (Ok _) = refl
+    by (Err r) = refl
 
 -- the answer of `new`, as its relation says it, and the other way round
-pub creates-is : (dimension : ℕ) (params : CuratorParams) (capacities : Capacities) (answer : Changed) → Creates dimension params capacities answer
+pub creates-is : (dimension : ℕ) (params : CuratorParams) (capacities : Capacities) (answer : Result CuratorIndex Refusal) → Creates dimension params capacities answer
     → answer ≡ created dimension params capacities
 unfolding Creates NewBy created new_answer
 creates-is dimension params capacities answer h = by (first_of (new_rows dimension params capacities)) h
   where
-    by : (check : Check) → NewBy check dimension params capacities answer → answer ≡ new_answer check dimension params capacities
-    by Fine c = carried-is (fresh dimension params capacities) answer c
-    by (Refused r) c = refused_is r answer c
+    by : (check : Result ⊤ Refusal) → NewBy check dimension params capacities answer → answer ≡ new_answer check dimension params capacities
+    by (Ok _) c = carried-is (fresh dimension params capacities) answer c
+    by (Err r) c = refused_is r answer c
 
-pub is-created : (dimension : ℕ) (params : CuratorParams) (capacities : Capacities) (answer : Changed) → answer ≡ created dimension params capacities
+pub is-created : (dimension : ℕ) (params : CuratorParams) (capacities : Capacities) (answer : Result CuratorIndex Refusal) → answer ≡ created dimension params capacities
     → Creates dimension params capacities answer
 unfolding Creates NewBy created new_answer
 is-created dimension params capacities answer e = by (first_of (new_rows dimension params capacities)) e
   where
-    by : (check : Check) → answer ≡ new_answer check dimension params capacities → NewBy check dimension params capacities answer
-    by Fine c = is_carried (fresh dimension params capacities) answer c
-    by (Refused r) c = is_refused r answer c
+    by : (check : Result ⊤ Refusal) → answer ≡ new_answer check dimension params capacities → NewBy check dimension params capacities answer
+    by (Ok _) c = is_carried (fresh dimension params capacities) answer c
+    by (Err r) c = is_refused r answer c
 
 -- each of the numbers 1 and 2 exactly if its row's case holds and no earlier row's does
-pub new_returned : (dimension : ℕ) (params : CuratorParams) (capacities : Capacities) (answer : Changed) → Creates dimension params capacities answer
+pub new_returned : (dimension : ℕ) (params : CuratorParams) (capacities : Capacities) (answer : Result CuratorIndex Refusal) → Creates dimension params capacities answer
     → (i : ℕ) → i < 2 → (changed_number answer ≡ get_or (1 ∷ 2 ∷ []) i 0) ↔ FirstAt (new_rows dimension params capacities) i
 unfolding different
 new_returned dimension params capacities answer new i h =
@@ -309,17 +305,17 @@ pub add-check-rows : (index : CuratorIndex) (store : Store) (call : AddCall) →
 unfolding add_check
 add-check-rows index store call = refl
 
-pub adds-number : (index : CuratorIndex) (store : Store) (call : AddCall) (answer : Changed) (store' : Store)
+pub adds-number : (index : CuratorIndex) (store : Store) (call : AddCall) (answer : Result CuratorIndex Refusal) (store' : Store)
     → Adds index store call answer store' → changed_number answer ≡ check_number (add_check index store call)
 unfolding Adds AddsBy
 adds-number index store call answer store' h = by (add_check index store call) h
   where
-    by : (check : Check) → AddsBy check index store call answer store' → changed_number answer ≡ check_number check
-    by Fine (e, wrote) = e.number_is
-    by (Refused r) (e, same) = e.number_is
+    by : (check : Result ⊤ Refusal) → AddsBy check index store call answer store' → changed_number answer ≡ check_number check
+    by (Ok _) (e, wrote) = e.number_is
+    by (Err r) (e, same) = e.number_is
 
 -- each of the numbers exactly if its row's case holds and no earlier row's does
-pub add_returned : (index : CuratorIndex) (store : Store) (call : AddCall) (answer : Changed) (store' : Store)
+pub add_returned : (index : CuratorIndex) (store : Store) (call : AddCall) (answer : Result CuratorIndex Refusal) (store' : Store)
     → Adds index store call answer store' → (i : ℕ) → i < 9
     → (changed_number answer ≡ get_or add_numbers i 0) ↔ FirstAt (rows_of_add index store call) i
 unfolding different

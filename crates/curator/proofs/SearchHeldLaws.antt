@@ -10,8 +10,8 @@ use Rattle.store.specs.Store.{Store}
 use Rattle.walk.proofs.HeldLaws.{SameHeld, same-shown, same_live}
 use Rattle.walk.specs.Walk.{State, damaged, going}
 use Rattle.walk.specs.StoreView.{live_in}
-use Rattle.settings.specs.declared.Check.{Check}
-use Rattle.settings.specs.declared.Check.TheVariants.{Fine, Refused}
+use Rattle.std.specs.Prelude.{Result, Ok, Err, ⊤}
+use Rattle.settings.specs.declared.refusal.Refusal.{Refusal}
 use Rattle.curator.specs.declared.CuratorIndex.{CuratorIndex}
 use Rattle.settings.specs.declared.refusal.Refusal.TheVariants as Refusal'
 use Rattle.settings.specs.declared.refusal.StateRefusal.TheVariants.{NotBuilt}
@@ -31,7 +31,7 @@ use Rattle.curator.specs.OutcomeLaws.{search_refused_is, found-is}
 
 -- ---- the rows
 
-rows_by : CuratorIndex → SearchCall → Bool → Check
+rows_by : CuratorIndex → SearchCall → Bool → Result ⊤ Refusal
 rows_by index call short =
     first_of
     (state_row (state_sound index) ∷ row short (Refusal'.Store ListTooShort) ∷ row (not index.built) (Refusal'.State NotBuilt)
@@ -46,7 +46,7 @@ unfolding search_check search_rows rows_by
 check_by index store work call = refl
 
 -- an accepted search is of an index with a node
-some-node : (index : CuratorIndex) (store : Store) (work : List ℕ) (call : SearchCall) → search_check index store work call ≡ Fine
+some-node : (index : CuratorIndex) (store : Store) (work : List ℕ) (call : SearchCall) → search_check index store work call ≡ (Ok tt)
     → (0 < index.counts.nodes) × (index.counts.nodes ≤ 2 ^ 64)
 unfolding search_rows built_allowed
 some-node index store work call f =
@@ -73,13 +73,13 @@ module _ (index : CuratorIndex) (call : SearchCall) (work other : List ℕ) (a b
   pub searches-same : (s t : Store) → lists_short (index_shape index) (lengths_of s) (length work) ≡ lists_short (index_shape index) (lengths_of t) (length other)
       → SameHeld (index_shape index) index.counts s t → Searches index s work call a → Searches index t other call b → SameEnd a b
   unfolding Searches SearchesBy
-  searches-same s t short same x y = by (search_check index s work call) refl x (subst (λ (c : Check). SearchesBy c index t other call b) (sym check) y)
+  searches-same s t short same x y = by (search_check index s work call) refl x (subst (λ (c : Result ⊤ Refusal). SearchesBy c index t other call b) (sym check) y)
     where
       check : search_check index s work call ≡ search_check index t other call
       check = check_by index s work call ∙ ap (rows_by index call) short ∙ sym (check_by index t other call)
 
-      by : (c : Check) → search_check index s work call ≡ c → SearchesBy c index s work call a → SearchesBy c index t other call b → SameEnd a b
-      by Fine f w v =
+      by : (c : Result ⊤ Refusal) → search_check index s work call ≡ c → SearchesBy c index s work call a → SearchesBy c index t other call b → SameEnd a b
+      by (Ok _) f w v =
           let (some, fits) = some-node index s work call f in
           let walks = same-shown (index_shape index) index.counts s t same.nodes_show (normalized call.question.query) (wanted_of call.question.asked) some fits index.params.ef_search in
           let test = live_in (index_shape index) index.counts s in
@@ -87,5 +87,5 @@ module _ (index : CuratorIndex) (call : SearchCall) (work other : List ℕ) (a b
           ended (walk_of index s call) test (walked_of s work a w)
           (subst (λ (state : State). WalkedTo state test index other call b) (sym walks)
           (subst (λ (p : ℕ → Bool). WalkedTo (walk_of index t call) p index other call b) (sym live) (walked_of t other b v)))
-      by (Refused r) f u v =
+      by (Err r) f u v =
           record { answer = search_refused_is _ _ u.answer ∙ sym (search_refused_is _ _ v.answer); ids = u.ids ∙ sym v.ids; distances = u.distances ∙ sym v.distances }

@@ -10,8 +10,8 @@ use Rattle.vector.specs.Vector.{all_finite}
 use Rattle.store.specs.Store.{Store}
 use Rattle.walk.specs.StoreView.{live_in, store_view}
 use Rattle.walk.specs.Walk.{State, damaged, going, walk}
-use Rattle.settings.specs.declared.Check.{Check}
-use Rattle.settings.specs.declared.Check.TheVariants.{Fine, Refused}
+use Rattle.std.specs.Prelude.{Result, Ok, Err, ⊤}
+use Rattle.settings.specs.declared.refusal.Refusal.{Refusal}
 use Rattle.curator.specs.declared.CuratorIndex.{CuratorIndex}
 use Rattle.settings.specs.declared.refusal.Refusal.TheVariants as Refusal'
 use Rattle.settings.specs.declared.refusal.StoreRefusal.TheVariants as StoreRefusal'
@@ -113,13 +113,13 @@ module _ (index : CuratorIndex) (store : Store) (work : List ℕ) (call : Search
       walked damaged e w = w.answer.number_is ∙ ap check_number (sym (row-stops last [] (ap is_damaged e)))
       walked (going p) e w = w.answer.number_is ∙ ap check_number (sym (row-passes last [] (ap is_damaged e) ∙ no_rows))
 
-      by : (check : Check) → first_of (early_search_rows index store work call) ≡ check → SearchesBy check index store work call end
+      by : (check : Result ⊤ Refusal) → first_of (early_search_rows index store work call) ≡ check → SearchesBy check index store work call end
           → found_number end.answer ≡ check_number (first_of (rows_of_search index store work call))
-      by Fine e w =
+      by (Ok _) e w =
           let same = ap (λ (query : List Float). walk_for index store call query) (normalized-is call.question.query w.query w.normalized) in
           walked (walk_for index store call w.query) (sym same) w.walked
-          ∙ ap check_number (sym (rows_then (early_search_rows index store work call) (last ∷ []) Fine e))
-      by (Refused r) e u = u.answer.number_is ∙ ap check_number (sym (rows_then (early_search_rows index store work call) (last ∷ []) (Refused r) e))
+          ∙ ap check_number (sym (rows_then (early_search_rows index store work call) (last ∷ []) (Ok tt) e))
+      by (Err r) e u = u.answer.number_is ∙ ap check_number (sym (rows_then (early_search_rows index store work call) (last ∷ []) (Err r) e))
 
   -- each of the numbers exactly if its row's case holds and no earlier row's does
   pub search_returned : (i : ℕ) → i < 7 → (found_number end.answer ≡ get_or search_numbers i 0) ↔ FirstAt (rows_of_search index store work call) i

@@ -7,9 +7,8 @@ use Rattle.vector.specs.Vector.{Normalized}
 use Rattle.vector.specs.VectorLaws.{length-divided_by}
 use Rattle.store.specs.Store.{Limits}
 use Rattle.settings.specs.declared.Capacities.{Capacities}
-use Rattle.curator.specs.declared.Changed.TheVariants as Changed'
-use Rattle.settings.specs.declared.Check.{Check}
-use Rattle.settings.specs.declared.Check.TheVariants as Check'
+use Rattle.std.specs.Prelude.{Result, Ok, Err, ⊤}
+use Rattle.settings.specs.declared.refusal.Refusal.{Refusal}
 use Rattle.curator.specs.declared.CuratorIndex.{CuratorIndex}
 use Rattle.settings.specs.declared.CuratorParams.{CuratorParams}
 use Rattle.curator.specs.Calls.{fresh}
@@ -172,17 +171,17 @@ facts_sound index s =
 
 -- an accepted `new` returns the fresh state, and no row's case holds
 pub created-accepted : (dimension : ℕ) (params : CuratorParams) (capacities : Capacities) (index : CuratorIndex)
-    → Creates dimension params capacities (Changed'.Index index)
+    → Creates dimension params capacities (Ok index)
     → (index ≡ fresh dimension params capacities) × NoneHolds (new_rows dimension params capacities)
 unfolding created new_answer
 created-accepted dimension params capacities index h =
-    by (first_of (new_rows dimension params capacities)) refl (sym (creates-is dimension params capacities (Changed'.Index index) h))
+    by (first_of (new_rows dimension params capacities)) refl (sym (creates-is dimension params capacities (Ok index) h))
   where
-    by : (check : Check) → first_of (new_rows dimension params capacities) ≡ check
-        → new_answer check dimension params capacities ≡ Changed'.Index index
+    by : (check : Result ⊤ Refusal) → first_of (new_rows dimension params capacities) ≡ check
+        → new_answer check dimension params capacities ≡ Ok index
         → (index ≡ fresh dimension params capacities) × NoneHolds (new_rows dimension params capacities)
-    by Check'.Fine f g = (cc, fine_none (new_rows dimension params capacities) f)
-    by (Check'.Refused r) f g = let z : ◌≡◌ {A = ℕ} 0 1 = cc in absurd (omega arith)
+    by (Ok _) f g = (cc, fine_none (new_rows dimension params capacities) f)
+    by (Err r) f g = let z : ◌≡◌ {A = ℕ} 0 1 = cc in absurd (omega arith)
 
 -- a fresh state within the limits is sound
 pub fresh-sound : (dimension : ℕ) (params : CuratorParams) (capacities : Capacities) → NoneHolds (new_rows dimension params capacities)
@@ -196,7 +195,7 @@ fresh-sound dimension params capacities (d, (s, _)) =
 
 -- 'A state from an accepted `new`' is sound
 pub created-sound : (dimension : ℕ) (params : CuratorParams) (capacities : Capacities) (index : CuratorIndex)
-    → Creates dimension params capacities (Changed'.Index index) → state_sound index ≡ true
+    → Creates dimension params capacities (Ok index) → state_sound index ≡ true
 created-sound dimension params capacities index e =
     let (f, none) = created-accepted dimension params capacities index e in
     ap state_sound f ∙ fresh-sound dimension params capacities none

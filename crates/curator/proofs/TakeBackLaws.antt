@@ -13,8 +13,8 @@ use Rattle.store.specs.declared.Lengths.{Lengths}
 use Rattle.store.specs.Store.{Store, owners_at, starts_at, lengths_at, live_at, entry_start}
 use Rattle.store.specs.Lent.{lengths_of, Long, store_short}
 use Rattle.store.specs.LentLaws.{store_long}
-use Rattle.settings.specs.declared.Check.{Check}
-use Rattle.settings.specs.declared.Check.TheVariants.{Fine, Refused}
+use Rattle.std.specs.Prelude.{Result, Ok, Err, ⊤}
+use Rattle.settings.specs.declared.refusal.Refusal.{Refusal}
 use Rattle.settings.specs.Refusals.{check_number}
 use Rattle.settings.specs.Limits.{built_allowed}
 use Rattle.tree.specs.Nodes.{Entries}
@@ -22,8 +22,6 @@ use Rattle.label.specs.Names.{starts_from, lengths_of_names, bytes_of_names}
 use Rattle.label.specs.TextLaws.{length-starts}
 use Rattle.walk.proofs.HeldLaws.{same_at}
 use Rattle.curator.specs.declared.CuratorIndex.{CuratorIndex}
-use Rattle.curator.specs.declared.Changed.{Changed}
-use Rattle.curator.specs.declared.Changed.TheVariants as Changed'
 use Rattle.curator.specs.Outcome.{changed_number, Succeeded}
 use Rattle.curator.specs.Limits.{state_sound, index_shape}
 use Rattle.curator.specs.Arguments.{AddCall}
@@ -53,17 +51,17 @@ take_back_rows_lem : (index : CuratorIndex) (store : Store) → take_back_check 
 unfolding take_back_check
 take_back_rows_lem index store = refl
 
-takes_back_number : (index : CuratorIndex) (store : Store) (answer : Changed) → TakesBack index store answer
+takes_back_number : (index : CuratorIndex) (store : Store) (answer : Result CuratorIndex Refusal) → TakesBack index store answer
     → changed_number answer ≡ check_number (take_back_check index store)
 unfolding TakesBack TakesBackBy
 takes_back_number index store answer h = by (take_back_check index store) h
   where
-    by : (check : Check) → TakesBackBy check index store answer → changed_number answer ≡ check_number check
-    by Fine e = e.number_is
-    by (Refused r) e = e.number_is
+    by : (check : Result ⊤ Refusal) → TakesBackBy check index store answer → changed_number answer ≡ check_number check
+    by (Ok _) e = e.number_is
+    by (Err r) e = e.number_is
 
 -- each of the numbers exactly if its row's case holds and no earlier row's does
-pub take_back_returned : (index : CuratorIndex) (store : Store) (answer : Changed) → TakesBack index store answer → (i : ℕ) → i < 4
+pub take_back_returned : (index : CuratorIndex) (store : Store) (answer : Result CuratorIndex Refusal) → TakesBack index store answer → (i : ℕ) → i < 4
     → (changed_number answer ≡ get_or take_back_numbers i 0) ↔ FirstAt (rows_of_take_back index store) i
 unfolding different
 take_back_returned index store answer takes i h =
@@ -79,7 +77,7 @@ pub record CanTakeBack (index : CuratorIndex) (lent : Lengths) : Type 0 where
   pub unbuilt : index.built ≡ false
   pub some : 0 < index.counts.vectors
 
-pub can_take_back : (index : CuratorIndex) (store : Store) → take_back_check index store ≡ Fine → CanTakeBack index (lengths_of store)
+pub can_take_back : (index : CuratorIndex) (store : Store) → take_back_check index store ≡ (Ok tt) → CanTakeBack index (lengths_of store)
 unfolding take_back_rows
 can_take_back index store fine =
     let (sound, (short, (built, (none, _)))) = fine_none (rows_of_take_back index store) (sym (take_back_rows_lem index store) ∙ fine) in
@@ -93,10 +91,10 @@ can_take_back index store fine =
 
 -- ---- the relation by what the check comes to
 
-pub takes_back_by : (index : CuratorIndex) (store : Store) (answer : Changed) (check : Check) → take_back_check index store ≡ check
+pub takes_back_by : (index : CuratorIndex) (store : Store) (answer : Result CuratorIndex Refusal) (check : Result ⊤ Refusal) → take_back_check index store ≡ check
     → TakesBackBy check index store answer → TakesBack index store answer
 unfolding TakesBack
-takes_back_by index store answer check e h = subst (λ (k : Check). TakesBackBy k index store answer) (sym e) h
+takes_back_by index store answer check e h = subst (λ (k : Result ⊤ Refusal). TakesBackBy k index store answer) (sym e) h
 
 -- ---- what is read: two stores that agree on what is held give the same answer
 
@@ -130,18 +128,18 @@ shrunk-same : (index : CuratorIndex) (s t : Store) → SameOfIndex index s t →
 shrunk-same index s t h =
     ap₂ (λ (entries bytes : ℕ). with_counts index (counts_less index.counts entries bytes) index.built) (last-same index s t h) (bytes-left-same index s t h)
 
-pub takes_back_same : (index : CuratorIndex) (s t : Store) (a b : Changed) → lengths_of s ≡ lengths_of t → SameOfIndex index s t → TakesBack index s a
+pub takes_back_same : (index : CuratorIndex) (s t : Store) (a b : Result CuratorIndex Refusal) → lengths_of s ≡ lengths_of t → SameOfIndex index s t → TakesBack index s a
     → TakesBack index t b → a ≡ b
 unfolding TakesBack TakesBackBy take_back_check
 takes_back_same index s t a b l h x y =
-    by (take_back_check index s) x (subst (λ (k : Check). TakesBackBy k index t b) (sym check) y)
+    by (take_back_check index s) x (subst (λ (k : Result ⊤ Refusal). TakesBackBy k index t b) (sym check) y)
   where
     check : take_back_check index s ≡ take_back_check index t
     check = ap (λ (k : Lengths). first_of (state_row (state_sound index) ∷ take_back_rows (facts_of index) k)) l
 
-    by : (k : Check) → TakesBackBy k index s a → TakesBackBy k index t b → a ≡ b
-    by Fine x y = carried-is _ a x ∙ ap Changed'.Index (shrunk-same index s t h) ∙ sym (carried-is _ b y)
-    by (Refused r) x y = refused_is r a x ∙ sym (refused_is r b y)
+    by : (k : Result ⊤ Refusal) → TakesBackBy k index s a → TakesBackBy k index t b → a ≡ b
+    by (Ok _) x y = carried-is _ a x ∙ ap Ok (shrunk-same index s t h) ∙ sym (carried-is _ b y)
+    by (Err r) x y = refused_is r a x ∙ sym (refused_is r b y)
 
 -- ---- an accepted add, then a taking back
 
@@ -235,8 +233,8 @@ grown-sound index store call a =
     })
 
 -- so it is accepted
-grown_fine : (index : CuratorIndex) (store : Store) (call : AddCall) (store' : Store) → add_check index store call ≡ Fine → Wrote index store call store'
-    → take_back_check (grown index call.names) store' ≡ Fine
+grown_fine : (index : CuratorIndex) (store : Store) (call : AddCall) (store' : Store) → add_check index store call ≡ (Ok tt) → Wrote index store call store'
+    → take_back_check (grown index call.names) store' ≡ (Ok tt)
 unfolding add_rows take_back_rows
 grown_fine index store call store' fine wrote =
     let (_, (short, (built, _))) = fine_none (rows_of_add index store call) (sym (add-check-rows index store call) ∙ fine) in
@@ -249,20 +247,20 @@ grown_fine index store call store' fine wrote =
     (ap not sound, (short', (built, (ne_eqb (index.counts.vectors + 1) 0 (λ e. omega arith), tt))))
 
 -- 'An accepted add followed by taking back is then the identity on all that is held', on any state and store of which every owner held is below n
-pub add-taken_back : (index : CuratorIndex) (store : Store) (call : AddCall) (index' : CuratorIndex) (store' : Store) (answer : Changed)
-    → owners_damaged index store ≡ false → Adds index store call (Changed'.Index index') store' → TakesBack index' store' answer
+pub add-taken_back : (index : CuratorIndex) (store : Store) (call : AddCall) (index' : CuratorIndex) (store' : Store) (answer : Result CuratorIndex Refusal)
+    → owners_damaged index store ≡ false → Adds index store call (Ok index') store' → TakesBack index' store' answer
     → Succeeded index answer × SameOfIndex index store' store
 unfolding TakesBack TakesBackBy
 add-taken_back index store call index' store' answer sound adds takes =
     let (fine, is, wrote) = adds-accepted index store call index' store' adds in
     let room = (add_facts index store call fine).room in
-    let check : take_back_check index' store' ≡ Fine =
+    let check : take_back_check index' store' ≡ (Ok tt) =
     ap (λ (i : CuratorIndex). take_back_check i store') is ∙ grown_fine index store call store' fine wrote in
     let state : shrunk index' store' ≡ index =
     ap (λ (i : CuratorIndex). shrunk i store') is
     ∙ shrunk-grown index call.names (last_entries (grown index call.names) store') (bytes_left (grown index call.names) store')
     (last-added index store call store' room wrote sound)
     (bytes-added index store call store' room wrote sound) in (
-      subst (λ (i : CuratorIndex). Succeeded i answer) state (subst (λ (c : Check). TakesBackBy c index' store' answer) check takes),
+      subst (λ (i : CuratorIndex). Succeeded i answer) state (subst (λ (c : Result ⊤ Refusal). TakesBackBy c index' store' answer) check takes),
       held_kept index store call store' room wrote,
     )

@@ -9,9 +9,9 @@ use Rattle.vector.specs.Vector.{zero32}
 use Rattle.vector.specs.Normalized.{normalized, normalized-is}
 use Rattle.store.specs.Store.{Store, live_marks}
 use Rattle.curator.specs.Limits.{index_shape}
-use Rattle.settings.specs.declared.Check.TheVariants.{Fine}
+use Rattle.std.specs.Prelude.{Result, Ok}
+use Rattle.settings.specs.declared.refusal.Refusal.{Refusal}
 use Rattle.curator.specs.declared.CuratorIndex.{CuratorIndex}
-use Rattle.curator.specs.declared.Changed.{Changed}
 use Rattle.curator.specs.Arguments.{AddCall, add_of}
 use Rattle.curator.specs.Calls.{last_entries, bytes_left, fresh}
 use Rattle.curator.specs.Changes.{created, add_check, AddsBy, Adds, take_back_check, withdraw_check, withdrawn_from}
@@ -51,18 +51,18 @@ trial_add first second =
     record { document = 7; vector = of_bits binary32 first ∷ of_bits binary32 second ∷ []; lengths_allowed = true; names = [] }
 
 -- (1e30, -1e30) is accepted, and whatever an add leaves begins with 0.0 and -0.0
-trial_overflow_fine : add_check trial_index trial_store (trial_add 0x7149F2CA 0xF149F2CA) ≡ Fine
+trial_overflow_fine : add_check trial_index trial_store (trial_add 0x7149F2CA 0xF149F2CA) ≡ (Ok tt)
 unfolding add_check trial_index trial_store trial_add
 trial_overflow_fine = refl
 
-trial_overflow : (answer : Changed) (store' : Store) → Adds trial_index trial_store (trial_add 0x7149F2CA 0xF149F2CA) answer store'
+trial_overflow : (answer : Result CuratorIndex Refusal) (store' : Store) → Adds trial_index trial_store (trial_add 0x7149F2CA 0xF149F2CA) answer store'
     → map (to_bits binary32) store'.floats ≡ 0 ∷ 0x80000000 ∷ 0 ∷ 0 ∷ 0 ∷ 0 ∷ []
 unfolding Adds AddsBy add_check trial_index trial_store trial_add normalized to_bits
 trial_overflow answer store' (_, wrote) =
     ap (map (to_bits binary32)) (wrote.floats ∙ ap (sets trial_store.floats 0) (normalized-is _ _ wrote.normalized))
 
 -- an infinite second component is refusal 8, and nothing is written
-trial_infinite : (answer : Changed) (store' : Store) → Adds trial_index trial_store (trial_add 0x3F800000 0xFF800000) answer store'
+trial_infinite : (answer : Result CuratorIndex Refusal) (store' : Store) → Adds trial_index trial_store (trial_add 0x3F800000 0xFF800000) answer store'
     → (changed_number answer ≡ 8) × (store' ≡ trial_store)
 unfolding Adds AddsBy add_check trial_index trial_store trial_add
 trial_infinite answer store' (refused, same) = (ap changed_number (refused_is _ _ refused), same)
@@ -116,7 +116,7 @@ unfolding add_check held_index held_store short_text zero32 names_of lengths_fit
 trial_twenty = (refl, refl, refl, refl, refl)
 
 -- the name `ab` in the parts `a` and `b`, and all in the second part: whatever two such adds answer and leave is the same
-trial_parted : (answer answer' : Changed) (after after' : Store)
+trial_parted : (answer answer' : Result CuratorIndex Refusal) (after after' : Store)
     → Adds (held_index 1 3 0 3) (held_store (0 ∷ 0 ∷ 0 ∷ 0 ∷ [])) (add_of 7 (zero32 ∷ []) (1 ∷ 1 ∷ []) (97 ∷ 98 ∷ [])) answer after
     → Adds (held_index 1 3 0 3) (held_store (0 ∷ 0 ∷ 0 ∷ 0 ∷ [])) (add_of 7 (zero32 ∷ []) (0 ∷ 2 ∷ []) (97 ∷ 98 ∷ [])) answer' after'
     → (answer ≡ answer') × (after ≡ after')

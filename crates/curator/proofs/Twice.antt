@@ -9,8 +9,8 @@ use Rattle.walk.specs.Walk.{State, damaged, going, walk}
 use Rattle.walk.specs.StoreView.{live_in, store_view}
 use Rattle.walk.proofs.Twice.{twice-walk}
 use Rattle.walk.proofs.HeldLaws.{held_itself}
-use Rattle.settings.specs.declared.Check.{Check}
-use Rattle.settings.specs.declared.Check.TheVariants.{Fine, Refused}
+use Rattle.std.specs.Prelude.{Result, Ok, Err, ⊤}
+use Rattle.settings.specs.declared.refusal.Refusal.{Refusal}
 use Rattle.curator.specs.declared.CuratorIndex.{CuratorIndex}
 use Rattle.curator.specs.Limits.{index_shape}
 use Rattle.curator.specs.Arguments.{Asked, labelled, labelled_both, SearchCall}
@@ -50,8 +50,8 @@ module _ (index : CuratorIndex) (store : Store) (work : List ℕ) (query : List 
   unfolding Searches SearchesBy search_check
   searches-once end x = by (search_check index store work once) x
     where
-      by : (c : Check) → SearchesBy c index store work twice end → SearchesBy c index store work once end
-      by Fine w =
+      by : (c : Result ⊤ Refusal) → SearchesBy c index store work twice end → SearchesBy c index store work once end
+      by (Ok _) w =
           let test = live_in (index_shape index) index.counts store in
           let state = walk (store_view (index_shape index) index.counts store w.query (wanted_of (labelled name))) index.params.ef_search in
           record {
@@ -60,14 +60,14 @@ module _ (index : CuratorIndex) (store : Store) (work : List ℕ) (query : List 
             walked = (same_to state test end).0
                 (subst (λ (s : State). WalkedTo s test index work twice end) (walks_alike w.query index.params.ef_search) w.walked);
           }
-      by (Refused r) u = record { answer = u.answer; work = u.work; ids = u.ids; distances = u.distances }
+      by (Err r) u = record { answer = u.answer; work = u.work; ids = u.ids; distances = u.distances }
 
   pub searches-twice : (end : SearchEnd) → Searches index store work once end → Searches index store work twice end
   unfolding Searches SearchesBy search_check
   searches-twice end x = by (search_check index store work once) x
     where
-      by : (c : Check) → SearchesBy c index store work once end → SearchesBy c index store work twice end
-      by Fine w =
+      by : (c : Result ⊤ Refusal) → SearchesBy c index store work once end → SearchesBy c index store work twice end
+      by (Ok _) w =
           let test = live_in (index_shape index) index.counts store in
           let state = walk (store_view (index_shape index) index.counts store w.query (wanted_of (labelled name))) index.params.ef_search in
           record {
@@ -76,7 +76,7 @@ module _ (index : CuratorIndex) (store : Store) (work : List ℕ) (query : List 
             walked = subst (λ (s : State). WalkedTo s test index work twice end) (sym (walks_alike w.query index.params.ef_search))
                 ((same_to state test end).1 w.walked);
           }
-      by (Refused r) u = record { answer = u.answer; work = u.work; ids = u.ids; distances = u.distances }
+      by (Err r) u = record { answer = u.answer; work = u.work; ids = u.ids; distances = u.distances }
 
   pub answers-twice : (end end' : SearchEnd) → Searches index store work twice end → Searches index store work once end' → SameEnd end end'
   answers-twice end end' x y =

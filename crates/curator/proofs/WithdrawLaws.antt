@@ -12,11 +12,10 @@ use Rattle.store.specs.declared.Lengths.{Lengths}
 use Rattle.store.specs.Store.{Store, owners_at, starts_at, lengths_at, live_at}
 use Rattle.store.specs.Lent.{lengths_of, Long}
 use Rattle.store.specs.LentLaws.{store_long}
-use Rattle.settings.specs.declared.Check.{Check}
-use Rattle.settings.specs.declared.Check.TheVariants.{Fine, Refused}
+use Rattle.std.specs.Prelude.{Result, Ok, Err, ⊤}
+use Rattle.settings.specs.declared.refusal.Refusal.{Refusal}
 use Rattle.settings.specs.Refusals.{check_number}
 use Rattle.curator.specs.declared.CuratorIndex.{CuratorIndex}
-use Rattle.curator.specs.declared.Changed.{Changed}
 use Rattle.curator.specs.Outcome.{changed_number}
 use Rattle.curator.specs.Limits.{state_sound, index_shape}
 use Rattle.curator.specs.Rows.{Row, first_of, state_row, withdraw_rows}
@@ -42,17 +41,17 @@ withdraw-rows : (index : CuratorIndex) (store : Store) (document : ℕ) → with
 unfolding withdraw_check
 withdraw-rows index store document = refl
 
-pub withdraws-number : (index : CuratorIndex) (store : Store) (document : ℕ) (answer : Changed) (store' : Store) → Withdraws index store document answer store'
+pub withdraws-number : (index : CuratorIndex) (store : Store) (document : ℕ) (answer : Result CuratorIndex Refusal) (store' : Store) → Withdraws index store document answer store'
     → changed_number answer ≡ check_number (withdraw_check index store document)
 unfolding Withdraws WithdrawsBy
 withdraws-number index store document answer store' h = by (withdraw_check index store document) h
   where
-    by : (check : Check) → WithdrawsBy check index store document answer store' → changed_number answer ≡ check_number check
-    by Fine (e, _) = e.number_is
-    by (Refused r) (e, _) = e.number_is
+    by : (check : Result ⊤ Refusal) → WithdrawsBy check index store document answer store' → changed_number answer ≡ check_number check
+    by (Ok _) (e, _) = e.number_is
+    by (Err r) (e, _) = e.number_is
 
 -- each of the numbers exactly if its row's case holds and no earlier row's does
-pub withdraw_returned : (index : CuratorIndex) (store : Store) (document : ℕ) (answer : Changed) (store' : Store) → Withdraws index store document answer store'
+pub withdraw_returned : (index : CuratorIndex) (store : Store) (document : ℕ) (answer : Result CuratorIndex Refusal) (store' : Store) → Withdraws index store document answer store'
     → (i : ℕ) → i < 3 → (changed_number answer ≡ get_or withdraw_numbers i 0) ↔ FirstAt (rows_of_withdraw index store document) i
 unfolding different
 withdraw_returned index store document answer store' withdraws i h =
@@ -62,10 +61,10 @@ withdraw_returned index store document answer store' withdraws i h =
     h
 
 -- the relation by what the check comes to
-pub withdraws_by : (index : CuratorIndex) (store : Store) (document : ℕ) (answer : Changed) (store' : Store) (check : Check) → withdraw_check index store document ≡ check
+pub withdraws_by : (index : CuratorIndex) (store : Store) (document : ℕ) (answer : Result CuratorIndex Refusal) (store' : Store) (check : Result ⊤ Refusal) → withdraw_check index store document ≡ check
     → WithdrawsBy check index store document answer store' → Withdraws index store document answer store'
 unfolding Withdraws
-withdraws_by index store document answer store' check e h = subst (λ (k : Check). WithdrawsBy k index store document answer store') (sym e) h
+withdraws_by index store document answer store' check e h = subst (λ (k : Result ⊤ Refusal). WithdrawsBy k index store document answer store') (sym e) h
 
 -- What an accepted withdrawal was asked of, as plain facts.
 pub record CanWithdraw (index : CuratorIndex) (store : Store) (document : ℕ) : Type 0 where
@@ -73,7 +72,7 @@ pub record CanWithdraw (index : CuratorIndex) (store : Store) (document : ℕ) :
   pub long : Long (index_shape index) (lengths_of store)
   pub held : holds_document index store document ≡ true
 
-pub can_withdraw : (index : CuratorIndex) (store : Store) (document : ℕ) → withdraw_check index store document ≡ Fine → CanWithdraw index store document
+pub can_withdraw : (index : CuratorIndex) (store : Store) (document : ℕ) → withdraw_check index store document ≡ (Ok tt) → CanWithdraw index store document
 unfolding withdraw_rows
 can_withdraw index store document fine =
     let (sound, (short, (held, _))) = fine_none (rows_of_withdraw index store document) (sym (withdraw-rows index store document) ∙ fine) in
@@ -233,19 +232,19 @@ withdrawn-same index s t document h c d =
           ∙ sym (withdrawn-marks index t d.long d.sound.vectors document);
     }
 
-pub withdraws-same : (index : CuratorIndex) (s t : Store) (document : ℕ) (a b : Changed) (s' t' : Store) → lengths_of s ≡ lengths_of t → SameOfIndex index s t
+pub withdraws-same : (index : CuratorIndex) (s t : Store) (document : ℕ) (a b : Result CuratorIndex Refusal) (s' t' : Store) → lengths_of s ≡ lengths_of t → SameOfIndex index s t
     → Withdraws index s document a s' → Withdraws index t document b t' → (a ≡ b) × SameOfIndex index s' t'
 unfolding Withdraws WithdrawsBy
 withdraws-same index s t document a b s' t' l h x y =
-    by (withdraw_check index s document) refl (sym check) x (subst (λ (k : Check). WithdrawsBy k index t document b t') (sym check) y)
+    by (withdraw_check index s document) refl (sym check) x (subst (λ (k : Result ⊤ Refusal). WithdrawsBy k index t document b t') (sym check) y)
   where
     check : withdraw_check index s document ≡ withdraw_check index t document
     check = withdraw-check-same index s t document l h
 
-    by : (k : Check) → withdraw_check index s document ≡ k → withdraw_check index t document ≡ k → WithdrawsBy k index s document a s'
+    by : (k : Result ⊤ Refusal) → withdraw_check index s document ≡ k → withdraw_check index t document ≡ k → WithdrawsBy k index s document a s'
         → WithdrawsBy k index t document b t' → (a ≡ b) × SameOfIndex index s' t'
-    by Fine m n (e, is) (f, is') = (
+    by (Ok _) m n (e, is) (f, is') = (
       carried-is index a e ∙ sym (carried-is index b f),
       rw (is, is') (withdrawn-same index s t document h (can_withdraw index s document m) (can_withdraw index t document n)),
     )
-    by (Refused r) m n (e, is) (f, is') = (refused_is r a e ∙ sym (refused_is r b f), rw (is, is') h)
+    by (Err r) m n (e, is) (f, is') = (refused_is r a e ∙ sym (refused_is r b f), rw (is, is') h)

@@ -13,10 +13,9 @@ use Rattle.walk.specs.Walk.{walk}
 use Rattle.walk.specs.Wanted.{Sought}
 use Rattle.walk.specs.StoreView.{store_view}
 use Rattle.walk.proofs.HeldLaws.{SameShown, same-shown}
-use Rattle.settings.specs.declared.Check.{Check}
-use Rattle.settings.specs.declared.Check.TheVariants.{Fine, Refused}
+use Rattle.std.specs.Prelude.{Result, Ok, Err, ⊤}
+use Rattle.settings.specs.declared.refusal.Refusal.{Refusal}
 use Rattle.curator.specs.declared.CuratorIndex.{CuratorIndex}
-use Rattle.curator.specs.declared.Changed.{Changed}
 use Rattle.curator.specs.Outcome.{changed_number, Succeeded}
 use Rattle.curator.specs.Limits.{state_sound, index_shape}
 use Rattle.curator.specs.Rows.{first_of, state_row, withdraw_rows}
@@ -37,14 +36,14 @@ pub record OnlyMarks (s : Shape) (vectors : ℕ) (store store' : Store) : Type 0
   pub hashes : store'.hashes ≡ store.hashes
   pub text : store'.text ≡ store.text
 
-pub withdraws_only : (index : CuratorIndex) (store : Store) (document : ℕ) (answer : Changed) (store' : Store) → Withdraws index store document answer store'
+pub withdraws_only : (index : CuratorIndex) (store : Store) (document : ℕ) (answer : Result CuratorIndex Refusal) (store' : Store) → Withdraws index store document answer store'
     → OnlyMarks (index_shape index) index.counts.vectors store store'
 unfolding Withdraws WithdrawsBy withdrawn_from
 withdraws_only index store document answer store' h = by (withdraw_check index store document) refl h
   where
-    by : (check : Check) → withdraw_check index store document ≡ check → WithdrawsBy check index store document answer store'
+    by : (check : Result ⊤ Refusal) → withdraw_check index store document ≡ check → WithdrawsBy check index store document answer store'
         → OnlyMarks (index_shape index) index.counts.vectors store store'
-    by Fine e (_, is) =
+    by (Ok _) e (_, is) =
         let can = can_withdraw index store document e in
         let marks = marks_withdrawn document (held_documents index store) (held_marks index store) in
         record {
@@ -56,7 +55,7 @@ withdraws_only index store document answer store' h = by (withdraw_check index s
           hashes = ap (λ (x : Store). x.hashes) is;
           text = ap (λ (x : Store). x.text) is;
         }
-    by (Refused r) e (_, is) =
+    by (Err r) e (_, is) =
         record {
           floats = ap (λ (x : Store). x.floats) is;
           before = ap (λ (x : Store). take (live_at (index_shape index)) x.numbers) is;
@@ -95,25 +94,25 @@ only_shown index store store' sound only =
     }
 
 -- whatever a withdrawal answers, every walk over the store is the one before: the same nodes opened, the same hits, damaged or not
-pub withdraws-walk : (index : CuratorIndex) (store : Store) (document : ℕ) (answer : Changed) (store' : Store) → Withdraws index store document answer store'
+pub withdraws-walk : (index : CuratorIndex) (store : Store) (document : ℕ) (answer : Result CuratorIndex Refusal) (store' : Store) → Withdraws index store document answer store'
     → 0 < index.counts.nodes → (query : List Float) (wanted : Sought) (ef : ℕ)
     → walk (store_view (index_shape index) index.counts store' query wanted) ef ≡ walk (store_view (index_shape index) index.counts store query wanted) ef
 unfolding Withdraws WithdrawsBy
 withdraws-walk index store document answer store' h some query wanted ef = by (withdraw_check index store document) refl h
   where
-    by : (check : Check) → withdraw_check index store document ≡ check → WithdrawsBy check index store document answer store'
+    by : (check : Result ⊤ Refusal) → withdraw_check index store document ≡ check → WithdrawsBy check index store document answer store'
         → walk (store_view (index_shape index) index.counts store' query wanted) ef ≡ walk (store_view (index_shape index) index.counts store query wanted) ef
-    by Fine e w =
+    by (Ok _) e w =
         let sound = (can_withdraw index store document e).sound in
         same-shown (index_shape index) index.counts store' store (only_shown index store store' sound (withdraws_only index store document answer store' h)) query wanted some
         (omega (arith, sound.nodes, sound.limits.nodes_high)) ef
-    by (Refused r) e (_, is) = ap (λ (x : Store). walk (store_view (index_shape index) index.counts x query wanted) ef) is
+    by (Err r) e (_, is) = ap (λ (x : Store). walk (store_view (index_shape index) index.counts x query wanted) ef) is
 
 -- ---- 'withdrawing again at once succeeds and alters nothing'
 
 -- the check of the same id is the same
-again_fine : (index : CuratorIndex) (store : Store) (document : ℕ) → withdraw_check index store document ≡ Fine
-    → withdraw_check index (withdrawn_from index store document) document ≡ Fine
+again_fine : (index : CuratorIndex) (store : Store) (document : ℕ) → withdraw_check index store document ≡ (Ok tt)
+    → withdraw_check index (withdrawn_from index store document) document ≡ (Ok tt)
 unfolding withdraw_check holds_document
 again_fine index store document fine =
     let can = can_withdraw index store document fine in
@@ -121,7 +120,7 @@ again_fine index store document fine =
     (ap (is_in document) (withdrawn-documents index store can.long can.sound.vectors document))
     ∙ fine
 
-again_store : (index : CuratorIndex) (store : Store) (document : ℕ) → withdraw_check index store document ≡ Fine
+again_store : (index : CuratorIndex) (store : Store) (document : ℕ) → withdraw_check index store document ≡ (Ok tt)
     → withdrawn_from index (withdrawn_from index store document) document ≡ withdrawn_from index store document
 unfolding withdrawn_from
 again_store index store document fine =
@@ -139,14 +138,14 @@ again_store index store document fine =
     ap (sets (sets store.numbers at marks) at) same ∙ sets-sets-same store.numbers at marks marks refl in
     λ i. record { floats = store.floats; numbers = numbers i; hashes = store.hashes; text = store.text }
 
-pub withdraws_again : (index : CuratorIndex) (store : Store) (document : ℕ) (answer answer' : Changed) (store' store'' : Store)
+pub withdraws_again : (index : CuratorIndex) (store : Store) (document : ℕ) (answer answer' : Result CuratorIndex Refusal) (store' store'' : Store)
     → Withdraws index store document answer store' → changed_number answer ≡ 0 → Withdraws index store' document answer' store''
     → Succeeded index answer' × (store'' ≡ store')
 unfolding Withdraws WithdrawsBy
 withdraws_again index store document answer answer' store' store'' first none second =
-    let fine : withdraw_check index store document ≡ Fine =
+    let fine : withdraw_check index store document ≡ (Ok tt) =
     zero_fine (withdraw_check index store document) (sym (withdraws-number index store document answer store' first) ∙ none) in
-    let (_, is) = subst (λ (c : Check). WithdrawsBy c index store document answer store') fine first in
-    let check : withdraw_check index store' document ≡ Fine = ap (λ (x : Store). withdraw_check index x document) is ∙ again_fine index store document fine in
-    let (succeeded, left) = subst (λ (c : Check). WithdrawsBy c index store' document answer' store'') check second in
+    let (_, is) = subst (λ (c : Result ⊤ Refusal). WithdrawsBy c index store document answer store') fine first in
+    let check : withdraw_check index store' document ≡ (Ok tt) = ap (λ (x : Store). withdraw_check index x document) is ∙ again_fine index store document fine in
+    let (succeeded, left) = subst (λ (c : Result ⊤ Refusal). WithdrawsBy c index store' document answer' store'') check second in
     (succeeded, left ∙ ap (λ (x : Store). withdrawn_from index x document) is ∙ again_store index store document fine ∙ sym is)

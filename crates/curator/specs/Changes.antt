@@ -14,10 +14,7 @@ use Rattle.lists.specs.Frame.{Part, Freed}
 use Rattle.settings.specs.declared.CuratorParams.{CuratorParams}
 use Rattle.settings.specs.declared.Capacities.{Capacities}
 use Rattle.curator.specs.declared.CuratorIndex.{CuratorIndex}
-use Rattle.settings.specs.declared.Check.{Check}
-use Rattle.settings.specs.declared.Check.TheVariants as Check'
-use Rattle.curator.specs.declared.Changed.{Changed}
-use Rattle.curator.specs.declared.Changed.TheVariants as Changed'
+use Rattle.std.specs.Prelude.{Result, Ok, Err, ⊤}
 use Rattle.settings.specs.declared.refusal.Refusal.{Refusal}
 use Rattle.settings.specs.declared.refusal.Refusal.TheVariants as Refusal'
 use Rattle.settings.specs.declared.refusal.StoreRefusal.{StoreRefusal}
@@ -73,26 +70,26 @@ pub record Left (s : Shape) (r : Refusal) (store : Store) (lent : List ℕ) (sto
 -- ---- new
 
 -- what `new` answers
-unfoldable pub new_answer : Check → ℕ → CuratorParams → Capacities → Changed
-new_answer Check'.Fine dimension params capacities = Changed'.Index (fresh dimension params capacities)
-new_answer (Check'.Refused r) dimension params capacities = Changed'.Refused r
+unfoldable pub new_answer : Result ⊤ Refusal → ℕ → CuratorParams → Capacities → Result CuratorIndex Refusal
+new_answer (Ok _) dimension params capacities = Ok (fresh dimension params capacities)
+new_answer (Err r) dimension params capacities = Err r
 
-unfoldable pub created : ℕ → CuratorParams → Capacities → Changed
+unfoldable pub created : ℕ → CuratorParams → Capacities → Result CuratorIndex Refusal
 unfolding new_answer first_of new_rows
 created dimension params capacities = new_answer (first_of (new_rows dimension params capacities)) dimension params capacities
 
-unfoldable pub NewBy : Check → ℕ → CuratorParams → Capacities → Changed → Type 0
-NewBy Check'.Fine dimension params capacities answer = Succeeded (fresh dimension params capacities) answer
-NewBy (Check'.Refused r) dimension params capacities answer = ChangeRefused r answer
+unfoldable pub NewBy : Result ⊤ Refusal → ℕ → CuratorParams → Capacities → Result CuratorIndex Refusal → Type 0
+NewBy (Ok _) dimension params capacities answer = Succeeded (fresh dimension params capacities) answer
+NewBy (Err r) dimension params capacities answer = ChangeRefused r answer
 
 -- the whole result of `new`
-unfoldable pub Creates : ℕ → CuratorParams → Capacities → Changed → Type 0
+unfoldable pub Creates : ℕ → CuratorParams → Capacities → Result CuratorIndex Refusal → Type 0
 unfolding NewBy first_of new_rows
 Creates dimension params capacities answer = NewBy (first_of (new_rows dimension params capacities)) dimension params capacities answer
 
 -- ---- add
 
-unfoldable pub add_check : CuratorIndex → Store → AddCall → Check
+unfoldable pub add_check : CuratorIndex → Store → AddCall → Result ⊤ Refusal
 unfolding first_of state_sound add_rows
 add_check index store call =
     first_of (state_row (state_sound index) ∷ add_rows (facts_of index) (lengths_of store) call)
@@ -122,31 +119,31 @@ pub record Wrote (index : CuratorIndex) (store : Store) (call : AddCall) (store'
   pub hashes : store'.hashes ≡ sets store.hashes index.counts.entries (hashes_of_labels call.names)
   pub text : store'.text ≡ sets store.text index.counts.bytes (bytes_of_names call.names)
 
-unfoldable pub AddsBy : Check → CuratorIndex → Store → AddCall → Changed → Store → Type 0
-AddsBy Check'.Fine index store call answer store' =
+unfoldable pub AddsBy : Result ⊤ Refusal → CuratorIndex → Store → AddCall → Result CuratorIndex Refusal → Store → Type 0
+AddsBy (Ok _) index store call answer store' =
     Succeeded (grown index call.names) answer × Wrote index store call store'
-AddsBy (Check'.Refused r) index store call answer store' = ChangeRefused r answer × (store' ≡ store)
+AddsBy (Err r) index store call answer store' = ChangeRefused r answer × (store' ≡ store)
 
 -- the whole result of an add: state, store and call at entry; answer and store at exit
-unfoldable pub Adds : CuratorIndex → Store → AddCall → Changed → Store → Type 0
+unfoldable pub Adds : CuratorIndex → Store → AddCall → Result CuratorIndex Refusal → Store → Type 0
 unfolding AddsBy add_check
 Adds index store call answer store' = AddsBy (add_check index store call) index store call answer store'
 
 -- ---- take back
 
-unfoldable pub take_back_check : CuratorIndex → Store → Check
+unfoldable pub take_back_check : CuratorIndex → Store → Result ⊤ Refusal
 unfolding first_of state_sound take_back_rows
 take_back_check index store = first_of (state_row (state_sound index) ∷ take_back_rows (facts_of index) (lengths_of store))
 
 -- 02, K3: 'the last accepted add can be taken back': the state has one vector less, and its entries at the end less; the bytes held are lowered (K4)
-unfoldable pub TakesBackBy : Check → CuratorIndex → Store → Changed → Type 0
+unfoldable pub TakesBackBy : Result ⊤ Refusal → CuratorIndex → Store → Result CuratorIndex Refusal → Type 0
 unfolding last_entries bytes_left
-TakesBackBy Check'.Fine index store answer = Succeeded (shrunk index store) answer
-TakesBackBy (Check'.Refused r) index store answer = ChangeRefused r answer
+TakesBackBy (Ok _) index store answer = Succeeded (shrunk index store) answer
+TakesBackBy (Err r) index store answer = ChangeRefused r answer
 
 -- The whole result of a taking back: state and store, and the answer. The store is lent to be read: 'places past the counts keep their numbers', and so
 -- do all others.
-unfoldable pub TakesBack : CuratorIndex → Store → Changed → Type 0
+unfoldable pub TakesBack : CuratorIndex → Store → Result CuratorIndex Refusal → Type 0
 unfolding TakesBackBy take_back_check
 TakesBack index store answer = TakesBackBy (take_back_check index store) index store answer
 
@@ -157,7 +154,7 @@ unfoldable pub holds_document : CuratorIndex → Store → ℕ → Bool
 unfolding is_in held_documents
 holds_document index store document = is_in document (held_documents index store)
 
-unfoldable pub withdraw_check : CuratorIndex → Store → ℕ → Check
+unfoldable pub withdraw_check : CuratorIndex → Store → ℕ → Result ⊤ Refusal
 unfolding first_of state_sound withdraw_rows holds_document
 withdraw_check index store document =
     first_of (state_row (state_sound index) ∷ withdraw_rows (facts_of index) (lengths_of store) (holds_document index store document))
@@ -176,12 +173,12 @@ withdrawn_from index store document =
     store.hashes store.text
 
 -- The whole result of withdrawing a document id: the state stays, built or not.
-unfoldable pub WithdrawsBy : Check → CuratorIndex → Store → ℕ → Changed → Store → Type 0
+unfoldable pub WithdrawsBy : Result ⊤ Refusal → CuratorIndex → Store → ℕ → Result CuratorIndex Refusal → Store → Type 0
 unfolding withdrawn_from
-WithdrawsBy Check'.Fine index store document answer store' = Succeeded index answer × (store' ≡ withdrawn_from index store document)
-WithdrawsBy (Check'.Refused r) index store document answer store' = ChangeRefused r answer × (store' ≡ store)
+WithdrawsBy (Ok _) index store document answer store' = Succeeded index answer × (store' ≡ withdrawn_from index store document)
+WithdrawsBy (Err r) index store document answer store' = ChangeRefused r answer × (store' ≡ store)
 
-unfoldable pub Withdraws : CuratorIndex → Store → ℕ → Changed → Store → Type 0
+unfoldable pub Withdraws : CuratorIndex → Store → ℕ → Result CuratorIndex Refusal → Store → Type 0
 unfolding WithdrawsBy withdraw_check
 Withdraws index store document answer store' = WithdrawsBy (withdraw_check index store document) index store document answer store'
 
@@ -198,7 +195,7 @@ unfolding tree_of size held_vectors
 too_many_nodes index store =
     ltb index.capacities.nodes (size (tree_of (splitting_of index.dimension index.params) (held_vectors index store)))
 
-unfoldable pub build_check : CuratorIndex → Store → List ℕ → Check
+unfoldable pub build_check : CuratorIndex → Store → List ℕ → Result ⊤ Refusal
 unfolding first_of state_sound build_rows owners_damaged too_many_nodes
 build_check index store work =
     first_of
@@ -219,18 +216,18 @@ pub record LaidOut (index : CuratorIndex) (store : Store) (lent : List ℕ) (sto
   pub text : store'.text ≡ store.text
   pub work : Freed (work_part (index_shape index) ∷ []) lent lent'
 
-unfoldable pub BuildsFine : Bool → CuratorIndex → Store → List ℕ → Changed → Store → List ℕ → Type 0
+unfoldable pub BuildsFine : Bool → CuratorIndex → Store → List ℕ → Result CuratorIndex Refusal → Store → List ℕ → Type 0
 BuildsFine true index store work answer store' work' = Succeeded index answer × (store' ≡ store) × (work' ≡ work)
 BuildsFine false index store work answer store' work' =
     Succeeded (built_with index (length (held_nodes index store))) answer × LaidOut index store work store' work'
 
-unfoldable pub BuildsBy : Check → CuratorIndex → Store → List ℕ → Changed → Store → List ℕ → Type 0
+unfoldable pub BuildsBy : Result ⊤ Refusal → CuratorIndex → Store → List ℕ → Result CuratorIndex Refusal → Store → List ℕ → Type 0
 unfolding BuildsFine
-BuildsBy Check'.Fine index store work answer store' work' = BuildsFine index.built index store work answer store' work'
-BuildsBy (Check'.Refused r) index store work answer store' work' =
+BuildsBy (Ok _) index store work answer store' work' = BuildsFine index.built index store work answer store' work'
+BuildsBy (Err r) index store work answer store' work' =
     ChangeRefused r answer × Left (index_shape index) r store work store' work'
 
 -- the whole result of a build: state, store and work at entry; answer, store and work at exit
-unfoldable pub Builds : CuratorIndex → Store → List ℕ → Changed → Store → List ℕ → Type 0
+unfoldable pub Builds : CuratorIndex → Store → List ℕ → Result CuratorIndex Refusal → Store → List ℕ → Type 0
 unfolding BuildsBy build_check
 Builds index store work answer store' work' = BuildsBy (build_check index store work) index store work answer store' work'

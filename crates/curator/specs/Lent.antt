@@ -10,12 +10,10 @@ use Rattle.store.specs.declared.Lengths.{Lengths}
 use Rattle.label.specs.Names.{bytes_of_names}
 use Rattle.store.specs.Store.{Store, Limits, numbers_size}
 use Rattle.store.specs.Lent.{lengths_of, Long, store_short}
-use Rattle.settings.specs.declared.Check.{Check}
-use Rattle.settings.specs.declared.Check.TheVariants as Check'
+use Rattle.std.specs.Prelude.{Result, Ok, Err, ⊤}
+use Rattle.settings.specs.declared.refusal.Refusal.{Refusal}
 use Rattle.settings.specs.declared.refusal.Refusal.TheVariants as Refusal'
 use Rattle.settings.specs.declared.refusal.StoreRefusal.TheVariants as StoreRefusal'
-use Rattle.curator.specs.declared.VectorCheck.{VectorCheck}
-use Rattle.curator.specs.declared.VectorCheck.TheVariants as VectorCheck'
 use Rattle.curator.specs.declared.CuratorIndex.{CuratorIndex}
 use Rattle.curator.specs.Limits.{state_sound, index_shape}
 use Rattle.curator.specs.Rows.{Row, row, first_of, state_row, unbuilt_rows, add_rows, take_back_rows}
@@ -28,9 +26,9 @@ abbrev pub adding : ℕ → Bor (List Float) → Bor (List ℕ) → Bor (List �
 adding document vector lengths bytes = add_of document vector.now lengths.now bytes.now
 
 -- what the rows come to, as code that scanned a vector answers it: a call that is fine goes on with the sum of the squares
-abbrev pub with_squares : Check → Float → VectorCheck
-with_squares Check'.Fine squares = VectorCheck'.Squares squares
-with_squares (Check'.Refused r) squares = VectorCheck'.Refused r
+abbrev pub with_squares : Result ⊤ Refusal → Float → Result Float Refusal
+with_squares (Ok _) squares = Ok squares
+with_squares (Err r) squares = Err r
 
 -- rows 4 and 3, by the lengths of the lists
 abbrev pub lent_rows : CuratorIndex → Lengths → List Row
@@ -41,12 +39,12 @@ abbrev pub early_rows : CuratorIndex → Lengths → List Row
 early_rows index lent = state_row (state_sound index) ∷ unbuilt_rows (facts_of index) lent
 
 -- what the rows of an add come to, by the lengths of the lists
-abbrev pub add_checked : CuratorIndex → Lengths → AddCall → VectorCheck
+abbrev pub add_checked : CuratorIndex → Lengths → AddCall → Result Float Refusal
 add_checked index lent call =
     with_squares (first_of (state_row (state_sound index) ∷ add_rows (facts_of index) lent call)) (dot call.vector call.vector)
 
 -- what the rows of a taking back come to, by the lengths of the lists
-abbrev pub take_back_checked : CuratorIndex → Lengths → Check
+abbrev pub take_back_checked : CuratorIndex → Lengths → Result ⊤ Refusal
 take_back_checked index lent = first_of (state_row (state_sound index) ∷ take_back_rows (facts_of index) lent)
 
 -- What the writing of an add relies on, as plain facts. They hold where no row's case does (`add-facts` of AddLaws).

@@ -2,10 +2,8 @@
 use Rattle.std.specs.Prelude.{ℕ, Bool, true, false, cond, List, [], ◌∷◌, ◌≡◌, refl, length, get_or}
 use Rattle.std.proofs.Common.{arith, sym, ap, ◌∙◌}
 use Rattle.curator.specs.declared.CuratorIndex.{CuratorIndex}
-use Rattle.curator.specs.declared.Changed.{Changed}
-use Rattle.curator.specs.declared.Changed.TheVariants as Changed'
-use Rattle.curator.specs.declared.Found.{Found}
-use Rattle.curator.specs.declared.Found.TheVariants as Found'
+use Rattle.std.specs.Prelude.{Result, Ok, Err}
+use Rattle.walk.specs.declared.Searched.{Searched}
 use Rattle.settings.specs.declared.refusal.Refusal.{Refusal}
 use Rattle.settings.specs.declared.refusal.Refusal.TheVariants.{Settings, State, Input, Store}
 use Rattle.settings.specs.declared.refusal.SettingsRefusal.TheVariants.{InvalidDimension, InvalidConfig}
@@ -67,18 +65,18 @@ head_is e = cc
 short : {A : Type 0} {x : A} {l : List A} → [] ≡ x ∷ l → ⊥
 short {l = l} e = let n : 0 ≡ length l = cc in let z : ◌≡◌ {A = ℕ} 0 1 = cc in omega arith
 
-pub carried-is : (index : CuratorIndex) (answer : Changed) → Succeeded index answer → answer ≡ Changed'.Index index
-carried-is index (Changed'.Index next) c = ap Changed'.Index (head_is c.values_are)
-carried-is index (Changed'.Refused r) c = absurd (short c.values_are)
+pub carried-is : (index : CuratorIndex) (answer : Result CuratorIndex Refusal) → Succeeded index answer → answer ≡ Ok index
+carried-is index (Ok next) c = ap Ok (head_is c.values_are)
+carried-is index (Err r) c = absurd (short c.values_are)
 
-pub is_carried : (index : CuratorIndex) (answer : Changed) → answer ≡ Changed'.Index index → Succeeded index answer
+pub is_carried : (index : CuratorIndex) (answer : Result CuratorIndex Refusal) → answer ≡ Ok index → Succeeded index answer
 is_carried index answer e = record { number_is = ap changed_number e; values_are = ap changed_values e }
 
-pub refused_is : (r : Refusal) (answer : Changed) → ChangeRefused r answer → answer ≡ Changed'.Refused r
-refused_is r (Changed'.Index next) c = absurd (short (sym c.values_are))
-refused_is r (Changed'.Refused q) c = ap Changed'.Refused (number_injective q r c.number_is)
+pub refused_is : (r : Refusal) (answer : Result CuratorIndex Refusal) → ChangeRefused r answer → answer ≡ Err r
+refused_is r (Ok next) c = absurd (short (sym c.values_are))
+refused_is r (Err q) c = ap Err (number_injective q r c.number_is)
 
-pub is_refused : (r : Refusal) (answer : Changed) → answer ≡ Changed'.Refused r → ChangeRefused r answer
+pub is_refused : (r : Refusal) (answer : Result CuratorIndex Refusal) → answer ≡ Err r → ChangeRefused r answer
 is_refused r answer e = record { number_is = ap changed_number e; values_are = ap changed_values e }
 
 -- the mark is known by its number
@@ -88,21 +86,21 @@ mark-is true false e = absurd (omega arith)
 mark-is false true e = absurd (omega arith)
 mark-is false false e = refl
 
-pub found-is : (hits opened : ℕ) (whole : Bool) (answer : Found) → SearchFound hits opened whole answer → answer ≡ Found'.Hits hits opened whole
-found-is hits opened whole (Found'.Hits h o w) f =
-    let values : h ∷ o ∷ cond w 1 0 ∷ [] ≡ hits ∷ opened ∷ cond whole 1 0 ∷ [] = f.values_are in
-    let a : h ≡ hits = ap (λ (l : List ℕ). get_or l 0 0) values in
-    let b : o ≡ opened = ap (λ (l : List ℕ). get_or l 1 0) values in
-    let c : w ≡ whole = mark-is w whole (ap (λ (l : List ℕ). get_or l 2 0) values) in
-    cc (a, b, c)
-found-is hits opened whole (Found'.Refused r) f = absurd (short f.values_are)
+pub found-is : (hits opened : ℕ) (whole : Bool) (answer : Result Searched Refusal) → SearchFound hits opened whole answer → answer ≡ Ok (record { hits = hits; opened = opened; whole = whole })
+found-is hits opened whole (Ok s) f =
+    let values : s.hits ∷ s.opened ∷ cond s.whole 1 0 ∷ [] ≡ hits ∷ opened ∷ cond whole 1 0 ∷ [] = f.values_are in
+    let a : s.hits ≡ hits = ap (λ (l : List ℕ). get_or l 0 0) values in
+    let b : s.opened ≡ opened = ap (λ (l : List ℕ). get_or l 1 0) values in
+    let c : s.whole ≡ whole = mark-is s.whole whole (ap (λ (l : List ℕ). get_or l 2 0) values) in
+    rw (← a, ← b, ← c)
+found-is hits opened whole (Err r) f = absurd (short f.values_are)
 
-pub is_found : (hits opened : ℕ) (whole : Bool) (answer : Found) → answer ≡ Found'.Hits hits opened whole → SearchFound hits opened whole answer
+pub is_found : (hits opened : ℕ) (whole : Bool) (answer : Result Searched Refusal) → answer ≡ Ok (record { hits = hits; opened = opened; whole = whole }) → SearchFound hits opened whole answer
 is_found hits opened whole answer e = record { number_is = ap found_number e; values_are = ap found_values e }
 
-pub search_refused_is : (r : Refusal) (answer : Found) → SearchRefused r answer → answer ≡ Found'.Refused r
-search_refused_is r (Found'.Hits h o w) f = absurd (short (sym f.values_are))
-search_refused_is r (Found'.Refused q) f = ap Found'.Refused (number_injective q r f.number_is)
+pub search_refused_is : (r : Refusal) (answer : Result Searched Refusal) → SearchRefused r answer → answer ≡ Err r
+search_refused_is r (Ok s) f = absurd (short (sym f.values_are))
+search_refused_is r (Err q) f = ap Err (number_injective q r f.number_is)
 
-pub is-search_refused : (r : Refusal) (answer : Found) → answer ≡ Found'.Refused r → SearchRefused r answer
+pub is-search_refused : (r : Refusal) (answer : Result Searched Refusal) → answer ≡ Err r → SearchRefused r answer
 is-search_refused r answer e = record { number_is = ap found_number e; values_are = ap found_values e }

@@ -6,8 +6,7 @@ use Rattle.vector.specs.Vector.{all_finite}
 use Rattle.store.specs.declared.Shape.{Shape}
 use Rattle.store.specs.declared.Lengths.{Lengths}
 use Rattle.store.specs.Lent.{store_short, lists_short}
-use Rattle.settings.specs.declared.Check.{Check}
-use Rattle.settings.specs.declared.Check.TheVariants.{Fine, Refused}
+use Rattle.std.specs.Prelude.{Result, Ok, Err, ⊤}
 use Rattle.settings.specs.declared.CuratorParams.{CuratorParams}
 use Rattle.settings.specs.declared.Capacities.{Capacities}
 use Rattle.settings.specs.declared.refusal.Refusal.{Refusal}
@@ -29,9 +28,9 @@ abbrev pub row : Bool → Refusal → Row
 row holds refusal = record { holds = holds; refusal = refusal }
 
 -- the first row whose case holds
-unfoldable pub first_of : List Row → Check
-first_of [] = Fine
-first_of (r ∷ rows) = cond r.holds (Refused r.refusal) (first_of rows)
+unfoldable pub first_of : List Row → Result ⊤ Refusal
+first_of [] = (Ok tt)
+first_of (r ∷ rows) = cond r.holds (Err r.refusal) (first_of rows)
 
 -- What the rows after 4 look at of the index: what fixes the sizes, how many vectors, entries and bytes are held, and whether it is built.
 pub record Facts : Type 0 where

@@ -9,9 +9,8 @@ use Rattle.walk.specs.Walk.{State, damaged, going, walk}
 use Rattle.walk.specs.Answer.{Answer, answer}
 use Rattle.walk.specs.StoreView.{live_in, store_view}
 use Rattle.curator.specs.declared.CuratorIndex.{CuratorIndex}
-use Rattle.settings.specs.declared.Check.{Check}
-use Rattle.settings.specs.declared.Check.TheVariants as Check'
-use Rattle.curator.specs.declared.Found.{Found}
+use Rattle.std.specs.Prelude.{Result, Ok, Err, ⊤}
+use Rattle.walk.specs.declared.Searched.{Searched}
 use Rattle.settings.specs.declared.refusal.Refusal.{Refusal}
 use Rattle.settings.specs.declared.refusal.Refusal.TheVariants as Refusal'
 use Rattle.settings.specs.declared.refusal.StoreRefusal.TheVariants as StoreRefusal'
@@ -32,7 +31,7 @@ wanted_of (labelled_both bytes other) = with_both (fnv bytes) bytes (fnv other) 
 
 -- what a search leaves: its answer, the work list and the two answer lists
 pub record SearchEnd : Type 0 where
-  pub answer : Found
+  pub answer : Result Searched Refusal
   pub work : List ℕ
   pub ids : List ℕ
   pub distances : List Float
@@ -43,7 +42,7 @@ pub record SameEnd (a b : SearchEnd) : Type 0 where
   pub ids : a.ids ≡ b.ids
   pub distances : a.distances ≡ b.distances
 
-unfoldable pub search_check : CuratorIndex → Store → List ℕ → SearchCall → Check
+unfoldable pub search_check : CuratorIndex → Store → List ℕ → SearchCall → Result ⊤ Refusal
 unfolding first_of state_sound search_rows
 search_check index store work call =
     first_of
@@ -90,9 +89,9 @@ pub record SearchWalked (index : CuratorIndex) (store : Store) (work : List ℕ)
       call
       end
 
-unfoldable pub SearchesBy : Check → CuratorIndex → Store → List ℕ → SearchCall → SearchEnd → Type 0
-SearchesBy Check'.Fine index store work call end = SearchWalked index store work call end
-SearchesBy (Check'.Refused r) index store work call end = Untouched work call r end
+unfoldable pub SearchesBy : Result ⊤ Refusal → CuratorIndex → Store → List ℕ → SearchCall → SearchEnd → Type 0
+SearchesBy (Ok _) index store work call end = SearchWalked index store work call end
+SearchesBy (Err r) index store work call end = Untouched work call r end
 
 -- the whole result of a search: state, store, work and call at entry; answer, work and answer lists at exit
 unfoldable pub Searches : CuratorIndex → Store → List ℕ → SearchCall → SearchEnd → Type 0

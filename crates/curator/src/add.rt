@@ -9,8 +9,7 @@ ghost use Rattle.label.specs.Names.{summed_pairs, starts_by_lengths};
 ghost use Rattle.store.specs.Store.{starts_at, lengths_at};
 ghost use Rattle.store.specs.Lent.{store_of};
 
-use crate::{CuratorIndex, VectorCheck, check, limits};
-use settings::Check;
+use crate::{CuratorIndex, check, limits};
 use settings::refusal::{InputRefusal, Refusal, StoreRefusal};
 use store::{Counts, Lengths, Shape};
 
@@ -21,32 +20,30 @@ pub fn add_check(
     vector: &[f32],
     lengths: &[u8],
     bytes: &[u8],
-) -> VectorCheck
+) -> Result<f32, Refusal>
     ensures { result ≡ add_checked index lent (adding 0 vector.entry lengths.entry bytes.entry) }
 {
-    if let Check::Refused(refusal) = check::unbuilt_check(index, lent) {
-        return VectorCheck::Refused(refusal);
-    }
+    check::unbuilt_check(index, lent)?;
     if vector.len() != index.dimension {
-        return VectorCheck::Refused(Refusal::Input(InputRefusal::DimensionMismatch));
+        return Err(Refusal::Input(InputRefusal::DimensionMismatch));
     }
     let scanned = vector::scan(vector);
     if !scanned.finite {
-        return VectorCheck::Refused(Refusal::Input(InputRefusal::NonFiniteInput));
+        return Err(Refusal::Input(InputRefusal::NonFiniteInput));
     }
     if !label::names::lengths_fit(lengths, bytes.len()) {
-        return VectorCheck::Refused(Refusal::Input(InputRefusal::LabelLengths));
+        return Err(Refusal::Input(InputRefusal::LabelLengths));
     }
     if index.counts.vectors == index.capacities.vectors {
-        return VectorCheck::Refused(Refusal::Store(StoreRefusal::VectorsFull));
+        return Err(Refusal::Store(StoreRefusal::VectorsFull));
     }
     if index.capacities.entries < index.counts.entries + label::names::label_count(lengths) {
-        return VectorCheck::Refused(Refusal::Store(StoreRefusal::EntriesFull));
+        return Err(Refusal::Store(StoreRefusal::EntriesFull));
     }
     if index.capacities.text < index.counts.bytes + bytes.len() {
-        return VectorCheck::Refused(Refusal::Store(StoreRefusal::TextFull));
+        return Err(Refusal::Store(StoreRefusal::TextFull));
     }
-    VectorCheck::Squares(scanned.squares)
+    Ok(scanned.squares)
 }
 
 // Writes what is stored of a vector, the sum of whose squares is `squares`.
@@ -64,11 +61,8 @@ fn write_all(numbers: &mut [u32], place: usize, count: usize, number: u32)
     requires { place + count ≤ length numbers.old }
     ensures { numbers.new ≡ sets numbers.old place (replicate count number) }
 {
-    let mut i = 0;
-    while i < count {
-        numbers[place + i] = number;
-        i += 1;
-    }
+    let end = place + count;
+    numbers[place..end].fill(number);
 }
 
 // Writes the document id of a vector, and the vector as the owner of its entries.
@@ -142,8 +136,8 @@ pub fn grown(index: CuratorIndex, labels: usize, bytes: usize) -> CuratorIndex
         Counts {
             vectors: held.vectors + 1,
             entries: held.entries + labels,
-            nodes: held.nodes,
             bytes: held.bytes + bytes,
+            ..held
         },
         index.built,
     )

@@ -4,32 +4,29 @@ ghost use Rattle.curator.specs.Lent.{lent_rows, early_rows};
 ghost use Rattle.curator.specs.Rows.{first_of};
 
 use crate::{CuratorIndex, limits};
-use settings::Check;
 use settings::refusal::{Refusal, StateRefusal, StoreRefusal};
 use store::Lengths;
 
 // The first refusal of rows 4 and 3 whose case holds.
-pub fn lent_check(index: CuratorIndex, lent: Lengths) -> Check
+pub fn lent_check(index: CuratorIndex, lent: Lengths) -> Result<(), Refusal>
     ensures { result ≡ first_of (lent_rows index lent) }
 {
     if !limits::state_sound(index) {
-        return Check::Refused(Refusal::State(StateRefusal::InvalidState));
+        return Err(Refusal::State(StateRefusal::InvalidState));
     }
     if limits::shape_of(index).store_short(lent) {
-        return Check::Refused(Refusal::Store(StoreRefusal::ListTooShort));
+        return Err(Refusal::Store(StoreRefusal::ListTooShort));
     }
-    Check::Fine
+    Ok(())
 }
 
 // The first refusal of rows 4, 3 and 5 whose case holds.
-pub fn unbuilt_check(index: CuratorIndex, lent: Lengths) -> Check
+pub fn unbuilt_check(index: CuratorIndex, lent: Lengths) -> Result<(), Refusal>
     ensures { result ≡ first_of (early_rows index lent) }
 {
-    if let Check::Refused(refusal) = lent_check(index, lent) {
-        return Check::Refused(refusal);
-    }
+    lent_check(index, lent)?;
     if index.built {
-        return Check::Refused(Refusal::State(StateRefusal::AlreadyBuilt));
+        return Err(Refusal::State(StateRefusal::AlreadyBuilt));
     }
-    Check::Fine
+    Ok(())
 }

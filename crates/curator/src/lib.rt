@@ -4,7 +4,7 @@
 ghost use Rattle.curator.specs.Changes.{Creates, Adds, TakesBack, Withdraws};
 ghost use Rattle.curator.specs.Lent.{adding};
 ghost use Rattle.curator.specs.Calls.{with_counts};
-ghost use Rattle.store.specs.Lent.{lent, store_of};
+ghost use Rattle.store.specs.Lent.{stored, store_of};
 ghost use Rattle.std.specs.Prelude.{◌≡◌};
 
 mod add;
@@ -14,8 +14,8 @@ mod take_back;
 mod withdraw;
 
 use settings::refusal::{InputRefusal, Refusal, SettingsRefusal};
-use settings::{Capacities, Check, CuratorParams};
-use store::{Counts, Lengths};
+use settings::{Capacities, CuratorParams};
+use store::{Counts, Lengths, Lists};
 
 // The state of an index. It goes by value; what it holds stands in lists that the caller lends.
 #[derive(Clone, Copy)]
@@ -27,58 +27,33 @@ pub struct CuratorIndex {
     pub built: bool,
 }
 
-// What `new`, `add`, `take_back`, `withdraw` and `build` answer: the index from now on, or why not.
-#[derive(Clone, Copy)]
-pub enum Changed {
-    Index(CuratorIndex),
-    Refused(Refusal),
-}
-
-// What the rows of a call with a vector come to: the sum of its squares, from the pass that looked for what is not finite, or why not.
-#[derive(Clone, Copy)]
-pub enum VectorCheck {
-    Squares(f32),
-    Refused(Refusal),
-}
-
-// What a search answers: how many hits it put into the answer lists, how many nodes it opened, and whether it ended because no node waited.
-#[derive(Clone, Copy)]
-pub enum Found {
-    Hits {
-        count: usize,
-        opened: usize,
-        whole: bool,
-    },
-    Refused(Refusal),
-}
-
 impl CuratorIndex {
     // The state with other counts, built or not.
     pub fn with_counts(self, counts: Counts, built: bool) -> CuratorIndex
         ensures { result ≡ with_counts self counts built }
     {
-        let params = self.params;
-        let capacities = self.capacities;
         CuratorIndex {
-            dimension: self.dimension,
-            params,
-            capacities,
             counts,
             built,
+            ..self
         }
     }
 
     // An index that holds nothing.
-    pub fn new(dimension: usize, params: CuratorParams, capacities: Capacities) -> Changed
+    pub fn new(
+        dimension: usize,
+        params: CuratorParams,
+        capacities: Capacities,
+    ) -> Result<CuratorIndex, Refusal>
         ensures { Creates dimension params capacities result }
     {
         if !settings::limits::dimension_allowed(dimension) {
-            return Changed::Refused(Refusal::Settings(SettingsRefusal::InvalidDimension));
+            return Err(Refusal::Settings(SettingsRefusal::InvalidDimension));
         }
         if !(settings::limits::params_allowed(params)
             & settings::limits::capacities_allowed(capacities))
         {
-            return Changed::Refused(Refusal::Settings(SettingsRefusal::InvalidConfig));
+            return Err(Refusal::Settings(SettingsRefusal::InvalidConfig));
         }
         let counts = Counts {
             vectors: 0,
@@ -86,7 +61,7 @@ impl CuratorIndex {
             nodes: 0,
             bytes: 0,
         };
-        Changed::Index(CuratorIndex {
+        Ok(CuratorIndex {
             dimension,
             params,
             capacities,
@@ -106,7 +81,7 @@ impl CuratorIndex {
         vector: &[f32],
         lengths: &[u8],
         bytes: &[u8],
-    ) -> Changed
+    ) -> Result<CuratorIndex, Refusal>
         ensures { Adds self (store_of floats.old numbers.old hashes.old text.old)
             (adding doc_id vector.entry lengths.entry bytes.entry)
             result
@@ -118,40 +93,24 @@ impl CuratorIndex {
             hashes: hashes.len(),
             text: text.len(),
         };
-        let check = add::add_check(self, lent, vector, lengths, bytes);
-        match check {
-            VectorCheck::Refused(refusal) => Changed::Refused(refusal),
-            VectorCheck::Squares(squares) => {
-                add::write_add(
-                    self, floats, numbers, hashes, text, doc_id, vector, squares, lengths, bytes,
-                );
-                Changed::Index(add::grown(self, label::names::label_count(lengths), bytes.len()))
-            }
-        }
+        let squares = add::add_check(self, lent, vector, lengths, bytes)?;
+        add::write_add(
+            self, floats, numbers, hashes, text, doc_id, vector, squares, lengths, bytes,
+        );
+        Ok(add::grown(self, label::names::label_count(lengths), bytes.len()))
     }
 
     // Takes back the last vector that is held, with its entries at the end. The lists are read only: the counts go down.
-    pub fn take_back(self, floats: &[f32], numbers: &[u32], hashes: &[u64], text: &[u8]) -> Changed
-        ensures { TakesBack self (lent floats.entry numbers.entry hashes.entry text.entry) result }
+    pub fn take_back(self, lists: Lists) -> Result<CuratorIndex, Refusal>
+        ensures { TakesBack self (stored lists.entry) result }
     {
-        let lent = Lengths {
-            floats: floats.len(),
-            numbers: numbers.len(),
-            hashes: hashes.len(),
-            text: text.len(),
-        };
-        let check = take_back::take_back_check(self, lent);
-        match check {
-            Check::Refused(refusal) => Changed::Refused(refusal),
-            Check::Fine => {
-                let held = self.counts;
-                let shape = limits::shape_of(self);
-                let owners = shape.owners_at();
-                let entries = take_back::last_entries(numbers, owners, held.entries, held.vectors);
-                let bytes = take_back::bytes_left(numbers, shape.starts_at(), held, entries);
-                Changed::Index(take_back::shrunk(self, entries, bytes))
-            }
-        }
+        take_back::take_back_check(self, lists.lengths())?;
+        let held = self.counts;
+        let shape = limits::shape_of(self);
+        let owners = shape.owners_at();
+        let entries = take_back::last_entries(lists.numbers, owners, held.entries, held.vectors);
+        let bytes = take_back::bytes_left(lists.numbers, shape.starts_at(), held, entries);
+        Ok(take_back::shrunk(self, entries, bytes))
     }
 
     // Withdraws a document id: every vector held that has it is no longer live. The state stays, built or not.
@@ -162,7 +121,7 @@ impl CuratorIndex {
         hashes: &[u64],
         text: &[u8],
         doc_id: u32,
-    ) -> Changed
+    ) -> Result<CuratorIndex, Refusal>
         ensures { Withdraws self (store_of floats.now numbers.old hashes.now text.now) doc_id
             result
             (store_of floats.now numbers.new hashes.now text.now) }
@@ -173,13 +132,11 @@ impl CuratorIndex {
             hashes: hashes.len(),
             text: text.len(),
         };
-        if let Check::Refused(refusal) = check::lent_check(self, lent) {
-            return Changed::Refused(refusal);
-        }
+        check::lent_check(self, lent)?;
         let live_at = limits::shape_of(self).live_at();
         if withdraw::withdraw_marks(numbers, live_at, self.counts.vectors, doc_id) {
-            return Changed::Index(self);
+            return Ok(self);
         }
-        Changed::Refused(Refusal::Input(InputRefusal::UnknownDocument))
+        Err(Refusal::Input(InputRefusal::UnknownDocument))
     }
 }

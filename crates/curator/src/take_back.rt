@@ -6,21 +6,18 @@ ghost use Rattle.curator.specs.Calls.{lowered, with_counts, counts_less};
 ghost use Rattle.curator.specs.Lent.{take_back_checked};
 
 use crate::{CuratorIndex, check};
-use settings::Check;
 use settings::refusal::{Refusal, StateRefusal};
-use store::{Counts, Lengths, wide};
+use store::{Counts, Lengths};
 
 // The first refusal whose case holds.
-pub fn take_back_check(index: CuratorIndex, lent: Lengths) -> Check
+pub fn take_back_check(index: CuratorIndex, lent: Lengths) -> Result<(), Refusal>
     ensures { result ≡ take_back_checked index lent }
 {
-    if let Check::Refused(refusal) = check::unbuilt_check(index, lent) {
-        return Check::Refused(refusal);
-    }
+    check::unbuilt_check(index, lent)?;
     if index.counts.vectors == 0 {
-        return Check::Refused(Refusal::State(StateRefusal::NoVectorHeld));
+        return Err(Refusal::State(StateRefusal::NoVectorHeld));
     }
-    Check::Fine
+    Ok(())
 }
 
 // How many of the owners at the end are `owner`.
@@ -28,12 +25,10 @@ fn count_at_end(owners: &[u32], owner: u32) -> usize
     ensures { result ≡ count_at_end owner owners.now }
 {
     let count = owners.len();
-    let mut i = count;
-    while 0 < i {
-        if owners[i - 1] != owner {
-            return count - i;
+    for i in (0..count).rev() {
+        if owners[i] != owner {
+            return count - i - 1;
         }
-        i -= 1;
     }
     count
 }
@@ -56,11 +51,8 @@ pub fn bytes_left(numbers: &[u32], starts: usize, held: Counts, entries: usize) 
     if entries == 0 {
         return held.bytes;
     }
-    let start = wide(numbers[starts + (held.entries - entries)]);
-    if start < held.bytes {
-        return start;
-    }
-    held.bytes
+    let start = numbers[starts + (held.entries - entries)] as usize;
+    start.min(held.bytes)
 }
 
 // The state after an accepted taking back of so many entries, with so many bytes left.
@@ -73,8 +65,8 @@ pub fn shrunk(index: CuratorIndex, entries: usize, bytes: usize) -> CuratorIndex
         Counts {
             vectors: held.vectors - 1,
             entries: held.entries - entries,
-            nodes: held.nodes,
             bytes,
+            ..held
         },
         index.built,
     )

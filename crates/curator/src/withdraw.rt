@@ -8,11 +8,9 @@ pub fn withdraw_marks(numbers: &mut [u32], at: usize, count: usize, doc_id: u32)
     ensures { MarksWritten doc_id at count numbers.old result numbers.new }
 {
     let mut held = false;
-    let mut i = 0;
-    while i < count {
+    for i in 0..count {
         let mark_at = at + i;
         let document = numbers[i];
-        i += 1;
         if document == doc_id {
             numbers[mark_at] = 0;
             held = true;

@@ -6,10 +6,10 @@ use Rattle.lists.specs.Lists.{part}
 use Rattle.bloom.specs.Filter.{union}
 use Rattle.store.specs.Store.{Store}
 use Rattle.settings.specs.declared.Capacities.{Capacities}
-use Rattle.curator.specs.declared.Changed.{Changed}
-use Rattle.curator.specs.declared.Changed.TheVariants as Changed'
+use Rattle.std.specs.Prelude.{Result, Ok, Err, Option, Some, None}
+use Rattle.curator.specs.declared.CuratorIndex.{CuratorIndex}
+use Rattle.walk.specs.declared.Searched.{Searched}
 use Rattle.settings.specs.declared.CuratorParams.{CuratorParams}
-use Rattle.curator.specs.declared.Found.{Found}
 use Rattle.settings.specs.declared.refusal.Refusal.{Refusal}
 use Rattle.settings.specs.declared.refusal.Refusal.TheVariants as Refusal'
 use Rattle.settings.specs.declared.refusal.StateRefusal.TheVariants.{InvalidState}
@@ -19,8 +19,6 @@ use Rattle.curator.specs.Outcome.{changed_number, found_number, found_values, Ch
 use Rattle.curator.specs.Changes.{Creates, Adds, TakesBack, Withdraws, Builds}
 use Rattle.curator.specs.Arguments.{AddCall, SearchCall}
 use Rattle.curator.specs.Searches.{SearchEnd, Untouched, Searches}
-use Rattle.curator_c.specs.declared.state.StateRead.{StateRead}
-use Rattle.curator_c.specs.declared.state.StateRead.TheVariants.{State, Nothing}
 use Rattle.curator_c.specs.State.{places, state_list, state_in}
 
 -- row 4: no state in the list, or one that is not sound
@@ -30,69 +28,69 @@ invalid = Refusal'.State InvalidState
 -- ---- new, add, take back, withdraw and build
 
 -- the state list after an answer: the new state in its first places; a refused call leaves it
-abbrev pub stored : List ℕ → Changed → List ℕ
-stored state (Changed'.Index index) = sets state 0 (state_list index)
-stored state (Changed'.Refused r) = state
+abbrev pub stored : List ℕ → Result CuratorIndex Refusal → List ℕ
+stored state (Ok index) = sets state 0 (state_list index)
+stored state (Err r) = state
 
 -- what is returned for an answer, and what it leaves of the state list
-pub record Returns (answer : Changed) (state : List ℕ) (returned : ℕ) (state' : List ℕ) : Type 0 where
+pub record Returns (answer : Result CuratorIndex Refusal) (state : List ℕ) (returned : ℕ) (state' : List ℕ) : Type 0 where
   pub number : returned ≡ changed_number answer
   pub list : state' ≡ stored state answer
 
 -- an answer where the list has room for a state; otherwise, row 4 for a new state
-unfoldable pub storable : List ℕ → Changed → Changed
-storable state (Changed'.Index index) = cond (ltb (length state) places) (Changed'.Refused invalid) (Changed'.Index index)
-storable state (Changed'.Refused r) = Changed'.Refused r
+unfoldable pub storable : List ℕ → Result CuratorIndex Refusal → Result CuratorIndex Refusal
+storable state (Ok index) = cond (ltb (length state) places) (Err invalid) (Ok index)
+storable state (Err r) = Err r
 
 -- the whole result of `curator_new`: 1, 2, then 4 where the list cannot hold a state
 pub record NewResult (dimension : ℕ) (params : CuratorParams) (capacities : Capacities) (state : List ℕ) (returned : ℕ) (state' : List ℕ) : Type 0 where
-  pub answer : Changed
+  pub answer : Result CuratorIndex Refusal
   pub creates : Creates dimension params capacities answer
   pub returns : Returns (storable state answer) state returned state'
 
 -- The whole result of a call that changes the index: `By` says, by the state that the list holds, what is answered and what the lists of the store hold then.
-pub record ChangeResult (By : StateRead → Changed → Type 0) (state : List ℕ) (returned : ℕ) (state' : List ℕ) : Type 0 where
-  pub answer : Changed
+pub record ChangeResult (By : Option CuratorIndex → Result CuratorIndex Refusal → Type 0) (state : List ℕ) (returned : ℕ) (state' : List ℕ) : Type 0 where
+  pub answer : Result CuratorIndex Refusal
   pub result : By (state_in state) answer
   pub returns : Returns answer state returned state'
 
 -- an add to the state that a list holds
-unfoldable pub AddsIn : StateRead → Store → AddCall → Changed → Store → Type 0
+unfoldable pub AddsIn : Option CuratorIndex → Store → AddCall → Result CuratorIndex Refusal → Store → Type 0
 unfolding Adds
-AddsIn Nothing store call answer store' = ChangeRefused invalid answer × (store' ≡ store)
-AddsIn (State index) store call answer store' = Adds index store call answer store'
+AddsIn None store call answer store' = ChangeRefused invalid answer × (store' ≡ store)
+AddsIn (Some index) store call answer store' = Adds index store call answer store'
 
 -- the whole result of `curator_add`: state list, store and call at entry; what is returned, state list and store at exit
 abbrev pub AddResult : List ℕ → Store → AddCall → ℕ → List ℕ → Store → Type 0
 AddResult state store call returned state' store' = ChangeResult (λ held answer. AddsIn held store call answer store') state returned state'
 
 -- a taking back from the state that a list holds
-unfoldable pub TakesBackIn : StateRead → Store → Changed → Type 0
+unfoldable pub TakesBackIn : Option CuratorIndex → Store → Result CuratorIndex Refusal → Type 0
 unfolding TakesBack
-TakesBackIn Nothing store answer = ChangeRefused invalid answer
-TakesBackIn (State index) store answer = TakesBack index store answer
+TakesBackIn None store answer = ChangeRefused invalid answer
+TakesBackIn (Some index) store answer = TakesBack index store answer
 
 -- the whole result of `curator_take_back`, which is lent the store to be read
 abbrev pub TakeBackResult : List ℕ → Store → ℕ → List ℕ → Type 0
 TakeBackResult state store returned state' = ChangeResult (λ held answer. TakesBackIn held store answer) state returned state'
 
 -- a withdrawal from the state that a list holds
-unfoldable pub WithdrawsIn : StateRead → Store → ℕ → Changed → Store → Type 0
+unfoldable pub WithdrawsIn : Option CuratorIndex → Store → ℕ → Result CuratorIndex Refusal → Store → Type 0
 unfolding Withdraws
-WithdrawsIn Nothing store document answer store' = ChangeRefused invalid answer × (store' ≡ store)
-WithdrawsIn (State index) store document answer store' = Withdraws index store document answer store'
+WithdrawsIn None store document answer store' = ChangeRefused invalid answer × (store' ≡ store)
+WithdrawsIn (Some index) store document answer store' = Withdraws index store document answer store'
 
 -- the whole result of `curator_withdraw`, which is lent the state to be read: it stays
 pub record WithdrawResult (state : List ℕ) (store : Store) (document returned : ℕ) (store' : Store) : Type 0 where
-  pub answer : Changed
+  pub answer : Result CuratorIndex Refusal
   pub withdraws : WithdrawsIn (state_in state) store document answer store'
   pub number : returned ≡ changed_number answer
 
 -- a build of the state that a list holds
-unfoldable pub BuildsIn : StateRead → Store → List ℕ → Changed → Store → List ℕ → Type 0
+unfoldable pub BuildsIn : Option CuratorIndex → Store → List ℕ → Result CuratorIndex Refusal → Store → List ℕ → Type 0
 unfolding Builds
-BuildsIn Nothing store work answer store' work' = ChangeRefused invalid answer × (store' ≡ store) × (work' ≡ work)
-BuildsIn (State index) store work answer store' work' = Builds index store work answer store' work'
+BuildsIn None store work answer store' work' = ChangeRefused invalid answer × (store' ≡ store) × (work' ≡ work)
+BuildsIn (Some index) store work answer store' work' = Builds index store work answer store' work'
 
 -- the whole result of `curator_build`
 abbrev pub BuildResult : List ℕ → Store → List ℕ → ℕ → List ℕ → Store → List ℕ → Type 0
@@ -113,19 +111,19 @@ abbrev pub asking : List ℕ → SearchCall → SearchCall
 asking answer call = with_hits (hits_asked (length answer) (length call.ids) call.k) call
 
 -- a search in the state that a list holds
-unfoldable pub SearchesIn : StateRead → Store → List ℕ → SearchCall → SearchEnd → Type 0
+unfoldable pub SearchesIn : Option CuratorIndex → Store → List ℕ → SearchCall → SearchEnd → Type 0
 unfolding Searches
-SearchesIn Nothing store work call end = Untouched work call invalid end
-SearchesIn (State index) store work call end = Searches index store work call end
+SearchesIn None store work call end = Untouched work call invalid end
+SearchesIn (Some index) store work call end = Searches index store work call end
 
 -- what a search leaves: its answer, the work list and the two lists of hits
-abbrev pub ended : Found → List ℕ → List ℕ → List Float → SearchEnd
+abbrev pub ended : Result Searched Refusal → List ℕ → List ℕ → List Float → SearchEnd
 ended found work ids distances = record { answer = found; work = work; ids = ids; distances = distances }
 
 -- The whole result of a search: state list, store, work, call and answer list at entry; what is returned, and work, ids, distances and answer
 -- list, at exit. A refused call has no values, so it leaves the answer list.
 pub record SearchResult (state : List ℕ) (store : Store) (lent : List ℕ) (call : SearchCall) (answer : List ℕ) (returned : ℕ) (lent' ids' : List ℕ) (distances' : List Float) (answer' : List ℕ) : Type 0 where
-  pub found : Found
+  pub found : Result Searched Refusal
   pub searches : SearchesIn (state_in state) store lent (asking answer call) (ended found lent' ids' distances')
   pub number : returned ≡ found_number found
   pub values : answer' ≡ sets answer 0 (found_values found)

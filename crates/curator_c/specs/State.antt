@@ -1,8 +1,7 @@
 -- A state as a list of numbers: its layout, and what state a list holds.
 use Rattle.std.specs.Prelude.{ℕ, Bool, true, false, cond, List, [], ◌∷◌, ltb, eqb, length, get_or}
 use Rattle.curator.specs.declared.CuratorIndex.{CuratorIndex}
-use Rattle.curator_c.specs.declared.state.StateRead.{StateRead}
-use Rattle.curator_c.specs.declared.state.StateRead.TheVariants.{State, Nothing}
+use Rattle.std.specs.Prelude.{Option, Some, None}
 
 -- how many places a state takes
 abbrev pub places : ℕ
@@ -43,8 +42,8 @@ state_of list built =
     }
 
 -- What state a list holds: none where it has fewer places or its built flag is neither 0 nor 1. Whether the state is sound is row 4 of the calls.
-unfoldable pub state_in : List ℕ → StateRead
+unfoldable pub state_in : List ℕ → Option CuratorIndex
 state_in list =
     cond (ltb (length list) places)
-    Nothing
-    (cond (eqb (get_or list 11 0) 0) (State (state_of list false)) (cond (eqb (get_or list 11 0) 1) (State (state_of list true)) Nothing))
+    None
+    (cond (eqb (get_or list 11 0) 0) (Some (state_of list false)) (cond (eqb (get_or list 11 0) 1) (Some (state_of list true)) None))

@@ -1,14 +1,14 @@
 -- What some lists hold, computed.
 use Rattle.std.specs.Prelude.{true, [], ◌∷◌, ◌≡◌, refl}
 use Rattle.bloom.specs.Filter.{union}
-use Rattle.curator_c.specs.declared.state.StateRead.TheVariants.{State, Nothing}
+use Rattle.std.specs.Prelude.{Some, None}
 use Rattle.curator_c.specs.State.{state_in}
 use Rattle.curator_c.specs.Results.{pool_short, PoolsBy, PoolResult}
 
 -- the state of document 01's worked example, built, with a number more in the list
 built-example :
     state_in (2 ∷ 2 ∷ 1 ∷ 5 ∷ 4 ∷ 128 ∷ 256 ∷ 512 ∷ 3 ∷ 3 ∷ 5 ∷ 1 ∷ 65280 ∷ 3 ∷ 77 ∷ [])
-    ≡ State
+    ≡ Some
     (record {
       dimension = 2;
       params = record { branching_factor = 2; max_leaf_size = 1; ef_search = 5; beam_width = 4 };
@@ -20,11 +20,11 @@ unfolding state_in
 built-example = refl
 
 -- a flag of 2, and thirteen numbers
-flag_2 : state_in (2 ∷ 2 ∷ 1 ∷ 5 ∷ 4 ∷ 128 ∷ 256 ∷ 512 ∷ 3 ∷ 3 ∷ 5 ∷ 2 ∷ 65280 ∷ 3 ∷ []) ≡ Nothing
+flag_2 : state_in (2 ∷ 2 ∷ 1 ∷ 5 ∷ 4 ∷ 128 ∷ 256 ∷ 512 ∷ 3 ∷ 3 ∷ 5 ∷ 2 ∷ 65280 ∷ 3 ∷ []) ≡ None
 unfolding state_in
 flag_2 = refl
 
-thirteen : state_in (2 ∷ 2 ∷ 1 ∷ 5 ∷ 4 ∷ 128 ∷ 256 ∷ 512 ∷ 3 ∷ 3 ∷ 5 ∷ 1 ∷ 65280 ∷ []) ≡ Nothing
+thirteen : state_in (2 ∷ 2 ∷ 1 ∷ 5 ∷ 4 ∷ 128 ∷ 256 ∷ 512 ∷ 3 ∷ 3 ∷ 5 ∷ 1 ∷ 65280 ∷ []) ≡ None
 unfolding state_in
 thirteen = refl
 

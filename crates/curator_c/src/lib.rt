@@ -14,9 +14,11 @@ ghost use Rattle.curator_c.specs.Results.{NewResult, AddResult, TakeBackResult, 
 
 pub mod state;
 
-use curator::{Changed, CuratorIndex, Found};
+use curator::CuratorIndex;
+use settings::refusal::Refusal;
 use settings::{Capacities, CuratorParams};
-use state::StateRead;
+use store::Lists;
+use walk::Searched;
 
 // What is returned where the call is answered, where a list has too few words, and where the list holds no state.
 const ANSWERED: u32 = 0;
@@ -26,12 +28,12 @@ const LIST_TOO_SHORT: u32 = 3;
 const INVALID_STATE: u32 = 4;
 
 // Returns the number of an answer, and keeps its state in the list.
-fn keep(answer: Changed, state: &mut [usize]) -> u32
+fn keep(answer: Result<CuratorIndex, Refusal>, state: &mut [usize]) -> u32
     ensures { Returns (storable state.old answer) state.old result state.new }
 {
     match answer {
-        Changed::Refused(refusal) => refusal.number(),
-        Changed::Index(index) => {
+        Err(refusal) => refusal.number(),
+        Ok(index) => {
             if state.len() < state::STATE {
                 return INVALID_STATE;
             }
@@ -94,8 +96,8 @@ pub extern "C" fn curator_add(
         state.new (store_of floats.new numbers.new hashes.new text.new) }
 {
     match state::state_in(state) {
-        StateRead::Nothing => INVALID_STATE,
-        StateRead::State(index) => keep(
+        None => INVALID_STATE,
+        Some(index) => keep(
             index.add(
                 floats, numbers, hashes, text, doc_id, vector, lengths, bytes,
             ),
@@ -117,19 +119,25 @@ pub extern "C" fn curator_take_back(
         result
         state.new }
 {
+    let lists = Lists {
+        floats,
+        numbers,
+        hashes,
+        text,
+    };
     match state::state_in(state) {
-        StateRead::Nothing => INVALID_STATE,
-        StateRead::State(index) => keep(index.take_back(floats, numbers, hashes, text), state),
+        None => INVALID_STATE,
+        Some(index) => keep(index.take_back(lists), state),
     }
 }
 
 // The number of an answer whose state is the one that was lent.
-fn returned(answer: Changed) -> u32
+fn returned(answer: Result<CuratorIndex, Refusal>) -> u32
     ensures { result ≡ changed_number answer }
 {
     match answer {
-        Changed::Refused(refusal) => refusal.number(),
-        Changed::Index(_) => ANSWERED,
+        Err(refusal) => refusal.number(),
+        Ok(_) => ANSWERED,
     }
 }
 
@@ -148,8 +156,8 @@ pub extern "C" fn curator_withdraw(
         (store_of floats.now numbers.new hashes.now text.now) }
 {
     match state::state_in(state) {
-        StateRead::Nothing => INVALID_STATE,
-        StateRead::State(index) => returned(index.withdraw(floats, numbers, hashes, text, doc_id)),
+        None => INVALID_STATE,
+        Some(index) => returned(index.withdraw(floats, numbers, hashes, text, doc_id)),
     }
 }
 
@@ -168,8 +176,8 @@ pub extern "C" fn curator_build(
         state.new (store_of floats.new numbers.new hashes.new text.now) work.new }
 {
     match state::state_in(state) {
-        StateRead::Nothing => INVALID_STATE,
-        StateRead::State(index) => keep(
+        None => INVALID_STATE,
+        Some(index) => keep(
             build::build(index, floats, numbers, hashes, text, work),
             state,
         ),
@@ -185,21 +193,17 @@ fn hits_asked(answer: usize, ids: usize, k: usize) -> usize
 }
 
 // Returns the number of an answer, and puts its values into the list.
-fn tell(found: Found, answer: &mut [usize]) -> u32
+fn tell(found: Result<Searched, Refusal>, answer: &mut [usize]) -> u32
     requires { length (found_values found) ≤ length answer.old }
     ensures value { result ≡ found_number found }
     ensures answer_after { answer.new ≡ sets answer.old 0 (found_values found) }
 {
     match found {
-        Found::Refused(refusal) => refusal.number(),
-        Found::Hits {
-            count,
-            opened,
-            whole,
-        } => {
-            answer[0] = count;
-            answer[1] = opened;
-            answer[2] = state::flag(whole);
+        Err(refusal) => refusal.number(),
+        Ok(searched) => {
+            answer[0] = searched.hits;
+            answer[1] = searched.opened;
+            answer[2] = usize::from(searched.whole);
             ANSWERED
         }
     }
@@ -227,14 +231,19 @@ pub extern "C" fn curator_search_filtered(
         result
         work.new ids.new distances.new answer.new }
 {
+    let lists = Lists {
+        floats,
+        numbers,
+        hashes,
+        text,
+    };
     match state::state_in(state) {
-        StateRead::Nothing => INVALID_STATE,
-        StateRead::State(index) => {
+        None => INVALID_STATE,
+        Some(index) => {
             let hits = hits_asked(answer.len(), ids.len(), k);
             tell(
                 search::search_filtered(
-                    index, floats, numbers, hashes, text, work, query, first, second, hits, ids,
-                    distances,
+                    index, lists, work, query, first, second, hits, ids, distances,
                 ),
                 answer,
             )
@@ -266,17 +275,20 @@ pub extern "C" fn curator_search_both(
         result
         work.new ids.new distances.new answer.new }
 {
+    let lists = Lists {
+        floats,
+        numbers,
+        hashes,
+        text,
+    };
     match state::state_in(state) {
-        StateRead::Nothing => INVALID_STATE,
-        StateRead::State(index) => {
+        None => INVALID_STATE,
+        Some(index) => {
             let hits = hits_asked(answer.len(), ids.len(), k);
             tell(
                 search::search_both(
                     index,
-                    floats,
-                    numbers,
-                    hashes,
-                    text,
+                    lists,
                     work,
                     query,
                     first,
@@ -313,14 +325,18 @@ pub extern "C" fn curator_search(
         result
         work.new ids.new distances.new answer.new }
 {
+    let lists = Lists {
+        floats,
+        numbers,
+        hashes,
+        text,
+    };
     match state::state_in(state) {
-        StateRead::Nothing => INVALID_STATE,
-        StateRead::State(index) => {
+        None => INVALID_STATE,
+        Some(index) => {
             let hits = hits_asked(answer.len(), ids.len(), k);
             tell(
-                search::search(
-                    index, floats, numbers, hashes, text, work, query, hits, ids, distances,
-                ),
+                search::search(index, lists, work, query, hits, ids, distances),
                 answer,
             )
         }

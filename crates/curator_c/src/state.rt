@@ -10,20 +10,6 @@ use store::Counts;
 // How many places a state takes.
 pub const STATE: usize = 14;
 
-// What a list holds: a state, sound or not, or none.
-#[derive(Clone, Copy)]
-pub enum StateRead {
-    State(CuratorIndex),
-    Nothing,
-}
-
-// 1 for true and 0 for false.
-pub fn flag(b: bool) -> usize
-    ensures { result ≡ cond b 1 0 }
-{
-    if b { 1 } else { 0 }
-}
-
 // The state whose numbers stand in a list, but for whether it is built.
 fn state_of(state: &[usize], built: bool) -> CuratorIndex
     requires { places ≤ length state.now }
@@ -56,20 +42,20 @@ fn state_of(state: &[usize], built: bool) -> CuratorIndex
     }
 }
 
-// The state that a list holds.
-pub fn state_in(state: &[usize]) -> StateRead
+// The state that a list holds, sound or not, if it holds one.
+pub fn state_in(state: &[usize]) -> Option<CuratorIndex>
     ensures { result ≡ state_in state.now }
 {
     if state.len() < STATE {
-        return StateRead::Nothing;
+        return None;
     }
     if state[11] == 0 {
-        return StateRead::State(state_of(state, false));
+        return Some(state_of(state, false));
     }
     if state[11] == 1 {
-        return StateRead::State(state_of(state, true));
+        return Some(state_of(state, true));
     }
-    StateRead::Nothing
+    None
 }
 
 // Writes a state into the first places.
@@ -88,7 +74,7 @@ pub fn write_state(index: CuratorIndex, state: &mut [usize])
     state[8] = index.counts.vectors;
     state[9] = index.counts.entries;
     state[10] = index.counts.nodes;
-    state[11] = flag(index.built);
+    state[11] = usize::from(index.built);
     state[12] = index.capacities.text;
     state[13] = index.counts.bytes;
 }

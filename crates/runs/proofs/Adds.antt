@@ -1,6 +1,6 @@
 -- An add keeps what is between a run and its model: refused, it has written nothing; accepted, one row more behind those held, in a model that is not
 -- built.
-use Rattle.std.specs.Prelude.{ℕ, ◌+◌, ◌<◌, ◌^◌, false, List, ◌≡◌, refl, length}
+use Rattle.std.specs.Prelude.{ℕ, ◌+◌, ◌<◌, ◌^◌, false, Result, Ok, Err, ⊤, List, ◌≡◌, refl, length}
 use Rattle.std.proofs.Common.{add-one, arith, inr, sym, ◌∙◌}
 use Rattle.std.proofs.lemmas.Bool.{false≢true}
 use mathlib.Core.List.Memᴰ
@@ -10,10 +10,7 @@ use Rattle.store.specs.declared.Lengths.{Lengths}
 use Rattle.store.specs.Store.{Store}
 use Rattle.store.specs.Lent.{lengths_of, Long, join_stores}
 use Rattle.curator.specs.declared.CuratorIndex.{CuratorIndex}
-use Rattle.settings.specs.declared.Check.{Check}
-use Rattle.settings.specs.declared.Check.TheVariants as Check'
-use Rattle.curator.specs.declared.Changed.{Changed}
-use Rattle.curator.specs.declared.Changed.TheVariants as Changed'
+use Rattle.settings.specs.declared.refusal.Refusal.{Refusal}
 use Rattle.curator.specs.Outcome.{changed_number}
 use Rattle.settings.specs.Refusals.{check_number}
 use Rattle.curator.specs.Arguments.{AddCall}
@@ -65,18 +62,18 @@ state-added s m call b =
 
 -- ---- the step
 
-module _ (s : Setting) (allowed : Allowed s) (m : Model) (front rest front' : Store) (call : AddCall) (answer : Changed)
+module _ (s : Setting) (allowed : Allowed s) (m : Model) (front rest front' : Store) (call : AddCall) (answer : Result CuratorIndex Refusal)
     (inv : Invariant s m (state_for s m) (join_stores front rest)) where
-  ends : (check : Check) → add_check (state_for s m) front call ≡ check → AddsBy check (state_for s m) front call answer front'
+  ends : (check : Result ⊤ Refusal) → add_check (state_for s m) front call ≡ check → AddsBy check (state_for s m) front call answer front'
       → (changed_number answer ≡ check_number check) × Invariant s (changed_by check (add call) m) (next_index (state_for s m) answer) (join_stores front' rest)
   unfolding AddsBy changed_by next_index
-  ends (Check'.Refused r) e by = (
+  ends (Err r) e by = (
     by.0.number_is,
     nothing_written s m (state_for s m) (next_index (state_for s m) answer) (join_stores front rest) (join_stores front' rest) inv
         (ap (next_index (state_for s m)) (refused_is r answer by.0))
         (ap (λ (f : Store). join_stores f rest) by.1),
   )
-  ends Check'.Fine e by =
+  ends (Ok _) e by =
       let found : Accepted (state_for s m) front call = add_facts (state_for s m) front call e in
       let room = found.room in
       let m' = with_row m (new_row call) in
@@ -99,7 +96,7 @@ module _ (s : Setting) (allowed : Allowed s) (m : Model) (front rest front' : St
   add-keeps work adds =
       let same = add_refused s m allowed inv.within front work call in
       let r = ends (change_check s m (lengths_of front) work (add call)) same
-      (subst (λ (c : Check). AddsBy c (state_for s m) front call answer front') same adds) in
+      (subst (λ (c : Result ⊤ Refusal). AddsBy c (state_for s m) front call answer front') same adds) in
       record { number_is = r.0; invariant = r.1 }
 
 -- ---- the rest that is owed
@@ -121,17 +118,17 @@ add_small m call d h =
     (λ new. either (Memᴰ.cases_cons new) (λ e. subst (λ (x : ModelRow). x.document < 2 ^ 32) (sym e) d) (λ none. absurd (Memᴰ.not-nil none)))
 
 -- refused or not, the lists keep their lengths, and there is an outcome
-add-lengths : (index : CuratorIndex) (store : Store) (call : AddCall) (answer : Changed) (store' : Store) (c : Check)
+add-lengths : (index : CuratorIndex) (store : Store) (call : AddCall) (answer : Result CuratorIndex Refusal) (store' : Store) (c : Result ⊤ Refusal)
     → AddsBy c index store call answer store' → lengths_of store ≡ lengths_of store'
 unfolding AddsBy
-add-lengths index store call answer store' (Check'.Refused r) by = ap lengths_of (sym by.1)
-add-lengths index store call answer store' Check'.Fine by = wrote-lengths index store call store' by.1
+add-lengths index store call answer store' (Err r) by = ap lengths_of (sym by.1)
+add-lengths index store call answer store' (Ok _) by = wrote-lengths index store call store' by.1
 
-add_by : (index : CuratorIndex) (store : Store) (call : AddCall) (c : Check) → (answer : Changed) × (store' : Store) × AddsBy c index store call answer store'
+add_by : (index : CuratorIndex) (store : Store) (call : AddCall) (c : Result ⊤ Refusal) → (answer : Result CuratorIndex Refusal) × (store' : Store) × AddsBy c index store call answer store'
 unfolding AddsBy
-add_by index store call (Check'.Refused r) = (Changed'.Refused r, store, (is_refused r (Changed'.Refused r) refl, refl))
-add_by index store call Check'.Fine =
-    (Changed'.Index (grown index call.names), added index store call, (is_carried _ _ refl, added-wrote index store call))
+add_by index store call (Err r) = (Err r, store, (is_refused r (Err r) refl, refl))
+add_by index store call (Ok _) =
+    (Ok (grown index call.names), added index store call, (is_carried _ _ refl, added-wrote index store call))
 
 add-outcome : (index : CuratorIndex) (store : Store) (work : List ℕ) (call : AddCall) → ChangeOutcome index store work (add call)
 unfolding Adds

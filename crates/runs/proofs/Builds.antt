@@ -1,6 +1,6 @@
 -- A build keeps what is between a run and its model: refused with 13 it has written behind the rows' parts only, and the model is not built; refused
 -- otherwise, or of a built index, it has written nothing; accepted, it has laid out the rows' nodes.
-use Rattle.std.specs.Prelude.{ℕ, ◌≤◌, ◌<◌, Bool, not, List, ◌∷◌, [], ◌≡◌, ltb}
+use Rattle.std.specs.Prelude.{ℕ, ◌≤◌, ◌<◌, Bool, not, Result, Ok, Err, ⊤, List, ◌∷◌, [], ◌≡◌, ltb}
 use Rattle.std.proofs.Common.{arith, inl, inr, sym, ◌∙◌}
 use Rattle.std.proofs.Math.Bool.{true, false, and-false}
 use Rattle.std.proofs.lemmas.Bool.{false≢true}
@@ -12,10 +12,6 @@ use Rattle.store.specs.Store.{Store, work_part}
 use Rattle.store.specs.Lent.{lengths_of, Long, lists_short, join_stores}
 use Rattle.store.specs.Agree.{agree_sym}
 use Rattle.curator.specs.declared.CuratorIndex.{CuratorIndex}
-use Rattle.settings.specs.declared.Check.{Check}
-use Rattle.settings.specs.declared.Check.TheVariants as Check'
-use Rattle.curator.specs.declared.Changed.{Changed}
-use Rattle.curator.specs.declared.Changed.TheVariants as Changed'
 use Rattle.settings.specs.declared.refusal.Refusal.{Refusal}
 use Rattle.settings.specs.declared.refusal.Refusal.TheVariants as Refusal'
 use Rattle.settings.specs.declared.refusal.StoreRefusal.TheVariants.{ListTooShort}
@@ -39,13 +35,13 @@ use Rattle.curator.specs.OutcomeLaws.{refused_is, carried-is, is_carried, is_ref
 
 -- a built index is refused for short lists alone, which leaves all as it was
 rows-built : (f : Facts) (lent : Lengths) (work : ℕ) (many : Bool) (r : Refusal) (short built : Bool) → lists_short f.shape lent work ≡ short
-    → f.built ≡ built → built ≡ true → first_of (build_rows f lent work false many) ≡ Check'.Refused r → r ≡ Refusal'.Store ListTooShort
+    → f.built ≡ built → built ≡ true → first_of (build_rows f lent work false many) ≡ Err r → r ≡ Refusal'.Store ListTooShort
 unfolding first_of build_rows
-rows-built f lent work many r true true p q b e = let w : Check'.Refused (Refusal'.Store ListTooShort) ≡ Check'.Refused r = rw p at e in cc
-rows-built f lent work many r false true p q b e = let w : Check'.Fine ≡ Check'.Refused r = rw (p, q) at e in absurd (let z : ◌≡◌ {A = ℕ} 0 1 = cc in omega arith)
+rows-built f lent work many r true true p q b e = let w : Err (Refusal'.Store ListTooShort) ≡ Err r = rw p at e in cc
+rows-built f lent work many r false true p q b e = let w : Ok tt ≡ Err r = rw (p, q) at e in absurd (let z : ◌≡◌ {A = ℕ} 0 1 = cc in omega arith)
 rows-built f lent work many r short false p q b e = absurd (false≢true b)
 
-built_refused : (s : Setting) (m : Model) (lent : Lengths) (work : ℕ) (r : Refusal) → m.built ≡ true → change_check s m lent work build ≡ Check'.Refused r
+built_refused : (s : Setting) (m : Model) (lent : Lengths) (work : ℕ) (r : Refusal) → m.built ≡ true → change_check s m lent work build ≡ Err r
     → r ≡ Refusal'.Store ListTooShort
 unfolding change_check model_facts
 built_refused s m lent work r b e =
@@ -101,15 +97,15 @@ state-built s m n e =
 
 -- ---- the step
 
-module _ (s : Setting) (allowed : Allowed s) (m : Model) (work work' : List ℕ) (front rest front' : Store) (answer : Changed)
+module _ (s : Setting) (allowed : Allowed s) (m : Model) (work work' : List ℕ) (front rest front' : Store) (answer : Result CuratorIndex Refusal)
     (inv : Invariant s m (state_for s m) (join_stores front rest)) where
-  abbrev check : Check
+  abbrev check : Result ⊤ Refusal
   check = change_check s m (lengths_of front) (length work) build
 
   front-held : Long (setting_shape s) (lengths_of front) → Held s m front
   front-held long = held-front s m front rest inv.within long inv.held
 
-  refused_ends : (r : Refusal) → check ≡ Check'.Refused r → BuildsBy (Check'.Refused r) (state_for s m) front work answer front' work'
+  refused_ends : (r : Refusal) → check ≡ Err r → BuildsBy (Err r) (state_for s m) front work answer front' work'
       → Invariant s m (next_index (state_for s m) answer) (join_stores front' rest)
   unfolding BuildsBy next_index
   refused_ends r e by =
@@ -126,7 +122,7 @@ module _ (s : Setting) (allowed : Allowed s) (m : Model) (work work' : List ℕ)
             subst (λ (f : Store). Laid s m (join_stores f rest)) (sym (left-same (setting_shape s) front front' work work' short)) (inv.laid b));
       }
 
-  fine_ends : (b : Bool) → m.built ≡ b → check ≡ Check'.Fine → BuildsFine b (state_for s m) front work answer front' work'
+  fine_ends : (b : Bool) → m.built ≡ b → check ≡ Ok tt → BuildsFine b (state_for s m) front work answer front' work'
       → (changed_number answer ≡ 0) × Invariant s (built_model m) (next_index (state_for s m) answer) (join_stores front' rest)
   unfolding BuildsFine next_index
   fine_ends true b e by = (
@@ -156,18 +152,18 @@ module _ (s : Setting) (allowed : Allowed s) (m : Model) (work work' : List ℕ)
         },
       )
 
-  ends : (c : Check) → check ≡ c → BuildsBy c (state_for s m) front work answer front' work'
+  ends : (c : Result ⊤ Refusal) → check ≡ c → BuildsBy c (state_for s m) front work answer front' work'
       → (changed_number answer ≡ check_number c) × Invariant s (changed_by c build m) (next_index (state_for s m) answer) (join_stores front' rest)
   unfolding BuildsBy changed_by
-  ends (Check'.Refused r) e by = (by.0.number_is, refused_ends r e by)
-  ends Check'.Fine e by = fine_ends m.built refl e by
+  ends (Err r) e by = (by.0.number_is, refused_ends r e by)
+  ends (Ok _) e by = fine_ends m.built refl e by
 
   build-keeps : Builds (state_for s m) front work answer front' work'
       → ChangeEnds s m (lengths_of front) (length work) build answer (next_index (state_for s m) answer) (join_stores front' rest)
   unfolding Builds
   build-keeps builds =
       let r = ends check refl
-      (subst (λ (c : Check). BuildsBy c (state_for s m) front work answer front' work') (build_refused s m allowed inv.within front work front-held) builds) in
+      (subst (λ (c : Result ⊤ Refusal). BuildsBy c (state_for s m) front work answer front' work') (build_refused s m allowed inv.within front work front-held) builds) in
       record { number_is = r.0; invariant = r.1 }
 
 -- ---- the rest that is owed
@@ -186,17 +182,17 @@ build-small m h = h
 
 -- ---- lengths and outcomes, refused or not
 
-module _ (index : CuratorIndex) (store : Store) (work : List ℕ) (answer : Changed) (store' : Store) (work' : List ℕ) where
+module _ (index : CuratorIndex) (store : Store) (work : List ℕ) (answer : Result CuratorIndex Refusal) (store' : Store) (work' : List ℕ) where
   fine_lengths : (b : Bool) → BuildsFine b index store work answer store' work' → (lengths_of store ≡ lengths_of store') × (length work ≡ length work')
   unfolding BuildsFine
   fine_lengths true by = (ap lengths_of (sym by.1), ap length (sym by.2))
   fine_lengths false by =
       (laid-lengths index store work store' work' by.1, freed_length (work_part (index_shape index) ∷ []) work work' by.1.work)
 
-  lengths_by : (c : Check) → BuildsBy c index store work answer store' work' → (lengths_of store ≡ lengths_of store') × (length work ≡ length work')
+  lengths_by : (c : Result ⊤ Refusal) → BuildsBy c index store work answer store' work' → (lengths_of store ≡ lengths_of store') × (length work ≡ length work')
   unfolding BuildsBy
-  lengths_by Check'.Fine by = fine_lengths index.built by
-  lengths_by (Check'.Refused r) by =
+  lengths_by (Ok _) by = fine_lengths index.built by
+  lengths_by (Err r) by =
       let sh = index_shape index in (left-lengths sh r store work store' work' by.1, freed_length (free_of sh r).work work work' by.1.work)
 
   -- all lists, the work list too
@@ -205,18 +201,18 @@ module _ (index : CuratorIndex) (store : Store) (work : List ℕ) (answer : Chan
   build-lengths by = lengths_by (build_check index store work) by
 
 build_fine : (index : CuratorIndex) (store : Store) (work : List ℕ) (b : Bool)
-    → (answer : Changed) × (store' : Store) × (work' : List ℕ) × BuildsFine b index store work answer store' work'
+    → (answer : Result CuratorIndex Refusal) × (store' : Store) × (work' : List ℕ) × BuildsFine b index store work answer store' work'
 unfolding BuildsFine
-build_fine index store work true = (Changed'.Index index, store, work, (is_carried index (Changed'.Index index) refl, refl, refl))
+build_fine index store work true = (Ok index, store, work, (is_carried index (Ok index) refl, refl, refl))
 build_fine index store work false =
-    let out = lays_out index store work in (Changed'.Index (built_with index (length (held_nodes index store))), out.0, out.1, (is_carried _ _ refl, out.2))
+    let out = lays_out index store work in (Ok (built_with index (length (held_nodes index store))), out.0, out.1, (is_carried _ _ refl, out.2))
 
-build_by : (index : CuratorIndex) (store : Store) (work : List ℕ) (c : Check)
-    → (answer : Changed) × (store' : Store) × (work' : List ℕ) × BuildsBy c index store work answer store' work'
+build_by : (index : CuratorIndex) (store : Store) (work : List ℕ) (c : Result ⊤ Refusal)
+    → (answer : Result CuratorIndex Refusal) × (store' : Store) × (work' : List ℕ) × BuildsBy c index store work answer store' work'
 unfolding BuildsBy
-build_by index store work Check'.Fine = build_fine index store work index.built
-build_by index store work (Check'.Refused r) =
-    let left = leaves (index_shape index) r store work in (Changed'.Refused r, left.0, left.1, (is_refused r (Changed'.Refused r) refl, left.2))
+build_by index store work (Ok _) = build_fine index store work index.built
+build_by index store work (Err r) =
+    let left = leaves (index_shape index) r store work in (Err r, left.0, left.1, (is_refused r (Err r) refl, left.2))
 
 build-outcome : (index : CuratorIndex) (store : Store) (work : List ℕ) → ChangeOutcome index store work build
 unfolding Builds

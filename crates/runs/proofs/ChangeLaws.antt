@@ -1,14 +1,13 @@
 -- What is owed for a change, in one record: whoever adds a change to `Change` proves it of that one (Adds.antt, TakesBack.antt, Withdraws.antt, Builds.antt),
 -- and the rest goes by kinds of calls. Reached.antt has it of every change.
-use Rattle.std.specs.Prelude.{ℕ, Bool, true, false, cond, ◌⊎◌, List, [], ◌∷◌, ◌≡◌, refl, length}
+use Rattle.std.specs.Prelude.{ℕ, Bool, true, false, cond, Result, Err, ◌⊎◌, List, [], ◌∷◌, ◌≡◌, refl, length}
 use Rattle.std.proofs.lemmas.Bool.{false≢true}
 use Rattle.std.proofs.Common.{inl, inr, sym, ◌∙◌, arith}
 use Rattle.store.specs.declared.Lengths.{Lengths}
 use Rattle.store.specs.Store.{Store}
 use Rattle.store.specs.Lent.{lengths_of, join_stores}
 use Rattle.curator.specs.declared.CuratorIndex.{CuratorIndex}
-use Rattle.settings.specs.declared.Check.TheVariants as Check'
-use Rattle.curator.specs.declared.Changed.{Changed}
+use Rattle.settings.specs.declared.refusal.Refusal.{Refusal}
 use Rattle.curator.specs.Outcome.{changed_number}
 use Rattle.settings.specs.Refusals.{number, check_number}
 use Rattle.curator.specs.Rows.{Row, first_of}
@@ -36,7 +35,7 @@ first_other [] o = omega arith
 first_other (r ∷ rows) o = go r.holds refl o.0 (first_other rows o.1)
   where
     go : (b : Bool) → r.holds ≡ b → (r.holds ≡ false) ⊎ Other (number r.refusal) → Other (check_number (first_of rows))
-        → Other (check_number (cond b (Check'.Refused r.refusal) (first_of rows)))
+        → Other (check_number (cond b (Err r.refusal) (first_of rows)))
     go true e (inl f) rest = absurd (false≢true (sym f ∙ e))
     go true e (inr n) rest = n
     go false e h rest = rest
@@ -44,13 +43,13 @@ first_other (r ∷ rows) o = go r.holds refl o.0 (first_other rows o.1)
 -- ---- the record
 
 -- a change returned the model's number, and what it left stands for the model after it
-pub record ChangeEnds (s : Setting) (m : Model) (lent : Lengths) (work : ℕ) (c : Change) (answer : Changed) (index' : CuratorIndex) (store' : Store) : Type 0 where
+pub record ChangeEnds (s : Setting) (m : Model) (lent : Lengths) (work : ℕ) (c : Change) (answer : Result CuratorIndex Refusal) (index' : CuratorIndex) (store' : Store) : Type 0 where
   pub number_is : changed_number answer ≡ check_number (change_check s m lent work c)
   pub invariant : Invariant s (changed_by (change_check s m lent work c) c m) index' store'
 
 -- an outcome of a change: the answer and the lists
 pub record ChangeOutcome (index : CuratorIndex) (store : Store) (work : List ℕ) (c : Change) : Type 0 where
-  pub answer : Changed
+  pub answer : Result CuratorIndex Refusal
   pub store' : Store
   pub work' : List ℕ
   pub changes : Changes c index store work answer store' work'
@@ -58,7 +57,7 @@ pub record ChangeOutcome (index : CuratorIndex) (store : Store) (work : List ℕ
 pub record ChangeLaws (c : Change) : Type 0 where
   -- on a front of lists that stand for a model, with any rest behind it
   pub keeps :
-      (s : Setting) → Allowed s → (m : Model) (work work' : List ℕ) (front rest front' : Store) (answer : Changed)
+      (s : Setting) → Allowed s → (m : Model) (work work' : List ℕ) (front rest front' : Store) (answer : Result CuratorIndex Refusal)
       → Invariant s m (state_for s m) (join_stores front rest) → Changes c (state_for s m) front work answer front' work'
       → ChangeEnds s m (lengths_of front) (length work) c answer (next_index (state_for s m) answer) (join_stores front' rest)
   -- no row of the model is 15 or 4
@@ -69,7 +68,7 @@ pub record ChangeLaws (c : Change) : Type 0 where
   pub small : (m : Model) → Typed c → Small m → Small (carried_out c m)
   -- whatever index and lists it is given, the store's keep their lengths
   pub lengths :
-      (index : CuratorIndex) (store : Store) (work : List ℕ) (answer : Changed) (store' : Store) (work' : List ℕ)
+      (index : CuratorIndex) (store : Store) (work : List ℕ) (answer : Result CuratorIndex Refusal) (store' : Store) (work' : List ℕ)
       → Changes c index store work answer store' work' → lengths_of store ≡ lengths_of store'
   -- and it has an outcome
   pub outcome : (index : CuratorIndex) (store : Store) (work : List ℕ) → ChangeOutcome index store work c

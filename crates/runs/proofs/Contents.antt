@@ -1,8 +1,8 @@
 -- The model looks at no contents of work and answer lists: alike calls are put to the same check, the same is expected of them, and they leave the same
 -- model. `ef_search` is no matter to the refusals, nor to what is written.
-use Rattle.std.specs.Prelude.{ℕ, List, [], ◌∷◌, ◌≡◌, refl, length}
+use Rattle.std.specs.Prelude.{ℕ, Result, ⊤, List, [], ◌∷◌, ◌≡◌, refl, length}
 use Rattle.std.proofs.Common.{ap}
-use Rattle.settings.specs.declared.Check.{Check}
+use Rattle.settings.specs.declared.refusal.Refusal.{Refusal}
 use Rattle.settings.specs.Refusals.{check_number}
 use Rattle.curator.specs.Rows.{first_of, search_rows}
 use Rattle.store.specs.declared.Lengths.{Lengths}
@@ -67,5 +67,5 @@ budget-check s ef m (search fronts work call) = refl
 
 pub budget-after : (s : Setting) (ef : ℕ) (m : Model) (call : Call) → after (with_budget ef s) m call ≡ after s m call
 unfolding after
-budget-after s ef m (change fronts work c) = ap (λ (check : Check). changed_by check c m) (budget-change s ef m fronts (length work) c)
+budget-after s ef m (change fronts work c) = ap (λ (check : Result ⊤ Refusal). changed_by check c m) (budget-change s ef m fronts (length work) c)
 budget-after s ef m (search fronts work call) = refl

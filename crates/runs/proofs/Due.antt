@@ -21,7 +21,7 @@ use Rattle.tree.proofs.NodeEntryLaws.{entries_of-nil, entries_of_perm, entries_o
 use Rattle.tree.proofs.NodeFilterLaws.{perm_children-ids}
 use Rattle.tree.proofs.Subtrees.{subs, forest_subs, subs-cons, length-subs, children_of, own_ids, subs-children, child_range, children_tile, fair_sub}
 use Rattle.tree.proofs.NumberedNodes.{root_node, get_d_nodes_of}
-use Rattle.walk.specs.Walk.{children, hits, shown}
+use Rattle.walk.specs.Walk.{hits, shown}
 use Rattle.walk.specs.Wanted.{Sought, LeafList, vector_list, entry_list, denies, list_read, given, held_in}
 use Rattle.walk.proofs.SoundWalk.{SoundView, Local, Inner, Tiled}
 use Rattle.curator.specs.Calls.{splitting_of}

@@ -1,6 +1,6 @@
 -- Nothing of demand 3 is empty: every call has an outcome, whatever index, lists and arguments it is given, and so every list of calls whose document
 -- ids are u32s has a run, for every setting that `new` accepts. Whatever an outcome leaves free can be anything; here it is zeros.
-use Rattle.std.specs.Prelude.{ℕ, Bool, List, [], ◌∷◌, ◌≡◌, refl, length}
+use Rattle.std.specs.Prelude.{ℕ, Bool, Result, Ok, Err, ⊤, List, [], ◌∷◌, ◌≡◌, refl, length}
 use Rattle.std.proofs.Common.{sym, ap, ◌∙◌, subst}
 use Rattle.std.proofs.lemmas.List.Edits.{sets}
 use Rattle.lists.specs.Frame.{freed}
@@ -12,10 +12,7 @@ use Rattle.walk.specs.Walk.{State, damaged, going, walk}
 use Rattle.walk.specs.Answer.{answer}
 use Rattle.walk.specs.StoreView.{live_in, store_view}
 use Rattle.curator.specs.declared.CuratorIndex.{CuratorIndex}
-use Rattle.settings.specs.declared.Check.{Check}
-use Rattle.settings.specs.declared.Check.TheVariants as Check'
-use Rattle.curator.specs.declared.Changed.TheVariants as Changed'
-use Rattle.curator.specs.declared.Found.TheVariants as Found'
+use Rattle.settings.specs.declared.refusal.Refusal.{Refusal}
 use Rattle.settings.specs.declared.refusal.Refusal.TheVariants as Refusal'
 use Rattle.settings.specs.declared.refusal.StoreRefusal.TheVariants as StoreRefusal'
 use Rattle.curator.specs.Limits.{index_shape}
@@ -39,21 +36,21 @@ walked_by : (test : ℕ → Bool) (index : CuratorIndex) (work : List ℕ) (call
 unfolding WalkedTo
 walked_by test index work call damaged =
     let w = freed 0 (work_part (index_shape index) ∷ []) work in (
-      record { answer = Found'.Refused (Refusal'.Store StoreRefusal'.Damaged); work = w.0; ids = call.ids; distances = call.distances },
+      record { answer = Err (Refusal'.Store StoreRefusal'.Damaged); work = w.0; ids = call.ids; distances = call.distances },
       record { answer = is-search_refused _ _ refl; work = w.1; ids = refl; distances = refl },
     )
 walked_by test index work call (going p) =
     let w = freed 0 (work_part (index_shape index) ∷ []) work in
     let a = answer test call.k p in (
-      record { answer = Found'.Hits (length a.ids) a.opened a.complete; work = w.0; ids = sets call.ids 0 a.ids; distances = sets call.distances 0 a.distances },
+      record { answer = Ok (record { hits = length a.ids; opened = a.opened; whole = a.complete }); work = w.0; ids = sets call.ids 0 a.ids; distances = sets call.distances 0 a.distances },
       record { answer = is_found _ _ _ _ refl; work = w.1; ids = refl; distances = refl },
     )
 
-search_by : (index : CuratorIndex) (store : Store) (work : List ℕ) (call : SearchCall) (c : Check) → (end : SearchEnd) × SearchesBy c index store work call end
+search_by : (index : CuratorIndex) (store : Store) (work : List ℕ) (call : SearchCall) (c : Result ⊤ Refusal) → (end : SearchEnd) × SearchesBy c index store work call end
 unfolding SearchesBy
-search_by index store work call (Check'.Refused r) =
-    (record { answer = Found'.Refused r; work = work; ids = call.ids; distances = call.distances }, record { answer = is-search_refused r (Found'.Refused r) refl; work = refl; ids = refl; distances = refl })
-search_by index store work call Check'.Fine =
+search_by index store work call (Err r) =
+    (record { answer = Err r; work = work; ids = call.ids; distances = call.distances }, record { answer = is-search_refused r (Err r) refl; work = refl; ids = refl; distances = refl })
+search_by index store work call (Ok _) =
     let view = store_view (index_shape index) index.counts store (normalized call.question.query) (wanted_of call.question.asked) in
     let r = walked_by (live_in (index_shape index) index.counts store) index work call (walk view index.params.ef_search) in
     (r.0, record { query = normalized call.question.query; normalized = normalized-holds call.question.query; walked = r.1 })
@@ -152,7 +149,7 @@ run_from index store (call ∷ calls) t f =
     (o.end ∷ r.0, next o.step r.1)
 
 -- from any lists of which no call is lent more than they have
-pub run_exists : (s : Setting) (index : CuratorIndex) → Creates s.dimension s.params s.capacities (Changed'.Index index) → (store : Store) (calls : List Call)
+pub run_exists : (s : Setting) (index : CuratorIndex) → Creates s.dimension s.params s.capacities (Ok index) → (store : Store) (calls : List Call)
     → AllTyped calls → AllFit (lengths_of store) calls → (ends : List Ended) × Run s calls ends
 run_exists s index e store calls t f =
     let r = run_from index store calls t f in
@@ -168,7 +165,7 @@ all_fit [] lengths f = tt
 all_fit (call ∷ calls) lengths f = let (one, others) = both-fit (fronts_of call) (lent_in_all calls) lengths f in (one, all_fit calls lengths others)
 
 -- Every list of calls has a run, for every setting that `new` accepts; that document ids are u32s is by the type of the argument.
-pub every-run : (s : Setting) (index : CuratorIndex) → Creates s.dimension s.params s.capacities (Changed'.Index index) → (calls : List Call) → AllTyped calls
+pub every-run : (s : Setting) (index : CuratorIndex) → Creates s.dimension s.params s.capacities (Ok index) → (calls : List Call) → AllTyped calls
     → (ends : List Ended) × Run s calls ends
 every-run s index e calls t =
     let n = lent_in_all calls in

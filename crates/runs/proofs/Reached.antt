@@ -1,17 +1,15 @@
 -- A whole run: from the empty model every step keeps what is between run and model, so every call ends as the model expects. What else is claimed of
 -- each call follows from that and from facts about the models that are reached.
-use Rattle.std.specs.Prelude.{ℕ, suc, List, [], ◌∷◌, ◌≡◌, refl, length, take}
+use Rattle.std.specs.Prelude.{ℕ, suc, Result, Ok, Err, ⊤, List, [], ◌∷◌, ◌≡◌, refl, length, take}
 use Rattle.std.proofs.Common.{arith, inr, sym, ◌∙◌, subst}
 use Rattle.store.specs.declared.Lengths.{Lengths}
 use Rattle.store.specs.Store.{Store}
 use Rattle.store.specs.Lent.{lengths_of, join_stores}
+use Rattle.walk.specs.declared.Searched.{Searched}
 use Rattle.walk.specs.Walk.{State, Progress, damaged, going}
 use Rattle.walk.specs.Answer.{answer}
 use Rattle.curator.specs.declared.CuratorIndex.{CuratorIndex}
-use Rattle.settings.specs.declared.Check.{Check}
-use Rattle.settings.specs.declared.Check.TheVariants as Check'
-use Rattle.curator.specs.declared.Changed.{Changed}
-use Rattle.curator.specs.declared.Found.TheVariants.{Hits}
+use Rattle.settings.specs.declared.refusal.Refusal.{Refusal}
 use Rattle.settings.specs.Refusals.{number, check_number}
 use Rattle.curator.specs.Rows.{search_rows}
 use Rattle.curator.proofs.RowLaws.{number-positive}
@@ -40,7 +38,7 @@ change_laws (withdraw document) = withdraw_laws document
 change_laws build = build_laws
 
 -- on any index that stands for a model
-pub change-keeps : (s : Setting) → Allowed s → (m : Model) (index : CuratorIndex) (work work' : List ℕ) (front rest front' : Store) (c : Change) (answer : Changed)
+pub change-keeps : (s : Setting) → Allowed s → (m : Model) (index : CuratorIndex) (work work' : List ℕ) (front rest front' : Store) (c : Change) (answer : Result CuratorIndex Refusal)
     → Invariant s m index (join_stores front rest) → Changes c index front work answer front' work'
     → ChangeEnds s m (lengths_of front) (length work) c answer (next_index index answer) (join_stores front' rest)
 change-keeps s a m index work work' front rest front' c answer inv by =
@@ -81,10 +79,10 @@ search-step s a m index store inv fronts work call end index' store' st =
     )
 
 -- document ids stay u32s
-small_by : (check : Check) (c : Change) (m : Model) → Typed c → Small m → Small (changed_by check c m)
+small_by : (check : Result ⊤ Refusal) (c : Change) (m : Model) → Typed c → Small m → Small (changed_by check c m)
 unfolding changed_by
-small_by (Check'.Refused r) c m t h = h
-small_by Check'.Fine c m t h = (change_laws c).small m t h
+small_by (Err r) c m t h = h
+small_by (Ok _) c m t h = (change_laws c).small m t h
 
 small-after : (s : Setting) (m : Model) (call : Call) → TypedCall call → Small m → Small (after s m call)
 unfolding after
@@ -167,14 +165,14 @@ along_all s Fact m (call ∷ calls) h = (h 0, along_all s Fact (after s m call) 
 
 -- ---- the number is the model's, neither 15 nor 4
 
-search-number : (m : Model) (fronts : Lengths) (work : List ℕ) (call : SearchCall) (end : Ended) (check : Check) (walked : State)
+search-number : (m : Model) (fronts : Lengths) (work : List ℕ) (call : SearchCall) (end : Ended) (check : Result ⊤ Refusal) (walked : State)
     → Matches (searched_by m check call.k walked) (search fronts work call) end → end_number end ≡ check_number check
 unfolding searched_by answered
-search-number m fronts work call (changed answer) (Check'.Refused r) walked h = absurd h
-search-number m fronts work call (found end) (Check'.Refused r) walked h = h.0
-search-number m fronts work call end Check'.Fine damaged h = absurd h
-search-number m fronts work call (changed answer) Check'.Fine (going p) h = absurd h
-search-number m fronts work call (found end) Check'.Fine (going p) h = h.0.number_is
+search-number m fronts work call (changed answer) (Err r) walked h = absurd h
+search-number m fronts work call (found end) (Err r) walked h = h.0
+search-number m fronts work call end (Ok _) damaged h = absurd h
+search-number m fronts work call (changed answer) (Ok _) (going p) h = absurd h
+search-number m fronts work call (found end) (Ok _) (going p) h = h.0.number_is
 
 pub end-number : (s : Setting) (m : Model) (call : Call) (end : Ended) → Matches (expected s m call) call end → end_number end ≡ check_number (model_check s m call)
 unfolding expected model_check
@@ -194,16 +192,18 @@ never s m call end h = let o = subst Other (sym (end-number s m call end h)) (ca
 
 -- ---- an answered search
 
+-- what a reply says of the walk
+abbrev searched_in : Reply → Searched
+searched_in reply = record { hits = reply.hits; opened = reply.opened; whole = reply.complete }
+
 -- an end has one set of values
 answered-one : (end : Ended) (reply reply' : Reply) → AnsweredWith end reply → AnsweredWith end reply' → reply ≡ reply'
 answered-one (changed answer) reply reply' h k = absurd h
 answered-one (found end) reply reply' h k =
-    let same : Hits reply.hits reply.opened reply.complete ≡ Hits reply'.hits reply'.opened reply'.complete =
+    let answers : ◌≡◌ {A = Result Searched Refusal} (Ok (searched_in reply)) (Ok (searched_in reply')) =
     sym (found-is reply.hits reply.opened reply.complete end.answer h.0) ∙ found-is reply'.hits reply'.opened reply'.complete end.answer k.0 in
-    let hits : reply.hits ≡ reply'.hits = cc in
-    let opened : reply.opened ≡ reply'.opened = cc in
-    let complete : reply.complete ≡ reply'.complete = cc in
-    λ i. record { hits = hits i; opened = opened i; complete = complete i; ids = (sym h.1 ∙ k.1) i; distances = (sym h.2 ∙ k.2) i }
+    let same : searched_in reply ≡ searched_in reply' = cc in
+    λ i. record { hits = (same i).hits; opened = (same i).opened; complete = (same i).whole; ids = (sym h.1 ∙ k.1) i; distances = (sym h.2 ∙ k.2) i }
 
 -- a refused search is none
 not_refused : (fronts : Lengths) (work : List ℕ) (call : SearchCall) (n : ℕ) (end : Ended) (reply : Reply) → Matches (returns n) (search fronts work call) end
@@ -220,18 +220,18 @@ not_answered fronts work c n (found end) reply h k = h
 -- the walk that it made of the rows' tree, and what it wrote
 pub record Finds (s : Setting) (m : Model) (fronts : Lengths) (work : List ℕ) (call : SearchCall) (reply : Reply) : Type 0 where
   pub progress : Progress
-  pub check : model_search_check s m fronts (length work) call ≡ Check'.Fine
+  pub check : model_search_check s m fronts (length work) call ≡ Ok tt
   pub walked : model_walk s m call.question ≡ going progress
   pub is : reply ≡ reply_of (answer (row_live m) call.k progress) call
 
-finds_by : (s : Setting) (m : Model) (fronts : Lengths) (work : List ℕ) (call : SearchCall) (end : Ended) (reply : Reply) (check : Check) (walked : State)
+finds_by : (s : Setting) (m : Model) (fronts : Lengths) (work : List ℕ) (call : SearchCall) (end : Ended) (reply : Reply) (check : Result ⊤ Refusal) (walked : State)
     → model_search_check s m fronts (length work) call ≡ check → model_walk s m call.question ≡ walked
     → Matches (searched_by m check call.k walked) (search fronts work call) end → AnsweredWith end reply → Finds s m fronts work call reply
 unfolding searched_by answered
-finds_by s m fronts work call end reply (Check'.Refused r) walked e w h k =
+finds_by s m fronts work call end reply (Err r) walked e w h k =
     let z = not_refused fronts work call (number r) end reply h k in absurd (omega (arith, number-positive r, z))
-finds_by s m fronts work call end reply Check'.Fine damaged e w h k = absurd h
-finds_by s m fronts work call end reply Check'.Fine (going p) e w h k =
+finds_by s m fronts work call end reply (Ok _) damaged e w h k = absurd h
+finds_by s m fronts work call end reply (Ok _) (going p) e w h k =
     record { progress = p; check = e; walked = w; is = answered-one end reply (reply_of (answer (row_live m) call.k p) call) k h }
 
 pub answered-finds : (s : Setting) (m : Model) (fronts : Lengths) (work : List ℕ) (call : SearchCall) (end : Ended) (reply : Reply)

@@ -1,6 +1,6 @@
--- A state of a run refuses as its model does: the rows are the same, and what they look at is the same by `stateFor` and by what is held. Row 4 never
+-- A state of a run refuses as its model does: the rows are the same, and what they look at is the same by `state_for` and by what is held. Row 4 never
 -- holds (State.antt); the document ids held are the rows'; an owner is a row's number, so build's 15 never does either; the tree is over the same vectors.
-use Rattle.std.specs.Prelude.{ℕ, ◌≤◌, ◌<◌, Bool, true, false, not, ◌&&◌, List, ◌≡◌, refl, ltb, eqb, length}
+use Rattle.std.specs.Prelude.{ℕ, ◌≤◌, ◌<◌, Bool, true, false, not, ◌&&◌, Ok, List, ◌≡◌, refl, ltb, eqb, length}
 use Rattle.std.proofs.Common.{arith, sym, ap, ◌∙◌, subst, ltb-false, lt-ltb}
 use Rattle.std.proofs.lemmas.Bool.{eqb-false, not-false}
 use Rattle.lists.specs.Lists.{is_in}
@@ -12,7 +12,6 @@ use Rattle.store.specs.Lent.{lengths_of, Long, store_short, lists_short}
 use Rattle.store.specs.LentLaws.{store_long, lists-long}
 use Rattle.tree.specs.Nodes.{Entries}
 use Rattle.tree.specs.Tree.{tree_of, size}
-use Rattle.settings.specs.declared.Check.TheVariants as Check'
 use Rattle.curator.specs.Arguments.{AddCall, SearchCall, asking_of}
 use Rattle.curator.specs.Rows.{Facts, first_of, add_rows, take_back_rows, withdraw_rows, build_rows, search_rows}
 use Rattle.curator.proofs.RowLaws.{NoneHolds, fine_none}
@@ -113,7 +112,7 @@ pub record BuildRoom (s : Setting) (m : Model) (lent : Lengths) : Type 0 where
   pub rows : 0 < length m.rows
   pub nodes : node_count s m ≤ s.capacities.nodes
 
-pub build-room : (s : Setting) (m : Model) (lent : Lengths) (work : ℕ) → m.built ≡ false → change_check s m lent work build ≡ Check'.Fine
+pub build-room : (s : Setting) (m : Model) (lent : Lengths) (work : ℕ) → m.built ≡ false → change_check s m lent work build ≡ Ok tt
     → BuildRoom s m lent
 unfolding change_check build_rows model_facts
 build-room s m lent work b e =
@@ -135,7 +134,7 @@ pub record SearchRoom (s : Setting) (m : Model) (lent : Lengths) (call : SearchC
   pub ids : call.k ≤ length call.ids
   pub distances : call.k ≤ length call.distances
 
-pub search-room : (s : Setting) (m : Model) (lent : Lengths) (work : ℕ) (call : SearchCall) → model_search_check s m lent work call ≡ Check'.Fine
+pub search-room : (s : Setting) (m : Model) (lent : Lengths) (work : ℕ) (call : SearchCall) → model_search_check s m lent work call ≡ Ok tt
     → SearchRoom s m lent call
 unfolding model_search_check search_rows model_facts
 search-room s m lent work call e =

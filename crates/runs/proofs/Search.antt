@@ -2,7 +2,7 @@
 -- struck (Views.antt); that walk is never damaged (Due.antt).
 use Prim.Native.Nat.{ℕ}
 use Rattle.std.proofs.Common.{arith, ap₂, ◌∙◌, subst}
-use Rattle.std.specs.Prelude.{Bool, true, false, List, Float, length}
+use Rattle.std.specs.Prelude.{Bool, true, false, Result, Ok, Err, ⊤, List, Float, length}
 use Rattle.std.proofs.lemmas.Bool.{false≢true}
 use Rattle.std.proofs.Math.Path.{◌≡◌, refl, sym}
 use Rattle.vector.specs.Normalized.{normalized, normalized-is}
@@ -13,8 +13,7 @@ use Rattle.store.specs.Lent.{lengths_of, join_stores}
 use Rattle.walk.specs.Walk.{State, Progress, damaged, going, walk}
 use Rattle.walk.specs.StoreView.{store_view}
 use Rattle.walk.proofs.SoundWalk.{sound-goes}
-use Rattle.settings.specs.declared.Check.{Check}
-use Rattle.settings.specs.declared.Check.TheVariants as Check'
+use Rattle.settings.specs.declared.refusal.Refusal.{Refusal}
 use Rattle.curator.specs.Arguments.{Question, SearchCall}
 use Rattle.curator.specs.Searches.{SearchEnd, wanted_of, Searches, SearchesBy, WalkedTo}
 use Rattle.runs.specs.Calls.{search}
@@ -80,11 +79,11 @@ module _ (s : Setting) (allowed : Allowed s) (m : Model) (front rest : Store) (i
       absurd (let z : damaged ≡ going r.0 = sym e ∙ r.1 in let n : ◌≡◌ {A = ℕ} 0 1 = cc in omega arith)
   walked-holds fronts (going p) e by = (by.answer, by.ids, by.distances)
 
-  ends : (c : Check) → model_search_check s m (lengths_of front) (length work) call ≡ c → SearchesBy c (state_for s m) front work call end
+  ends : (c : Result ⊤ Refusal) → model_search_check s m (lengths_of front) (length work) call ≡ c → SearchesBy c (state_for s m) front work call end
       → Matches (searched_by m c call.k (model_walk s m call.question)) (search (lengths_of front) work call) (found end)
   unfolding SearchesBy searched_by
-  ends (Check'.Refused r) e by = (by.answer.number_is, record { ids = by.ids; distances = by.distances })
-  ends Check'.Fine e by =
+  ends (Err r) e by = (by.answer.number_is, record { ids = by.ids; distances = by.distances })
+  ends (Ok _) e by =
       let room : SearchRoom s m (lengths_of front) call = search-room s m (lengths_of front) (length work) call e in
       walked-holds (lengths_of front) (model_walk s m call.question) refl
       (subst (λ (x : State). WalkedTo x (row_live m) (state_for s m) work call end)
@@ -96,4 +95,4 @@ module _ (s : Setting) (allowed : Allowed s) (m : Model) (front rest : Store) (i
   unfolding Searches expected
   search-keeps by =
       ends (model_search_check s m (lengths_of front) (length work) call) refl
-      (subst (λ (c : Check). SearchesBy c (state_for s m) front work call end) (search_refused s m allowed inv.within front work call) by)
+      (subst (λ (c : Result ⊤ Refusal). SearchesBy c (state_for s m) front work call end) (search_refused s m allowed inv.within front work call) by)

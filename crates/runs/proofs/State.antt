@@ -1,6 +1,6 @@
 -- The state of an index is a function of the setting and the model: its settings are the setting's, its counts the model's. It is sound in every run,
 -- so row 4 never holds, because an accepted `new` has checked the settings and the rows of every call keep the counts within the capacities.
-use Rattle.std.specs.Prelude.{ℕ, ◌≤◌, ◌<◌, ◌^◌, Bool, true, false, ◌&&◌, ◌≡◌, refl, length}
+use Rattle.std.specs.Prelude.{ℕ, ◌≤◌, ◌<◌, ◌^◌, Bool, true, false, ◌&&◌, Ok, ◌≡◌, refl, length}
 use Rattle.std.proofs.Common.{arith, sym, ap₂, subst, lt-ltb}
 use Rattle.std.proofs.lemmas.Bool.{false≢true}
 use mathlib.Core.List.Memᴰ
@@ -9,7 +9,6 @@ use Rattle.store.specs.Store.{Limits}
 use Rattle.tree.specs.Tree.{tree_of}
 use Rattle.tree.proofs.TreeLaws.{size-some}
 use Rattle.curator.specs.declared.CuratorIndex.{CuratorIndex}
-use Rattle.curator.specs.declared.Changed.TheVariants as Changed'
 use Rattle.curator.specs.Limits.{state_sound}
 use Rattle.settings.specs.Limits.{built_allowed}
 use Rattle.curator.specs.Calls.{fresh, splitting_of}
@@ -23,7 +22,7 @@ use Rattle.runs.specs.Model.{Setting, Model, ModelRow, empty_model, row_hashes, 
 abbrev pub Allowed : Setting → Type 0
 Allowed s = Sound (fresh s.dimension s.params s.capacities)
 
-pub created-is : (s : Setting) (index : CuratorIndex) → Creates s.dimension s.params s.capacities (Changed'.Index index)
+pub created-is : (s : Setting) (index : CuratorIndex) → Creates s.dimension s.params s.capacities (Ok index)
     → (index ≡ fresh s.dimension s.params s.capacities) × Allowed s
 created-is s index e =
     let is = (created-accepted s.dimension s.params s.capacities index e).0 in

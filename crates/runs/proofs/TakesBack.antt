@@ -1,7 +1,7 @@
 -- A taking back keeps what is between a run and its model: refused, all is as it was; accepted, the last row is struck, in a model that is not built. No list is
 -- written: the lists still hold the rows that stay, and since an owner is its row's number, the owners at the end that are the last row's number are exactly as
 -- many as its hashes.
-use Rattle.std.specs.Prelude.{ℕ, suc, ◌+◌, ◌-◌, ◌≤◌, ◌<◌, false, ◌≡◌, take, drop, replicate}
+use Rattle.std.specs.Prelude.{ℕ, suc, ◌+◌, ◌-◌, ◌≤◌, ◌<◌, false, Result, Ok, Err, ⊤, ◌≡◌, take, drop, replicate}
 use native.Mathlib.Omega.{arith}
 use Rattle.std.proofs.lemmas.Bool.{false≢true}
 use Rattle.std.proofs.Common.{inr, ◌∙◌, take-append-drop, take-suc, take_at, take-take}
@@ -21,10 +21,7 @@ use Rattle.label.specs.TextLaws.{length-starts, length-lengths, start-append}
 use Rattle.lists.specs.Parts.{get_d_part}
 use Rattle.store.specs.Lent.{lengths_of, join_stores}
 use Rattle.curator.specs.declared.CuratorIndex.{CuratorIndex}
-use Rattle.settings.specs.declared.Check.{Check}
-use Rattle.settings.specs.declared.Check.TheVariants as Check'
-use Rattle.curator.specs.declared.Changed.{Changed}
-use Rattle.curator.specs.declared.Changed.TheVariants as Changed'
+use Rattle.settings.specs.declared.refusal.Refusal.{Refusal}
 use Rattle.curator.specs.Outcome.{changed_number}
 use Rattle.settings.specs.Refusals.{check_number}
 use Rattle.curator.specs.Rows.{take_back_rows}
@@ -184,8 +181,8 @@ state_less s m r taken bytes b t left =
 
 -- ---- the step
 
-module _ (s : Setting) (allowed : Allowed s) (m : Model) (front rest : Store) (answer : Changed) (inv : Invariant s m (state_for s m) (join_stores front rest)) where
-  fine_ends : CanTakeBack (state_for s m) (lengths_of front) → TakesBackBy Check'.Fine (state_for s m) front answer
+module _ (s : Setting) (allowed : Allowed s) (m : Model) (front rest : Store) (answer : Result CuratorIndex Refusal) (inv : Invariant s m (state_for s m) (join_stores front rest)) where
+  fine_ends : CanTakeBack (state_for s m) (lengths_of front) → TakesBackBy (Ok tt) (state_for s m) front answer
       → Invariant s (without m) (next_index (state_for s m) answer) (join_stores front rest)
   unfolding TakesBackBy next_index
   fine_ends can by =
@@ -205,16 +202,16 @@ module _ (s : Setting) (allowed : Allowed s) (m : Model) (front rest : Store) (a
         laid = λ b. absurd (false≢true (sym can.unbuilt ∙ b));
       }
 
-  ends : (check : Check) → take_back_check (state_for s m) front ≡ check → TakesBackBy check (state_for s m) front answer
+  ends : (check : Result ⊤ Refusal) → take_back_check (state_for s m) front ≡ check → TakesBackBy check (state_for s m) front answer
       → (changed_number answer ≡ check_number check) × Invariant s (changed_by check take_back m) (next_index (state_for s m) answer) (join_stores front rest)
   unfolding TakesBackBy changed_by carried_out next_index
-  ends (Check'.Refused r) e by = (
+  ends (Err r) e by = (
     by.number_is,
     nothing_written s m (state_for s m) (next_index (state_for s m) answer) (join_stores front rest) (join_stores front rest) inv
         (ap (next_index (state_for s m)) (refused_is r answer by))
         refl,
   )
-  ends Check'.Fine e by = (by.number_is, fine_ends (can_take_back (state_for s m) front e) by)
+  ends (Ok _) e by = (by.number_is, fine_ends (can_take_back (state_for s m) front e) by)
 
   take_back_keeps : (work : ℕ) (front' : Store) → TakesBack (state_for s m) front answer × (front' ≡ front)
       → ChangeEnds s m (lengths_of front) work take_back answer (next_index (state_for s m) answer) (join_stores front' rest)
@@ -222,7 +219,7 @@ module _ (s : Setting) (allowed : Allowed s) (m : Model) (front rest : Store) (a
   take_back_keeps work front' (takes, same) =
       let check = take_back_refused s m allowed inv.within front work in
       let r = ends (change_check s m (lengths_of front) work take_back) check
-      (subst (λ (c : Check). TakesBackBy c (state_for s m) front answer) check takes) in
+      (subst (λ (c : Result ⊤ Refusal). TakesBackBy c (state_for s m) front answer) check takes) in
       record {
         number_is = r.0;
         invariant =
@@ -247,10 +244,10 @@ take_back_small m h =
     λ r k. h r (subst (Memᴰ r) (take-append-drop (length m.rows - 1) m.rows) (Memᴰ.append_left (drop (length m.rows - 1) m.rows) k))
 
 -- refused or not, there is an outcome
-take_back_by : (index : CuratorIndex) (store : Store) (c : Check) → (answer : Changed) × TakesBackBy c index store answer
+take_back_by : (index : CuratorIndex) (store : Store) (c : Result ⊤ Refusal) → (answer : Result CuratorIndex Refusal) × TakesBackBy c index store answer
 unfolding TakesBackBy
-take_back_by index store (Check'.Refused r) = (Changed'.Refused r, is_refused r (Changed'.Refused r) refl)
-take_back_by index store Check'.Fine = (Changed'.Index (shrunk index store), is_carried _ _ refl)
+take_back_by index store (Err r) = (Err r, is_refused r (Err r) refl)
+take_back_by index store (Ok _) = (Ok (shrunk index store), is_carried _ _ refl)
 
 take_back_outcome : (index : CuratorIndex) (store : Store) (work : List ℕ) → ChangeOutcome index store work take_back
 unfolding TakesBack

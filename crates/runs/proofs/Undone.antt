@@ -1,13 +1,12 @@
 -- Request K3 of document 02: 'An accepted add followed by taking back is then the identity on all that is held, after every list of calls.' By the state and the
 -- lists before the add (no prime), after it (one prime) and after the taking back (two).
-use Rattle.std.specs.Prelude.{ℕ, ◌<◌, Bool, true, false, cond, List, ◌≡◌, refl, eqb, length}
+use Rattle.std.specs.Prelude.{ℕ, ◌<◌, Bool, true, false, cond, Result, Ok, Err, ⊤, List, ◌≡◌, refl, eqb, length}
 use Rattle.std.proofs.Common.{arith, sym, ap, ◌∙◌, subst, ne_eqb}
 use Rattle.std.proofs.lemmas.Bool.{false≢true}
 use Rattle.store.specs.declared.Lengths.{Lengths}
 use Rattle.store.specs.Store.{Store}
 use Rattle.store.specs.Lent.{store_short, join_stores}
-use Rattle.settings.specs.declared.Check.{Check}
-use Rattle.settings.specs.declared.Check.TheVariants as Check'
+use Rattle.settings.specs.declared.refusal.Refusal.{Refusal}
 use Rattle.settings.specs.declared.refusal.Refusal.TheVariants as Refusal'
 use Rattle.settings.specs.declared.refusal.StateRefusal.TheVariants.{AlreadyBuilt, NoVectorHeld}
 use Rattle.settings.specs.declared.refusal.StoreRefusal.TheVariants.{ListTooShort}
@@ -78,11 +77,11 @@ same_model s calls calls' ends ends' run run' e =
     (h.state ∙ sym h'.state, same-held s m (index_after run.run) (store_after run.run) (store_after run'.run) h.state h.held h'.held)
 
 -- an accepted add leaves one row more, in a model that is not built
-added-row : (s : Setting) (m : Model) (fronts : Lengths) (work : ℕ) (call : AddCall) → change_check s m fronts work (add call) ≡ Check'.Fine
+added-row : (s : Setting) (m : Model) (fronts : Lengths) (work : ℕ) (call : AddCall) → change_check s m fronts work (add call) ≡ Ok tt
     → (changed_by (change_check s m fronts work (add call)) (add call) m ≡ with_row m (new_row call)) × (m.built ≡ false)
 unfolding change_check changed_by carried_out add_rows model_facts
 added-row s m fronts work call fine =
-    (ap (λ (c : Check). changed_by c (add call) m) fine, (fine_none (add_rows (model_facts s m) fronts call) fine).1.0)
+    (ap (λ (c : Result ⊤ Refusal). changed_by c (add call) m) fine, (fine_none (add_rows (model_facts s m) fronts call) fine).1.0)
 
 -- the number of a taking back from a model that is not built and has a row
 back_number : (s : Setting) (m : Model) (fronts : Lengths) (work : ℕ) → m.built ≡ false → 0 < length m.rows
@@ -92,7 +91,7 @@ back_number s m fronts work b some =
     by (store_short (setting_shape s) fronts) m.built (eqb (length m.rows) 0) b (ne_eqb (length m.rows) 0 (λ e. omega arith))
   where
     by : (short built none : Bool) → built ≡ false → none ≡ false
-        → check_number (cond short (Check'.Refused (Refusal'.Store ListTooShort)) (cond built (Check'.Refused (Refusal'.State AlreadyBuilt)) (cond none (Check'.Refused (Refusal'.State NoVectorHeld)) Check'.Fine)))
+        → check_number (cond short (Err (Refusal'.Store ListTooShort)) (cond built (Err (Refusal'.State AlreadyBuilt)) (cond none (Err (Refusal'.State NoVectorHeld)) (Ok tt))))
         ≡ cond short 3 0
     by true built none b n = refl
     by false true none b n = absurd (false≢true (sym b))
@@ -124,7 +123,7 @@ add_undone s calls ends run fronts fronts' work work' call end end' index' index
     let again : end_number end' ≡ 0 → Invariant s m index'' store'' = λ e.
     (let fine' = zero_fine (change_check s m' fronts' (length work') take_back) (sym number ∙ e) in
     subst (λ (x : Model). Invariant s x index'' store'')
-    (ap (λ (c : Check). changed_by c take_back m') fine' ∙ struck-row m (new_row call)) two.1) in
+    (ap (λ (c : Result ⊤ Refusal). changed_by c take_back m') fine' ∙ struck-row m (new_row call)) two.1) in
     record {
       number = number ∙ back_number s m' fronts' (length work') unbuilt (omega (arith, length-rows m (new_row call)));
       state = λ e. (again e).state ∙ sym before.state;

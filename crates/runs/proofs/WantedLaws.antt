@@ -400,9 +400,9 @@ select-rows hash name i (r ∷ rows) d =
     ∙ ap (λ (l : List ℕ). cond (has_both hash name r.names) (i ∷ l) l) (select-rows hash name (suc i) rows (λ t k. d t (Memᴰ.tail k)))
 
 -- the hash of an entry is that of its name
-get_d_hashes : (names : List (List ℕ)) (e : ℕ) → e < length names → get_or (hashes_of_labels names) e 0 ≡ fnv (get_or names e [])
+get_or-hashes : (names : List (List ℕ)) (e : ℕ) → e < length names → get_or (hashes_of_labels names) e 0 ≡ fnv (get_or names e [])
 unfolding hashes_of_labels
-get_d_hashes names e h = get_d_map fnv names e [] 0 h
+get_or-hashes names e h = get_d_map fnv names e [] 0 h
 
 hashes-joined : (rows : List ModelRow) → joined hashes_in rows ≡ hashes_of_labels (joined (λ r. r.names) rows)
 unfolding joined hashes_of_labels
@@ -415,7 +415,7 @@ hashes-named m = hashes-joined m.rows
 
 hash-named : (m : Model) (e : ℕ) → e < length (row_names m) → (row_read m).hash e ≡ fnv (get_or (row_names m) e [])
 unfolding row_entries
-hash-named m e h = ap (λ (l : List ℕ). get_or l e 0) (hashes-named m) ∙ get_d_hashes (row_names m) e h
+hash-named m e h = ap (λ (l : List ℕ). get_or l e 0) (hashes-named m) ∙ get_or-hashes (row_names m) e h
 
 entry-is : (m : Model) (hash : ℕ) (name : List ℕ) (e : ℕ) → e < length (row_names m) → is_labels (row_read m) hash name e ≡ is_both hash name (get_or (row_names m) e [])
 unfolding is_labels is_both

@@ -1,6 +1,6 @@
 -- A withdrawal keeps what is between a run and its model: refused, it has written nothing; accepted, it has written live marks alone. They stand behind all else
 -- that the lists hold of rows and nodes, and are the marks of the rows after it; all else of these is as it was (Withdrawn.antt).
-use Rattle.std.specs.Prelude.{ℕ, ◌+◌, ◌^◌, ◌≤◌, ◌<◌, Bool, true, false, not, ◌&&◌, cond, ◌≡◌, refl, eqb}
+use Rattle.std.specs.Prelude.{ℕ, ◌+◌, ◌^◌, ◌≤◌, ◌<◌, Bool, true, false, not, ◌&&◌, cond, Result, Ok, Err, ⊤, ◌≡◌, refl, eqb}
 use Rattle.std.proofs.Common.{arith, inr, ◌∙◌}
 use mathlib.Core.List.{List, [], ◌∷◌, map}
 use Rattle.std.proofs.Math.Path.{sym, ap, ap₂, subst}
@@ -13,12 +13,9 @@ use Rattle.store.specs.Store.{Store, vector_at, starts_at, lengths_at, live_at, 
 use Rattle.store.specs.Lent.{lengths_of, Long, join_stores}
 use Rattle.store.specs.Agree.{agree_join}
 use Rattle.label.specs.Names.{starts_from, lengths_of_names, bytes_of_names}
-use Rattle.settings.specs.declared.Check.{Check}
-use Rattle.settings.specs.declared.Check.TheVariants as Check'
+use Rattle.settings.specs.declared.refusal.Refusal.{Refusal}
 use Rattle.settings.specs.Refusals.{check_number}
 use Rattle.curator.specs.declared.CuratorIndex.{CuratorIndex}
-use Rattle.curator.specs.declared.Changed.{Changed}
-use Rattle.curator.specs.declared.Changed.TheVariants as Changed'
 use Rattle.curator.specs.Outcome.{changed_number}
 use Rattle.curator.specs.Rows.{withdraw_rows}
 use Rattle.curator.specs.Calls.{held_documents, held_marks}
@@ -105,12 +102,12 @@ nodes-kept s m document store =
 
 -- ---- the step
 
-module _ (s : Setting) (allowed : Allowed s) (m : Model) (front rest front' : Store) (document : ℕ) (answer : Changed)
+module _ (s : Setting) (allowed : Allowed s) (m : Model) (front rest front' : Store) (document : ℕ) (answer : Result CuratorIndex Refusal)
     (inv : Invariant s m (state_for s m) (join_stores front rest)) where
   front-held : Long (setting_shape s) (lengths_of front) → Held s m front
   front-held long = held-front s m front rest inv.within long inv.held
 
-  fine_ends : CanWithdraw (state_for s m) front document → WithdrawsBy Check'.Fine (state_for s m) front document answer front'
+  fine_ends : CanWithdraw (state_for s m) front document → WithdrawsBy (Ok tt) (state_for s m) front document answer front'
       → Invariant s (withdrawn document m) (next_index (state_for s m) answer) (join_stores front' rest)
   unfolding WithdrawsBy next_index
   fine_ends can by =
@@ -133,16 +130,16 @@ module _ (s : Setting) (allowed : Allowed s) (m : Model) (front rest front' : St
             same-laid document m s all (laid_same s m (join_stores front rest) all facts kept (inv.laid b)));
       })
 
-  ends : (check : Check) → withdraw_check (state_for s m) front document ≡ check → WithdrawsBy check (state_for s m) front document answer front'
+  ends : (check : Result ⊤ Refusal) → withdraw_check (state_for s m) front document ≡ check → WithdrawsBy check (state_for s m) front document answer front'
       → (changed_number answer ≡ check_number check) × Invariant s (changed_by check (withdraw document) m) (next_index (state_for s m) answer) (join_stores front' rest)
   unfolding WithdrawsBy changed_by carried_out next_index
-  ends (Check'.Refused r) e by = (
+  ends (Err r) e by = (
     by.0.number_is,
     nothing_written s m (state_for s m) (next_index (state_for s m) answer) (join_stores front rest) (join_stores front' rest) inv
         (ap (next_index (state_for s m)) (refused_is r answer by.0))
         (ap (λ (f : Store). join_stores f rest) by.1),
   )
-  ends Check'.Fine e by = (by.0.number_is, fine_ends (can_withdraw (state_for s m) front document e) by)
+  ends (Ok _) e by = (by.0.number_is, fine_ends (can_withdraw (state_for s m) front document e) by)
 
   withdraw-keeps : (work : ℕ) → Withdraws (state_for s m) front document answer front'
       → ChangeEnds s m (lengths_of front) work (withdraw document) answer (next_index (state_for s m) answer) (join_stores front' rest)
@@ -150,7 +147,7 @@ module _ (s : Setting) (allowed : Allowed s) (m : Model) (front rest front' : St
   withdraw-keeps work withdraws =
       let same = withdraw_refused s m allowed inv.within front work document front-held in
       let r = ends (change_check s m (lengths_of front) work (withdraw document)) same
-      (subst (λ (c : Check). WithdrawsBy c (state_for s m) front document answer front') same withdraws) in
+      (subst (λ (c : Result ⊤ Refusal). WithdrawsBy c (state_for s m) front document answer front') same withdraws) in
       record { number_is = r.0; invariant = r.1 }
 
 -- ---- the rest that is owed
@@ -170,17 +167,17 @@ withdraw-small m document h =
     λ r k. let old = Memᴰ-map (withdraw_row document) k in subst (λ (x : ModelRow). x.document < 2 ^ 32) (sym old.2) (h old.0 old.1)
 
 -- refused or not, the lists keep their lengths, and there is an outcome
-withdraw-lengths : (index : CuratorIndex) (store : Store) (document : ℕ) (answer : Changed) (store' : Store) (c : Check)
+withdraw-lengths : (index : CuratorIndex) (store : Store) (document : ℕ) (answer : Result CuratorIndex Refusal) (store' : Store) (c : Result ⊤ Refusal)
     → WithdrawsBy c index store document answer store' → lengths_of store ≡ lengths_of store'
 unfolding WithdrawsBy
-withdraw-lengths index store document answer after (Check'.Refused r) by = ap lengths_of (sym by.1)
-withdraw-lengths index store document answer after Check'.Fine by = withdrawn-lengths index store document ∙ ap lengths_of (sym by.1)
+withdraw-lengths index store document answer after (Err r) by = ap lengths_of (sym by.1)
+withdraw-lengths index store document answer after (Ok _) by = withdrawn-lengths index store document ∙ ap lengths_of (sym by.1)
 
-withdraw_by : (index : CuratorIndex) (store : Store) (document : ℕ) (c : Check) → (answer : Changed) × (store' : Store) × WithdrawsBy c index store document answer store'
+withdraw_by : (index : CuratorIndex) (store : Store) (document : ℕ) (c : Result ⊤ Refusal) → (answer : Result CuratorIndex Refusal) × (store' : Store) × WithdrawsBy c index store document answer store'
 unfolding WithdrawsBy
-withdraw_by index store document (Check'.Refused r) = (Changed'.Refused r, store, (is_refused r (Changed'.Refused r) refl, refl))
-withdraw_by index store document Check'.Fine =
-    (Changed'.Index index, withdrawn_from index store document, (is_carried index (Changed'.Index index) refl, refl))
+withdraw_by index store document (Err r) = (Err r, store, (is_refused r (Err r) refl, refl))
+withdraw_by index store document (Ok _) =
+    (Ok index, withdrawn_from index store document, (is_carried index (Ok index) refl, refl))
 
 withdraw-outcome : (index : CuratorIndex) (store : Store) (work : List ℕ) (document : ℕ) → ChangeOutcome index store work (withdraw document)
 unfolding Withdraws

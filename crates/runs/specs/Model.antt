@@ -1,6 +1,6 @@
 -- Document 01, 'The book', here the model: 'It is written from the settings, the capacities and the calls' arguments, list lengths among them; never
 -- from state, store or answers.' A line of the book is a row of the model. It says what is expected of every call, and is changed by it.
-use Rattle.std.specs.Prelude.{ℕ, suc, ◌-◌, Bool, true, false, not, ◌&&◌, List, [], ◌∷◌, ◌++◌, map, ltb, eqb, Float, length, get_or, take, replicate}
+use Rattle.std.specs.Prelude.{ℕ, suc, ◌-◌, Bool, true, false, not, ◌&&◌, Result, Ok, Err, ⊤, List, [], ◌∷◌, ◌++◌, map, ltb, eqb, Float, length, get_or, take, replicate}
 use Rattle.lists.specs.Lists.{joined, is_in}
 use Rattle.distance.specs.Distance.{distance}
 use Rattle.total_order.specs.TotalOrder.{key_of}
@@ -15,8 +15,7 @@ use Rattle.walk.specs.Answer.{Answer, answer, hit_of, vector_of}
 use Rattle.walk.specs.Wanted.{Sought, EntryRead, LeafList, vector_list, entry_list, denies, list_read, given, most}
 use Rattle.settings.specs.declared.CuratorParams.{CuratorParams}
 use Rattle.settings.specs.declared.Capacities.{Capacities}
-use Rattle.settings.specs.declared.Check.{Check}
-use Rattle.settings.specs.declared.Check.TheVariants.{Fine, Refused}
+use Rattle.settings.specs.declared.refusal.Refusal.{Refusal}
 use Rattle.curator.specs.Limits.{shape_of}
 use Rattle.settings.specs.Refusals.{number, check_number}
 use Rattle.curator.specs.Rows.{Facts, Row, first_of, add_rows, take_back_rows, withdraw_rows, build_rows, search_rows}
@@ -113,7 +112,7 @@ change_rows s m lent work take_back = take_back_rows (model_facts s m) lent
 change_rows s m lent work (withdraw document) = withdraw_rows (model_facts s m) lent (is_in document (row_documents m))
 change_rows s m lent work build = build_rows (model_facts s m) lent work false (ltb s.capacities.nodes (node_count s m))
 
-unfoldable pub change_check : Setting → Model → Lengths → ℕ → Change → Check
+unfoldable pub change_check : Setting → Model → Lengths → ℕ → Change → Result ⊤ Refusal
 unfolding first_of change_rows
 change_check s m lent work c = first_of (change_rows s m lent work c)
 
@@ -140,10 +139,10 @@ carried_out (withdraw document) m = record { rows = map (withdraw_row document) 
 carried_out build m = record { rows = m.rows; built = true }
 
 -- 'A refused call leaves the book as it is.'
-unfoldable pub changed_by : Check → Change → Model → Model
+unfoldable pub changed_by : Result ⊤ Refusal → Change → Model → Model
 unfolding carried_out
-changed_by (Refused r) c m = m
-changed_by Fine c m = carried_out c m
+changed_by (Err r) c m = m
+changed_by (Ok _) c m = carried_out c m
 
 -- ---- the search over the rows and their tree: no list of a store occurs in it
 
@@ -202,11 +201,11 @@ model_walk s m question = walk (tree_view s m (normalized question.query) (wante
 -- ---- every call
 
 -- 'Each call is put to the refusals in their order, without 4 and 15'
-unfoldable pub model_search_check : Setting → Model → Lengths → ℕ → SearchCall → Check
+unfoldable pub model_search_check : Setting → Model → Lengths → ℕ → SearchCall → Result ⊤ Refusal
 unfolding first_of search_rows model_facts
 model_search_check s m lent work call = first_of (search_rows (model_facts s m) lent work (asking_of call))
 
-unfoldable pub model_check : Setting → Model → Call → Check
+unfoldable pub model_check : Setting → Model → Call → Result ⊤ Refusal
 unfolding change_check model_search_check
 model_check s m (change fronts work c) = change_check s m fronts (length work) c
 model_check s m (search fronts work call) = model_search_check s m fronts (length work) call
@@ -225,10 +224,10 @@ answered m k damaged = nothing
 answered m k (going p) = answers (answer (row_live m) k p)
 
 -- a search that is refused, and one that is not
-unfoldable pub searched_by : Model → Check → ℕ → State → Expected
+unfoldable pub searched_by : Model → Result ⊤ Refusal → ℕ → State → Expected
 unfolding answered
-searched_by m Fine k walked = answered m k walked
-searched_by m (Refused r) k walked = returns (number r)
+searched_by m (Ok _) k walked = answered m k walked
+searched_by m (Err r) k walked = returns (number r)
 
 -- what is expected of a call that is put to a model
 unfoldable pub expected : Setting → Model → Call → Expected

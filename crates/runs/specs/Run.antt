@@ -1,11 +1,10 @@
 -- Document 01, 'Runs': how a call ends, and runs.
-use Rattle.std.specs.Prelude.{ℕ, List, [], ◌∷◌, ◌≡◌}
+use Rattle.std.specs.Prelude.{ℕ, Result, Ok, Err, List, [], ◌∷◌, ◌≡◌}
 use Rattle.store.specs.Store.{Store}
 use Rattle.store.specs.declared.Lengths.{Lengths}
 use Rattle.store.specs.Lent.{lengths_of, join_stores}
 use Rattle.curator.specs.declared.CuratorIndex.{CuratorIndex}
-use Rattle.curator.specs.declared.Changed.{Changed}
-use Rattle.curator.specs.declared.Changed.TheVariants.{Index, Refused}
+use Rattle.settings.specs.declared.refusal.Refusal.{Refusal}
 use Rattle.curator.specs.Changes.{Creates, Adds, TakesBack, Withdraws, Builds}
 use Rattle.curator.specs.Searches.{SearchEnd, Searches}
 use Rattle.curator.specs.Arguments.{SearchCall}
@@ -14,7 +13,7 @@ use Rattle.runs.specs.Model.{Setting}
 
 -- what a call ended with: the answer; a search also with its answer lists
 pub data Ended : Type 0 where
-  changed : Changed → Ended
+  changed : Result CuratorIndex Refusal → Ended
   found : SearchEnd → Ended
 
 -- a front has the lengths that a call is lent
@@ -22,13 +21,13 @@ abbrev pub Lent : Lengths → Store → Type 0
 Lent fronts front = lengths_of front ≡ fronts
 
 -- 'the state last returned': a refused call returns none
-unfoldable pub next_index : CuratorIndex → Changed → CuratorIndex
-next_index index (Index index') = index'
-next_index index (Refused r) = index
+unfoldable pub next_index : CuratorIndex → Result CuratorIndex Refusal → CuratorIndex
+next_index index (Ok index') = index'
+next_index index (Err r) = index
 
 -- A change on an index and the lists that it is lent: exactly the entry point's own relation, state and lists at entry, then at exit. A taking back is lent
 -- the store to be read.
-abbrev pub Changes : Change → CuratorIndex → Store → List ℕ → Changed → Store → List ℕ → Type 0
+abbrev pub Changes : Change → CuratorIndex → Store → List ℕ → Result CuratorIndex Refusal → Store → List ℕ → Type 0
 Changes (add call) index store work answer store' work' = Adds index store call answer store'
 Changes take_back index store work answer store' work' = TakesBack index store answer × (store' ≡ store)
 Changes (withdraw document) index store work answer store' work' = Withdraws index store document answer store'
@@ -41,7 +40,7 @@ pub record ChangeStep (index : CuratorIndex) (store : Store) (fronts : Lengths) 
   pub rest : Store
   pub front' : Store
   pub work' : List ℕ
-  pub answer : Changed
+  pub answer : Result CuratorIndex Refusal
   pub whole : store ≡ join_stores front rest
   pub lent : Lent fronts front
   -- the arguments have their types in the call: this is no assumption beyond 01, since every value of the type is allowed
@@ -85,6 +84,6 @@ store_after (next step rest) = store_after rest
 -- 'A run begins with the state from an accepted `new` and with lists of any length and content.'
 pub record Run (setting : Setting) (calls : List Call) (ends : List Ended) : Type 0 where
   pub index : CuratorIndex
-  pub accepted : Creates setting.dimension setting.params setting.capacities (Index index)
+  pub accepted : Creates setting.dimension setting.params setting.capacities (Ok index)
   pub store : Store
   pub run : RunFrom index store calls ends

@@ -1,2 +1,2 @@
-// The model of all calls and the laws up to demand 3: specs/ alone, no code.
+// The model of all calls and the laws up to demand 3: specs/ and proofs/, no code.
 #![tactic(auto)]

@@ -13,13 +13,14 @@ use Rattle.store.specs.declared.Shape.{Shape}
 use Rattle.store.specs.Store.{Store, work_size, work_part}
 use Rattle.store.specs.declared.Counts.{Counts}
 use Rattle.walk.specs.declared.Searched.{Searched}
+use Rattle.walk.specs.declared.Damaged.{Damaged}
 use Rattle.walk.specs.Wanted.{Sought}
 use Rattle.walk.specs.Promises.{Works, SearchEnds, SearchGives}
 use Rattle.best_first_search.specs.Ranks.{SearchLent}
 use Rattle.walk.specs.StoreView.{live_in, store_view}
 use Rattle.walk.specs.Walk.{State, damaged, going, walk}
-use Rattle.settings.specs.declared.Check.{Check}
-use Rattle.settings.specs.declared.Check.TheVariants.{Fine}
+use Rattle.std.specs.Prelude.{Result, Ok, ⊤}
+use Rattle.settings.specs.declared.refusal.Refusal.{Refusal}
 use Rattle.curator.specs.declared.CuratorIndex.{CuratorIndex}
 use Rattle.curator.specs.Calls.{facts_of}
 use Rattle.lists.specs.Frame.{Freed, alike_freed}
@@ -74,17 +75,17 @@ ready_of index store work call (sound, (short, (built, (dimension, (finite, (ans
       distances = ltb-false _ _ (or_right i d answers);
     }
 
-pub ready : (index : CuratorIndex) (store : Store) (work : List ℕ) (call : SearchCall) → search_check index store work call ≡ Fine
+pub ready : (index : CuratorIndex) (store : Store) (work : List ℕ) (call : SearchCall) → search_check index store work call ≡ (Ok tt)
     → SearchReady index store work call.question.query call.k call.ids call.distances
 unfolding search_check
 ready index store work call fine = ready_of index store work call (fine_none (rows_of_search index store work call) fine)
 
 -- ---- the relation by what the check comes to
 
-pub searches_by : (index : CuratorIndex) (store : Store) (work : List ℕ) (call : SearchCall) (end : SearchEnd) (check : Check)
+pub searches_by : (index : CuratorIndex) (store : Store) (work : List ℕ) (call : SearchCall) (end : SearchEnd) (check : Result ⊤ Refusal)
     → search_check index store work call ≡ check → SearchesBy check index store work call end → Searches index store work call end
 unfolding Searches
-searches_by index store work call end check e h = subst (λ (c : Check). SearchesBy c index store work call end) (sym e) h
+searches_by index store work call end check e h = subst (λ (c : Result ⊤ Refusal). SearchesBy c index store work call end) (sym e) h
 
 -- ---- the walk's end
 
@@ -92,7 +93,7 @@ searches_by index store work call end check e h = subst (λ (c : Check). Searche
 pub freed : (s : Shape) (work work' : List ℕ) → work_size s ≤ length work → Works s work work' → Freed (work_part s ∷ []) work work'
 freed s work work' room w = alike_freed (work_part s) work work' (omega (arith, room)) w.size w.alike
 
-pub walked_to : (state : State) (test : ℕ → Bool) (index : CuratorIndex) (work : List ℕ) (call : SearchCall) (searched : Searched) (end : SearchEnd)
+pub walked_to : (state : State) (test : ℕ → Bool) (index : CuratorIndex) (work : List ℕ) (call : SearchCall) (searched : Result Searched Damaged) (end : SearchEnd)
     → end.answer ≡ found_of searched → Freed (work_part (index_shape index) ∷ []) work end.work
     → SearchEnds state test call.k searched call.ids end.ids call.distances end.distances → WalkedTo state test index work call end
 unfolding WalkedTo
@@ -112,7 +113,7 @@ search-lent index store work query k ids distances r s e =
 
 -- the walk from the normalised query, whatever names its arguments have
 pub walked_of : (index : CuratorIndex) (store : Store) (work : List ℕ) (call : SearchCall) (end : SearchEnd) (s : Shape) (squares : Float)
-    (query stored : List Float) (wanted : Sought) (searched : Searched) → s ≡ index_shape index → query ≡ stored → wanted_of call.question.asked ≡ wanted
+    (query stored : List Float) (wanted : Sought) (searched : Result Searched Damaged) → s ≡ index_shape index → query ≡ stored → wanted_of call.question.asked ≡ wanted
     → squares ≡ dot call.question.query call.question.query → Normalized squares call.question.query stored → work_size (index_shape index) ≤ length work
     → end.answer ≡ found_of searched
     → SearchGives s index.counts index.params.ef_search store query wanted call.k work

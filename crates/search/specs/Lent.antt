@@ -4,16 +4,15 @@ use Rattle.std.specs.Borrow.{Bor}
 use Rattle.store.specs.Store.{Store}
 use Rattle.walk.specs.Promises.{StoreLent}
 use Rattle.walk.specs.declared.Searched.{Searched}
-use Rattle.walk.specs.declared.Searched.TheVariants as searched
+use Rattle.walk.specs.declared.Damaged.{Damaged}
 use Rattle.walk.specs.Wanted.{Sought}
 use Rattle.vector.specs.Vector.{dot}
-use Rattle.curator.specs.declared.VectorCheck.{VectorCheck}
+use Rattle.std.specs.Prelude.{Result, Ok, Err}
+use Rattle.settings.specs.declared.refusal.Refusal.{Refusal}
+use Rattle.settings.specs.declared.refusal.Refusal.TheVariants as Refusal'
+use Rattle.settings.specs.declared.refusal.StoreRefusal.TheVariants as StoreRefusal'
 use Rattle.curator.specs.Lent.{with_squares}
 use Rattle.curator.specs.declared.CuratorIndex.{CuratorIndex}
-use Rattle.curator.specs.declared.Found.{Found}
-use Rattle.curator.specs.declared.Found.TheVariants as answers
-use Rattle.settings.specs.declared.refusal.Refusal.TheVariants as refusal
-use Rattle.settings.specs.declared.refusal.StoreRefusal.TheVariants as store-refusal
 use Rattle.curator.specs.Limits.{state_sound, index_shape}
 use Rattle.curator.specs.Rows.{first_of, state_row, search_rows}
 use Rattle.store.specs.declared.Lengths.{Lengths}
@@ -22,7 +21,7 @@ use Rattle.curator.specs.Searches.{wanted_of, SearchEnd, SearchWalked, Searches}
 use Rattle.curator.specs.Arguments.{Asking, Asked, everything, labelled, labelled_both, SearchCall}
 
 -- what the rows of a search come to, by the lengths of the lists
-abbrev pub search_checked : CuratorIndex → Lengths → ℕ → Asking → VectorCheck
+abbrev pub search_checked : CuratorIndex → Lengths → ℕ → Asking → Result Float Refusal
 search_checked index lent work asked =
     with_squares (first_of (state_row (state_sound index) ∷ search_rows (facts_of index) lent work asked)) (dot asked.query asked.query)
 
@@ -40,22 +39,22 @@ filtered query first second k ids distances = looking query k ids distances (lab
 
 -- `search_both` for those with each of two labels, joined from two parts each (02, K1)
 abbrev pub both : Bor (List Float) → Bor (List ℕ) → Bor (List ℕ) → Bor (List ℕ) → Bor (List ℕ) → ℕ → List ℕ → List Float → SearchCall
-both query first second otherFirst otherSecond k ids distances =
-    looking query k ids distances (labelled_both (first.now ++ second.now) (otherFirst.now ++ otherSecond.now))
+both query first second other_first other_second k ids distances =
+    looking query k ids distances (labelled_both (first.now ++ second.now) (other_first.now ++ other_second.now))
 
 abbrev pub unfiltered : Bor (List Float) → ℕ → List ℕ → List Float → SearchCall
 unfiltered query k ids distances = looking query k ids distances everything
 
 -- what a search leaves
-abbrev pub leaving : Found → List ℕ → List ℕ → List Float → SearchEnd
+abbrev pub leaving : Result Searched Refusal → List ℕ → List ℕ → List Float → SearchEnd
 leaving answer work ids distances = record { answer = answer; work = work; ids = ids; distances = distances }
 
 -- ---- inside
 
 -- a walk's end as an answer: damage is refusal 15
-abbrev pub found_of : Searched → Found
-found_of searched.Damaged = answers.Refused (refusal.Store store-refusal.Damaged)
-found_of (searched.Found hits opened complete) = answers.Hits hits opened complete
+abbrev pub found_of : Result Searched Damaged → Result Searched Refusal
+found_of (Err _) = Err (Refusal'.Store StoreRefusal'.Damaged)
+found_of (Ok s) = Ok s
 
 -- What the walk relies on, as plain facts: no row's case holds.
 pub record SearchReady (index : CuratorIndex) (store : Store) (scratch : List ℕ) (query : List Float) (k : ℕ) (found : List ℕ) (far : List Float) : Type 0 where

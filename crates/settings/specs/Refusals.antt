@@ -1,7 +1,6 @@
 -- The number of every refusal: the column 'Returned' of document 01's table, and those that document 02 adds.
 use Rattle.std.specs.Prelude.{ℕ}
-use Rattle.settings.specs.declared.Check.{Check}
-use Rattle.settings.specs.declared.Check.TheVariants as Check'
+use Rattle.std.specs.Prelude.{Result, Ok, Err, ⊤}
 use Rattle.settings.specs.declared.refusal.Refusal.{Refusal}
 use Rattle.settings.specs.declared.refusal.Refusal.TheVariants.{Settings, State, Input, Store}
 use Rattle.settings.specs.declared.refusal.SettingsRefusal.{SettingsRefusal}
@@ -49,6 +48,6 @@ number (State r) = state_number r
 number (Input r) = input_number r
 number (Store r) = store_number r
 
-abbrev pub check_number : Check → ℕ
-check_number Check'.Fine = 0
-check_number (Check'.Refused r) = number r
+abbrev pub check_number : Result ⊤ Refusal → ℕ
+check_number (Ok _) = 0
+check_number (Err r) = number r

@@ -7,8 +7,6 @@ ghost use Rattle.settings.specs.Limits.{usual};
 pub mod limits;
 pub mod refusal;
 
-use refusal::Refusal;
-
 // The settings of an index beside its dimension. `beam_width` is kept and read by no build or search.
 #[derive(Clone, Copy)]
 pub struct CuratorParams {
@@ -26,11 +24,13 @@ impl CuratorParams {
     pub const EF_SEARCH: usize = 256;
 
     pub const BEAM_WIDTH: usize = 4;
+}
 
-    // The usual settings.
-    pub fn default() -> Self
-        ensures { result ≡ usual }
-    {
+// The usual settings.
+impl Default for CuratorParams {
+    ghost is_default = { λ params. params ≡ usual };
+
+    fn default() -> Self {
         Self {
             branching_factor: Self::BRANCHING_FACTOR,
             max_leaf_size: Self::MAX_LEAF_SIZE,
@@ -47,11 +47,4 @@ pub struct Capacities {
     pub entries: usize,
     pub nodes: usize,
     pub text: usize,
-}
-
-// What the refusals of a call come to.
-#[derive(Clone, Copy)]
-pub enum Check {
-    Fine,
-    Refused(Refusal),
 }

@@ -1,6 +1,8 @@
 // Why a call is refused. Each refusal has the number that document 01 or 02 gives it.
 ghost use Rattle.std.specs.Prelude.{◌≡◌};
 ghost use Rattle.settings.specs.Refusals.{settings_number, state_number, input_number, store_number, number};
+ghost use Rattle.settings.specs.declared.refusal.Refusal.TheVariants.{Store};
+ghost use Rattle.settings.specs.declared.refusal.StoreRefusal.TheVariants.{Damaged};
 
 #[derive(Clone, Copy)]
 pub enum SettingsRefusal {
@@ -115,5 +117,14 @@ impl Refusal {
             Refusal::Input(r) => r.number(),
             Refusal::Store(r) => r.number(),
         }
+    }
+}
+
+// A search that meets damage is refused as one of a damaged store.
+impl From<walk::Damaged> for Refusal {
+    ghost from_gives = { λ _ refusal. refusal ≡ Store Damaged };
+
+    fn from(_damage: walk::Damaged) -> Refusal {
+        Refusal::Store(StoreRefusal::Damaged)
     }
 }

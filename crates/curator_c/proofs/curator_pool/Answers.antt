@@ -1,5 +1,5 @@
 -- A list of fewer than four words is refused as it stands; otherwise both filters are read, and their pool is written over the first.
-use Rattle.std.proofs.Common.{◌≡◌, ◌≤◌, Bool, true, false, List, length, ltb, refl, sym, ap, ap₂, ◌∙◌, subst}
+use Rattle.std.proofs.Common.{Bool, refl, sym, ap, ap₂, ◌∙◌, subst}
 use Rattle.std.proofs.lemmas.List.Edits.{sets}
 use Rattle.bloom.specs.Filter.{union}
 use Rattle.curator_c.specs.Results.{pool_short, PoolsBy, PoolResult}

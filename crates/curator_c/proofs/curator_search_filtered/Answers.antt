@@ -12,18 +12,18 @@ tell-requires c =
     let call = filtered a.query a.first a.second a.k a.ids.now a.distances.now in
     values-fit _ _ _ answer call _ c.search_filtered.result refl (asked _ _ _ answer call _ _ c.hits_asked-hits.ensures c.search_filtered.ensures)
 
-pub returns-in-Nothing : goal.returns-in-Nothing
-returns-in-Nothing c =
+pub returns-in-None : goal.returns-in-None
+returns-in-None c =
     let a = c.args in
     let call = filtered a.query a.first a.second a.k a.ids.now a.distances.now in
-    search-nothing _ _ _ call _ (sym c.state_in.ensures ∙ c.in-Nothing.is)
+    search-nothing _ _ _ call _ (sym c.state_in.ensures ∙ c.in-None.is)
 
-pub returns-in-State : goal.returns-in-State
-returns-in-State c =
+pub returns-in-Some : goal.returns-in-Some
+returns-in-Some c =
     let a = c.args in
     let answer = a.answer.now in
     let call = filtered a.query a.first a.second a.k a.ids.now a.distances.now in
-    search-held _ _ _ _ call answer c.search_filtered.result _ _ _ _ _ (sym c.state_in.ensures ∙ c.in-State.is)
+    search-held _ _ _ _ call answer c.search_filtered.result _ _ _ _ _ (sym c.state_in.ensures ∙ c.in-Some.is)
     (asked _ _ _ answer call _ _ c.hits_asked-hits.ensures c.search_filtered.ensures)
     c.tell.ensures.value
     c.tell.ensures.answer_after

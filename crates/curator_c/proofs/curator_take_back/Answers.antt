@@ -3,8 +3,8 @@ use Rattle.std.proofs.Common.{sym, ◌∙◌}
 use Rattle.curator_c.proofs.Laws.{take_back_nothing, take_back_held}
 use Rattle.curator_c.proofs.curator_take_back.Goals as goal
 
-pub returns-in-Nothing : goal.returns-in-Nothing
-returns-in-Nothing c = take_back_nothing _ _ (sym c.state_in.ensures ∙ c.in-Nothing.is)
+pub returns-in-None : goal.returns-in-None
+returns-in-None c = take_back_nothing _ _ (sym c.state_in.ensures ∙ c.in-None.is)
 
-pub returns-in-State : goal.returns-in-State
-returns-in-State c = take_back_held _ _ _ _ _ _ (sym c.state_in.ensures ∙ c.in-State.is) c.take_back.ensures c.keep.ensures
+pub returns-in-Some : goal.returns-in-Some
+returns-in-Some c = take_back_held _ _ _ _ _ _ (sym c.state_in.ensures ∙ c.in-Some.is) c.take_back.ensures c.keep.ensures

@@ -1,6 +1,5 @@
--- Everything is what `search` asks for, whatever the name is.
--- ---- the places that needs go back to (primed: the same place, from another one)
-use mathlib.Core.Path.{refl}
+-- Everything is what `search` asks for.
+use Rattle.std.proofs.Common.{refl}
 use Rattle.curator.specs.Searches.{wanted_of}
 use Rattle.curator.specs.Arguments.{everything}
 use Rattle.search.proofs.search.Goals as goal

@@ -6,7 +6,7 @@ use Rattle.store.specs.declared.Lengths.{Lengths}
 use Rattle.store.specs.Store.{Limits}
 use Rattle.store.specs.Lent.{lists_short}
 use Rattle.curator.specs.declared.CuratorIndex.{CuratorIndex}
-use Rattle.curator.specs.declared.VectorCheck.TheVariants.{Squares}
+use Rattle.std.specs.Prelude.{Ok}
 use Rattle.curator.specs.Arguments.{Asking}
 use Rattle.curator.specs.Calls.{facts_of}
 use Rattle.curator.specs.Limits.{state_sound, index_shape}
@@ -92,5 +92,5 @@ returns-then-ids-k c =
 pub returns : goal.returns
 unfolding search_rows
 returns c =
-    ap Squares c.scan-scanned.ensures.squares_value ∙ squares_by _ _ (after-6 c.args.index c.args.lent c.args.work (asking_with c.args.query c.args.k c.args.ids c.args.distances) (sym c.state_sound.ensures ∙ c.if-not-state_sound.false) (sym (short c.args.index _ _ _ _ c.shape_of.ensures c.lists_short.ensures) ∙ c.if-lists_short.false) c.if-not-index.false c.if-query-index.false (ap not (sym c.scan-scanned.ensures.finite_value) ∙ c.if-not-scanned.false) c.if-ids-k.false
+    ap Ok c.scan-scanned.ensures.squares_value ∙ squares_by _ _ (after-6 c.args.index c.args.lent c.args.work (asking_with c.args.query c.args.k c.args.ids c.args.distances) (sym c.state_sound.ensures ∙ c.if-not-state_sound.false) (sym (short c.args.index _ _ _ _ c.shape_of.ensures c.lists_short.ensures) ∙ c.if-lists_short.false) c.if-not-index.false c.if-query-index.false (ap not (sym c.scan-scanned.ensures.finite_value) ∙ c.if-not-scanned.false) c.if-ids-k.false
     ∙ no_rows)

@@ -1,44 +1,55 @@
--- By the case of the check: its first refusal, or the walk; that no row's case holds gives what the walk relies on.
-use Rattle.std.proofs.Common.{◌≡◌, refl, sym, ◌∙◌}
-use Rattle.settings.specs.declared.Check.TheVariants.{Fine}
-use Rattle.store.specs.Lent.{lent}
+-- By what the check gave: its first refusal, or the walk; that no row's case holds gives what the walk relies on.
+use Rattle.std.proofs.Common.{rules, ◌≡◌, ℕ, List, Float, length, refl, sym, ap, ◌∙◌}
+use Rattle.std.specs.Prelude.{Result, Ok, Err}
+use Rattle.settings.specs.declared.refusal.Refusal.{Refusal}
+use Rattle.store.specs.declared.Lengths.{Lengths}
+use Rattle.store.specs.Store.{Store}
+use Rattle.store.specs.Lent.{stored, lengths_of}
 use Rattle.vector.specs.Vector.{dot}
+use Rattle.curator.specs.declared.CuratorIndex.{CuratorIndex}
 use Rattle.curator.proofs.RowLaws.{squares_fine, squares_refused}
 use Rattle.curator.specs.Searches.{SearchesBy, search_check}
-use Rattle.curator.specs.Arguments.{Asked, everything, SearchCall}
-use Rattle.search.specs.Lent.{looking}
+use Rattle.curator.specs.Arguments.{everything, SearchCall, asking_of}
+use Rattle.search.specs.Lent.{search_checked, looking}
 use Rattle.search.proofs.Laws.{ready, searches_by}
 use Rattle.curator.specs.OutcomeLaws.{is-search_refused}
 use Rattle.search.proofs.search_wanted.Goals as goal
-use Rattle.search.proofs.search_wanted.Goals.{In-Squares}
 
-abbrev call_of : In-Squares → Asked → SearchCall
-call_of s asked = looking s.args.query s.args.k s.args.ids.now s.args.distances.now asked
+module _ (index : CuratorIndex) (store : Store) (work : List ℕ) (call : SearchCall) (lent : Lengths) (r : Result Float Refusal) (long : lent ≡ lengths_of store)
+    (checked : r ≡ search_checked index lent (length work) (asking_of call)) where
+  -- what was checked, by the store
+  by-store : search_checked index (lengths_of store) (length work) (asking_of call) ≡ r
+  by-store = ap (λ (l : Lengths). search_checked index l (length work) (asking_of call)) (sym long) ∙ sym checked
 
--- no row's case holds, and what was carried is the sum of squares
-fine : (c : In-Squares) (asked : Asked)
-    → (search_check c.args.index (lent c.args.floats c.args.numbers c.args.hashes c.args.text) c.args.work.now
-    (call_of c asked)
-    ≡ Fine)
-    × (c.in-Squares.squares ≡ dot c.args.query.now c.args.query.now)
-unfolding search_check
-fine c asked = squares_fine _ _ _ (sym c.search_check-check.ensures ∙ c.in-Squares.is)
+  -- no row's case holds, and what was carried is the sum of squares
+  fine : (squares : Float) → r ≡ Ok squares → (search_check index store work call ≡ Ok tt) × (squares ≡ dot call.question.query call.question.query)
+  unfolding search_check
+  fine squares e = squares_fine _ _ _ (by-store ∙ e)
+
+  refused : (refusal : Refusal) → r ≡ Err refusal → search_check index store work call ≡ Err refusal
+  unfolding search_check
+  refused refusal e = squares_refused _ _ _ (by-store ∙ e)
 
 pub walk_from-requires : goal.walk_from-requires
 walk_from-requires c =
-    let s = (goal.at.walk_from-requires c).In-Squares in
-    record {
-      search_ready = ready _ _ _ (call_of s everything) (fine s everything).0;
-      squares_value = (fine s everything).1;
-    }
+    let a = c.args in
+    let call = looking a.query a.k a.ids.now a.distances.now everything in
+    let f = fine a.index (stored a.lists) a.work.now call _ _ c.lengths.ensures c.search_check.ensures c.in_ok-squares.squares c.in_ok-squares.was in
+    record { search_ready = ready a.index (stored a.lists) a.work.now call f.0; squares_value = f.1 }
 
-pub returns-in-Refused : goal.returns-in-Refused
-unfolding SearchesBy search_check
-returns-in-Refused c =
-    λ asked e. searches_by _ _ _ _ _ _ (squares_refused _ _ _ (sym c.search_check-check.ensures ∙ c.in-Refused.is))
-    (record { answer = is-search_refused _ _ refl; work = refl; ids = refl; distances = refl })
-
-pub returns-in-Squares : goal.returns-in-Squares
+pub returns-in_err-squares : goal.returns-in_err-squares
 unfolding SearchesBy
-returns-in-Squares c =
-    λ asked e. searches_by _ _ _ _ _ _ (fine (goal.at.returns-in-Squares c).In-Squares asked).0 (c.walk_from.ensures asked e)
+returns-in_err-squares c =
+    let a = c.args in
+    let e : c.from_residual.result ≡ Err c.in_err-squares.field-0.0 = search rules in
+    λ asked w. searches_by _ _ _ _ _ _
+    (refused a.index (stored a.lists) a.work.now (looking a.query a.k a.ids.now a.distances.now asked) _ _ c.lengths.ensures c.search_check.ensures _ c.in_err-squares.was)
+    (record { answer = is-search_refused _ _ e; work = refl; ids = refl; distances = refl })
+
+pub returns : goal.returns
+unfolding SearchesBy
+returns c =
+    let a = c.args in
+    λ asked w. searches_by _ _ _ _ _ _
+    (fine a.index (stored a.lists) a.work.now (looking a.query a.k a.ids.now a.distances.now asked) _ _ c.lengths.ensures c.search_check.ensures c.in_ok-squares.squares c.in_ok-squares.was).0
+    (c.walk_from.ensures asked w)

@@ -1,39 +1,46 @@
-use Prim.Native.Nat.{◌+◌, ◌-◌}
-use mathlib.Core.Path.{sym, ◌∙◌}
-use native.Mathlib.Omega.{arith}
+use Rattle.std.proofs.Common.{◌≡◌, ℕ, suc, ◌+◌, ◌-◌, ◌<◌, ◌≤◌, Bool, ◌&&◌, List, ltb, length, get_or, take, drop, sym, ap, ◌∙◌, arith}
 use borrow.Author.Tests.{lt-ltb, le-ltb}
-use lib.Dec.{ltb}
-use lib.ListN.{get_or}
-use Rattle.build.specs.CheckLaws.{from_first, passed_here, failed_here, passed-all}
+use lib.ListN.{drop_of_length-le}
+use lib.Seq.{drop-cons}
+use Rattle.lists.specs.Lists.{part}
+use Rattle.lists.specs.Parts.{lent-run}
+use Rattle.lists.specs.Tests.{all_pass, all_pass-nil, all_pass-cons}
 use Rattle.build.proofs.check.owners_sound.Goals as goal
 
-pub loop-i-init : goal.loop-i-init
-loop-i-init c =
-    let args = c.args in
-    (omega arith, from_first (λ owner. ltb owner args.n) args.numbers.now args.at args.count)
+-- what is asked from a place on: of the element there, and of those after it
+here : (test : ℕ → Bool) (l : List ℕ) (i : ℕ) → i < length l → all_pass test (drop i l) ≡ (test (get_or l i 0) && all_pass test (drop (i + 1) l))
+here test l i h =
+    let e : suc i ≡ i + 1 = omega arith in
+    ap (all_pass test) (drop-cons l i 0 h) ∙ all_pass-cons test (get_or l i 0) (drop (suc i) l)
+    ∙ ap (λ (k : ℕ). test (get_or l i 0) && all_pass test (drop k l)) e
 
-pub returns-then-n-wide : goal.returns-then-n-wide
-returns-then-n-wide c =
-    let args = c.args in
-    let i = c.loop-i.i in
+-- the list that was gone through is the part
+whole : (test : ℕ → Bool) (l : List ℕ) (at count : ℕ) → all_pass test (part at count l) ≡ all_pass test (take (at + count - at) (drop at l))
+whole test l at count = ap (all_pass test) (sym (lent-run at count l))
+
+pub returns-then-n-owner : goal.returns-then-n-owner
+returns-then-n-owner c =
+    let a = c.args in
+    let items = take (a.at + a.count - a.at) (drop a.at a.numbers.now) in
+    let i = c.loop-owner.owner-index in
     sym
-    (c.loop-i.invariant.1
-    ∙ failed_here (λ owner. ltb owner args.n) args.numbers.now args.at i args.count (omega arith) (omega arith)
-    (le-ltb (get_or args.numbers.now (args.at + i) 0) args.n (omega arith)))
+    (whole (λ owner. ltb owner a.n) a.numbers.now a.at a.count ∙ c.loop-owner.invariant
+    ∙ here (λ owner. ltb owner a.n) items i c.loop-owner-test.true
+    ∙ ap (λ (b : Bool). b && all_pass (λ owner. ltb owner a.n) (drop (i + 1) items)) (le-ltb _ a.n c.if-n-owner.true))
 
-pub loop-i-preserved : goal.loop-i-preserved
-loop-i-preserved c =
-    let args = c.args in
-    let i = c.loop-i.i in (
-      omega arith,
-      c.loop-i.invariant.1
-          ∙ passed_here (λ owner. ltb owner args.n) args.numbers.now args.at i args.count (omega arith) (omega arith)
-          (lt-ltb (get_or args.numbers.now (args.at + i) 0) args.n (omega arith)),
-    )
+pub loop-owner-preserved : goal.loop-owner-preserved
+loop-owner-preserved c =
+    let a = c.args in
+    let items = take (a.at + a.count - a.at) (drop a.at a.numbers.now) in
+    let i = c.loop-owner.owner-index in
+    c.loop-owner.invariant ∙ here (λ owner. ltb owner a.n) items i c.loop-owner-test.true
+    ∙ ap (λ (b : Bool). b && all_pass (λ owner. ltb owner a.n) (drop (i + 1) items)) (lt-ltb _ a.n c.if-n-owner.false)
 
 pub returns : goal.returns
 returns c =
-    let args = c.args in
+    let a = c.args in
+    let items = take (a.at + a.count - a.at) (drop a.at a.numbers.now) in
     sym
-    (c.loop-i.invariant.1
-    ∙ passed-all (λ owner. ltb owner args.n) args.numbers.now args.at c.loop-i.i args.count (omega arith))
+    (whole (λ owner. ltb owner a.n) a.numbers.now a.at a.count ∙ c.loop-owner.invariant
+    ∙ ap (all_pass (λ owner. ltb owner a.n)) (drop_of_length-le items (let h : length items ≤ c.loop-owner.owner-index = omega arith in h))
+    ∙ all_pass-nil (λ owner. ltb owner a.n))

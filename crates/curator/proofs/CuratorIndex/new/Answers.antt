@@ -2,8 +2,8 @@
 use Rattle.std.proofs.Common.{◌≡◌, ℕ, true, false, not, ◌&&◌, sym, ap, ap₂, ◌∙◌}
 use Rattle.settings.specs.declared.CuratorParams.{CuratorParams}
 use Rattle.settings.specs.declared.Capacities.{Capacities}
-use Rattle.settings.specs.declared.Check.{Check}
-use Rattle.settings.specs.declared.Check.TheVariants as Check'
+use Rattle.std.specs.Prelude.{Result, Ok, Err, ⊤}
+use Rattle.settings.specs.declared.refusal.Refusal.{Refusal}
 use Rattle.settings.specs.declared.refusal.Refusal.TheVariants.{Settings}
 use Rattle.settings.specs.declared.refusal.SettingsRefusal.TheVariants.{InvalidDimension, InvalidConfig}
 use Rattle.curator.specs.Changes.{new_answer, created}
@@ -14,21 +14,21 @@ use Rattle.curator.proofs.CuratorIndex.new.Goals as goal
 
 module _ (dimension : ℕ) (params : CuratorParams) (capacities : Capacities) where
   -- the answer by what the rows come to
-  answered : (k : Check) → first_of (new_rows dimension params capacities) ≡ k → new_answer k dimension params capacities ≡ created dimension params capacities
+  answered : (k : Result ⊤ Refusal) → first_of (new_rows dimension params capacities) ≡ k → new_answer k dimension params capacities ≡ created dimension params capacities
   unfolding created
-  answered k e = ap (λ (k : Check). new_answer k dimension params capacities) (sym e)
+  answered k e = ap (λ (k : Result ⊤ Refusal). new_answer k dimension params capacities) (sym e)
 
-  dimension-stops : dimension_allowed dimension ≡ false → first_of (new_rows dimension params capacities) ≡ Check'.Refused (Settings InvalidDimension)
+  dimension-stops : dimension_allowed dimension ≡ false → first_of (new_rows dimension params capacities) ≡ Err (Settings InvalidDimension)
   unfolding new_rows
   dimension-stops e = row-stops _ _ (ap not e)
 
   config-stops : dimension_allowed dimension ≡ true → params_allowed params && capacities_allowed capacities ≡ false
-      → first_of (new_rows dimension params capacities) ≡ Check'.Refused (Settings InvalidConfig)
+      → first_of (new_rows dimension params capacities) ≡ Err (Settings InvalidConfig)
   unfolding new_rows
   config-stops e f = row-passes _ _ (ap not e) ∙ row-stops _ _ (ap not f)
 
   config-passes : dimension_allowed dimension ≡ true → params_allowed params && capacities_allowed capacities ≡ true
-      → first_of (new_rows dimension params capacities) ≡ Check'.Fine
+      → first_of (new_rows dimension params capacities) ≡ (Ok tt)
   unfolding new_rows
   config-passes e f = row-passes _ _ (ap not e) ∙ row-passes _ _ (ap not f) ∙ no_rows
 

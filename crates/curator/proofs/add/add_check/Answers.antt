@@ -1,6 +1,6 @@
 -- The first three rows are `unbuilt_check`'s. Then row by row: what each test asked is its row's case. `after-k` says that the first k rows pass, so that what is
 -- left decides.
-use Rattle.std.proofs.Common.{◌≡◌, ℕ, ◌+◌, ◌/◌, true, false, not, List, ◌∷◌, Float, length, drop, ltb, sym, ap, ◌∙◌, ◌≤◌, arith}
+use Rattle.std.proofs.Common.{rules, ◌≡◌, ℕ, ◌+◌, ◌/◌, true, false, not, List, ◌∷◌, Float, length, drop, ltb, sym, ap, ◌∙◌, ◌≤◌, arith}
 use Rattle.std.proofs.lemmas.Bool.{not-false}
 use borrow.Author.Tests.{eq-eqb, ne_eqb, lt-ltb, le-ltb}
 use Rattle.label.specs.Names.{names_of, bytes_of_names, lengths_fit}
@@ -8,10 +8,9 @@ use Rattle.label.specs.NameLaws.{length-names}
 use Rattle.label.specs.TextLaws.{length-joined-bytes}
 use Rattle.vector.specs.Vector.{all_finite}
 use Rattle.store.specs.declared.Lengths.{Lengths}
-use Rattle.settings.specs.declared.Check.{Check}
-use Rattle.settings.specs.declared.Check.TheVariants.{Fine, Refused}
+use Rattle.std.specs.Prelude.{Result, Ok, Err, ⊤}
+use Rattle.settings.specs.declared.refusal.Refusal.{Refusal}
 use Rattle.curator.specs.declared.CuratorIndex.{CuratorIndex}
-use Rattle.curator.specs.declared.VectorCheck.TheVariants.{Squares}
 use Rattle.curator.specs.Arguments.{add_of}
 use Rattle.curator.specs.Calls.{facts_of}
 use Rattle.curator.specs.Lent.{early_rows}
@@ -26,13 +25,13 @@ module _ (index : CuratorIndex) (lent : Lengths) (vector : List Float) (lengths 
   rows = state_row (state_sound index) ∷ add_rows (facts_of index) lent (add_of 0 vector lengths bytes)
 
   -- what they come to, by what the first three come to
-  early : (check : Check) → first_of (early_rows index lent) ≡ check → first_of rows ≡ check_then check (first_of (drop 3 rows))
+  early : (check : Result ⊤ Refusal) → first_of (early_rows index lent) ≡ check → first_of rows ≡ check_then check (first_of (drop 3 rows))
   unfolding add_rows
   early check e = rows_then (early_rows index lent) (drop 3 rows) check e
 
-  module _ (fine : first_of (early_rows index lent) ≡ Fine) where
+  module _ (fine : first_of (early_rows index lent) ≡ (Ok tt)) where
     after-3 : first_of rows ≡ first_of (drop 3 rows)
-    after-3 = early Fine fine
+    after-3 = early (Ok tt) fine
 
     module _ (dimension : length vector ≡ index.dimension) where
       after-4 : first_of rows ≡ first_of (drop 4 rows)
@@ -75,28 +74,29 @@ filled : (capacity held : ℕ) (lengths bytes : List ℕ) → lengths_fit length
 filled capacity held lengths bytes fit = ap (λ (n : ℕ). ltb capacity (held + n)) (length-joined-bytes lengths bytes fit)
 
 -- what an index with a sound state holds fits
-held : (index : CuratorIndex) (lent : Lengths) → first_of (early_rows index lent) ≡ Fine → (index.counts.entries ≤ 16384) × (index.counts.bytes ≤ 4177920)
+held : (index : CuratorIndex) (lent : Lengths) → first_of (early_rows index lent) ≡ (Ok tt) → (index.counts.entries ≤ 16384) × (index.counts.bytes ≤ 4177920)
 held index lent e =
     let s = sound_facts index (not-false _ (fine_none _ e).0) in
     (omega (arith, s.entries, s.limits.entries_high), omega (arith, s.bytes, s.limits.text_high))
 
 pub overflow_add-index : goal.overflow_add-index
-overflow_add-index c = let h = held c.args.index c.args.lent (sym c.unbuilt_check.ensures ∙ c.in_default.is) in omega (arith, h)
+overflow_add-index c = let h = held c.args.index c.args.lent (sym c.unbuilt_check.ensures ∙ c.in_ok-unbuilt_check.was) in omega (arith, h)
 
 pub overflow_add-index-2 : goal.overflow_add-index-2
-overflow_add-index-2 c = let h = held c.args.index c.args.lent (sym c.unbuilt_check.ensures ∙ c.in_default.is) in omega (arith, h)
+overflow_add-index-2 c = let h = held c.args.index c.args.lent (sym c.unbuilt_check.ensures ∙ c.in_ok-unbuilt_check.was) in omega (arith, h)
 
-pub returns-in-Refused : goal.returns-in-Refused
-returns-in-Refused c =
+pub returns-in_err-unbuilt_check : goal.returns-in_err-unbuilt_check
+returns-in_err-unbuilt_check c =
     let a = c.args in
-    squares_by _ _ (early a.index a.lent a.vector.now a.lengths.now a.bytes.now (Refused _) (sym c.unbuilt_check.ensures ∙ c.in-Refused.is))
+    let e : c.from_residual.result ≡ Err c.in_err-unbuilt_check.field-0.0 = search rules in
+    e ∙ squares_by _ _ (early a.index a.lent a.vector.now a.lengths.now a.bytes.now (Err _) (sym c.unbuilt_check.ensures ∙ c.in_err-unbuilt_check.was))
 
 pub returns-then-vector-index : goal.returns-then-vector-index
 unfolding add_rows
 returns-then-vector-index c =
     let a = c.args in
     squares_by _ _
-    (after-3 a.index a.lent a.vector.now a.lengths.now a.bytes.now (sym c.unbuilt_check.ensures ∙ c.in_default.is)
+    (after-3 a.index a.lent a.vector.now a.lengths.now a.bytes.now (sym c.unbuilt_check.ensures ∙ c.in_ok-unbuilt_check.was)
     ∙ row-stops _ _ (ap not (ne_eqb _ _ c.if-vector-index.true)))
 
 pub returns-then-not-scanned : goal.returns-then-not-scanned
@@ -104,7 +104,7 @@ unfolding add_rows
 returns-then-not-scanned c =
     let a = c.args in
     squares_by _ _
-    (after-4 a.index a.lent a.vector.now a.lengths.now a.bytes.now (sym c.unbuilt_check.ensures ∙ c.in_default.is) c.if-vector-index.false
+    (after-4 a.index a.lent a.vector.now a.lengths.now a.bytes.now (sym c.unbuilt_check.ensures ∙ c.in_ok-unbuilt_check.was) c.if-vector-index.false
     ∙ row-stops _ _ (ap not (sym c.scan-scanned.ensures.finite_value) ∙ c.if-not-scanned.true))
 
 pub returns-then-not-lengths_fit : goal.returns-then-not-lengths_fit
@@ -112,7 +112,7 @@ unfolding add_rows
 returns-then-not-lengths_fit c =
     let a = c.args in
     squares_by _ _
-    (after-5 a.index a.lent a.vector.now a.lengths.now a.bytes.now (sym c.unbuilt_check.ensures ∙ c.in_default.is) c.if-vector-index.false
+    (after-5 a.index a.lent a.vector.now a.lengths.now a.bytes.now (sym c.unbuilt_check.ensures ∙ c.in_ok-unbuilt_check.was) c.if-vector-index.false
     (sym c.scan-scanned.ensures.finite_value ∙ not-false _ c.if-not-scanned.false)
     ∙ row-stops _ _ (ap not (sym c.lengths_fit.ensures ∙ c.if-not-lengths_fit.true)))
 
@@ -121,7 +121,7 @@ unfolding add_rows
 returns-then-index c =
     let a = c.args in
     squares_by _ _
-    (after-6 a.index a.lent a.vector.now a.lengths.now a.bytes.now (sym c.unbuilt_check.ensures ∙ c.in_default.is) c.if-vector-index.false
+    (after-6 a.index a.lent a.vector.now a.lengths.now a.bytes.now (sym c.unbuilt_check.ensures ∙ c.in_ok-unbuilt_check.was) c.if-vector-index.false
     (sym c.scan-scanned.ensures.finite_value ∙ not-false _ c.if-not-scanned.false)
     (sym c.lengths_fit.ensures ∙ c.if-not-lengths_fit.false)
     ∙ row-stops _ _ (eq-eqb _ _ c.if-index.true))
@@ -132,7 +132,7 @@ returns-then-index-label_count c =
     let a = c.args in
     let same = room a.index.capacities.entries a.index.counts.entries c.label_count.result a.lengths.now a.bytes.now c.label_count.ensures in
     squares_by _ _
-    (after-7 a.index a.lent a.vector.now a.lengths.now a.bytes.now (sym c.unbuilt_check.ensures ∙ c.in_default.is) c.if-vector-index.false
+    (after-7 a.index a.lent a.vector.now a.lengths.now a.bytes.now (sym c.unbuilt_check.ensures ∙ c.in_ok-unbuilt_check.was) c.if-vector-index.false
     (sym c.scan-scanned.ensures.finite_value ∙ not-false _ c.if-not-scanned.false)
     (sym c.lengths_fit.ensures ∙ c.if-not-lengths_fit.false) c.if-index.false
     ∙ row-stops _ _ (sym same ∙ lt-ltb _ _ c.if-index-label_count.true))
@@ -144,7 +144,7 @@ returns-then-index-bytes c =
     let same = room a.index.capacities.entries a.index.counts.entries c.label_count.result a.lengths.now a.bytes.now c.label_count.ensures in
     let fit = sym c.lengths_fit.ensures ∙ c.if-not-lengths_fit.false in
     squares_by _ _
-    (after-8 a.index a.lent a.vector.now a.lengths.now a.bytes.now (sym c.unbuilt_check.ensures ∙ c.in_default.is) c.if-vector-index.false
+    (after-8 a.index a.lent a.vector.now a.lengths.now a.bytes.now (sym c.unbuilt_check.ensures ∙ c.in_ok-unbuilt_check.was) c.if-vector-index.false
     (sym c.scan-scanned.ensures.finite_value ∙ not-false _ c.if-not-scanned.false) fit c.if-index.false (sym same ∙ le-ltb _ _ c.if-index-label_count.false)
     ∙ row-stops _ _ (sym (filled a.index.capacities.text a.index.counts.bytes a.lengths.now a.bytes.now fit) ∙ lt-ltb _ _ c.if-index-bytes.true))
 
@@ -154,9 +154,9 @@ returns c =
     let a = c.args in
     let same = room a.index.capacities.entries a.index.counts.entries c.label_count.result a.lengths.now a.bytes.now c.label_count.ensures in
     let fit = sym c.lengths_fit.ensures ∙ c.if-not-lengths_fit.false in
-    ap Squares c.scan-scanned.ensures.squares_value
+    ap Ok c.scan-scanned.ensures.squares_value
     ∙ squares_by _ _
-    (after-9 a.index a.lent a.vector.now a.lengths.now a.bytes.now (sym c.unbuilt_check.ensures ∙ c.in_default.is) c.if-vector-index.false
+    (after-9 a.index a.lent a.vector.now a.lengths.now a.bytes.now (sym c.unbuilt_check.ensures ∙ c.in_ok-unbuilt_check.was) c.if-vector-index.false
     (sym c.scan-scanned.ensures.finite_value ∙ not-false _ c.if-not-scanned.false) fit c.if-index.false (sym same ∙ le-ltb _ _ c.if-index-label_count.false)
     (sym (filled a.index.capacities.text a.index.counts.bytes a.lengths.now a.bytes.now fit) ∙ le-ltb _ _ c.if-index-bytes.false)
     ∙ no_rows)

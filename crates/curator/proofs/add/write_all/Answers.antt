@@ -1,24 +1,11 @@
-use Prim.Native.Nat.{◌+◌, ◌-◌}
-use mathlib.Core.Path.{◌≡◌, refl, sym, ◌∙◌}
-use native.Mathlib.Omega.{arith}
-use lib.ListN.{length-set}
-use Rattle.curator.proofs.Steps.{fill_step}
+-- The part from the place on is filled.
+use Rattle.std.proofs.Common.{rules, ◌≡◌, ◌+◌, replicate, arith, ◌∙◌, ap}
+use Rattle.std.proofs.lemmas.List.Edits.{sets}
+use Rattle.lists.specs.Parts.{lent-part}
 use Rattle.curator.proofs.add.write_all.Goals as goal
-
-pub loop-i-init : goal.loop-i-init
-loop-i-init c =
-    let e : c.args.place + 0 ≡ c.args.place = omega arith in
-    let n : c.args.count - 0 ≡ c.args.count = omega arith in
-    (omega arith, refl, rw (e, n))
-
-pub loop-i-preserved : goal.loop-i-preserved
-loop-i-preserved c = (
-  omega arith,
-  simp length-set c.loop-i.invariant.1,
-  sym (fill_step _ _ _ _ _ c.loop-i-test.true) ∙ c.loop-i.invariant.2,
-)
 
 pub returns : goal.returns
 returns c =
-    let none : c.args.count - c.loop-i.i ≡ 0 = omega arith in
-    rw none at c.loop-i.invariant.2
+    let a = c.args in
+    let written : c.fill.new.self ≡ replicate a.count a.number = search rules in
+    lent-part a.numbers.now a.place (a.place + a.count) c.fill.new.self (omega arith) (omega arith) (omega (arith, c.fill.ensures.len)) ∙ ap (sets a.numbers.now a.place) written
