@@ -1,13 +1,12 @@
 // One call of `build` on the held store, its answer and what it leaves.
-use crate::compare::{same_floats, same_hashes, same_numbers};
+use crate::compare::{same_bits, same_but};
 use crate::fixture::{
     Garbage, Lent, at_most, held_floats, held_hashes, held_numbers, held_text, lists, none,
     overwrite, sizes, starts_at,
 };
-use crate::print::{
-    number_of, print_answer, print_floats, print_hashes, print_kept, print_numbers,
-};
-use curator::{Changed, CuratorIndex};
+use crate::print::{number_of, print_answer, print_kept, print_places};
+use curator::CuratorIndex;
+use settings::refusal::Refusal;
 use std::io;
 
 // Where the free or written places of each list end; they start at 8, 8, 4 and 0. Nothing is free after 4, 3, 12 and of a built index; work after 15.
@@ -37,16 +36,37 @@ fn print_nodes(
     hashes: &[u64; 78],
 ) -> io::Result<()> {
     let m = at_most(index.capacities.nodes, 18);
-    print_floats(rt, floats, 8, 8 + 2 * m)?;
-    print_numbers(rt, numbers, 8, starts_at(index.capacities.nodes))?;
-    print_hashes(rt, hashes, 4, 4 + 4 * m)
+    print_places(
+        rt,
+        "floats",
+        floats,
+        8,
+        8 + 2 * m,
+        |x| print!(rt; " {:08x}", float_bits::to_bits(*x)),
+    )?;
+    print_places(
+        rt,
+        "numbers",
+        numbers,
+        8,
+        starts_at(index.capacities.nodes),
+        |n| print!(rt; " {n}"),
+    )?;
+    print_places(
+        rt,
+        "hashes",
+        hashes,
+        4,
+        4 + 4 * m,
+        |hash| print!(rt; " {hash:x}"),
+    )
 }
 
 // The answer, and whether the lists are kept.
 fn print_end(
     rt: &impl Print,
     index: CuratorIndex,
-    answer: Changed,
+    answer: Result<CuratorIndex, Refusal>,
     garbage: Garbage,
     floats: &[f32; 50],
     numbers: &[u32; 156],
@@ -59,10 +79,10 @@ fn print_end(
     print_answer(rt, answer)?;
     print_kept(
         rt,
-        same_floats(floats, &held_floats(), 8, free.floats)
-            & same_numbers(numbers, &before, 8, free.numbers)
-            & same_hashes(hashes, &held_hashes(), 4, free.hashes)
-            & same_numbers(work, &[900u32; 68], 0, free.work),
+        same_but(floats, &held_floats(), 8, free.floats, same_bits)
+            & same_but(numbers, &before, 8, free.numbers, |x, y| x == y)
+            & same_but(hashes, &held_hashes(), 4, free.hashes, |x, y| x == y)
+            & same_but(work, &[900u32; 68], 0, free.work, |x, y| x == y),
     )
 }
 

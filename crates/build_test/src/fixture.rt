@@ -25,10 +25,7 @@ pub struct Garbage {
 pub fn at_most(n: usize, most: usize) -> usize
     ensures { result ≤ most }
 {
-    if n < most {
-        return n;
-    }
-    most
+    n.min(most)
 }
 
 // 01's sizes with D 2, B 2, V 4, E 4, M nodes and 4 bytes of label text, and some places to spare.

@@ -12,8 +12,8 @@
 #![tactic(auto)]
 
 use call::{plain, try_build};
-use compare::{same_floats, same_hashes, same_numbers};
-use curator::{Changed, CuratorIndex};
+use compare::{same_bits, same_but};
+use curator::CuratorIndex;
 use fixture::{example, held_floats, held_hashes, held_numbers, held_text, none, sizes};
 use lengths::list_lengths;
 use owners::owners;
@@ -53,7 +53,7 @@ fn again(rt: &impl Print, index: CuratorIndex) -> io::Result<()> {
         text,
         &mut work,
     );
-    let Changed::Index(built) = made else {
+    let Ok(built) = made else {
         return Ok(());
     };
     let floats_left = floats;
@@ -71,10 +71,10 @@ fn again(rt: &impl Print, index: CuratorIndex) -> io::Result<()> {
     print_answer(rt, answer)?;
     print_kept(
         rt,
-        same_floats(&floats, &floats_left, 0, 0)
-            & same_numbers(&numbers, &numbers_left, 0, 0)
-            & same_hashes(&hashes, &hashes_left, 0, 0)
-            & same_numbers(&work, &work_left, 0, 0),
+        same_but(&floats, &floats_left, 0, 0, same_bits)
+            & same_but(&numbers, &numbers_left, 0, 0, |x, y| x == y)
+            & same_but(&hashes, &hashes_left, 0, 0, |x, y| x == y)
+            & same_but(&work, &work_left, 0, 0, |x, y| x == y),
     )
 }
 

@@ -1,17 +1,18 @@
 // The number and the counts of an answer, and parts of the lists.
-use curator::Changed;
+use curator::CuratorIndex;
+use settings::refusal::Refusal;
 use std::io;
 
-pub fn number_of(answer: Changed) -> u32 {
+pub fn number_of(answer: Result<CuratorIndex, Refusal>) -> u32 {
     match answer {
-        Changed::Refused(refusal) => refusal.number(),
-        Changed::Index(_) => 0,
+        Err(refusal) => refusal.number(),
+        Ok(_) => 0,
     }
 }
 
-pub fn print_answer(rt: &impl Print, answer: Changed) -> io::Result<()> {
+pub fn print_answer(rt: &impl Print, answer: Result<CuratorIndex, Refusal>) -> io::Result<()> {
     print!(rt; "{}", number_of(answer))?;
-    if let Changed::Index(index) = answer {
+    if let Ok(index) = answer {
         let counts = index.counts;
         print!(rt; " {} {} {}", counts.vectors, counts.entries, counts.nodes)?;
         if index.built {
@@ -31,26 +32,20 @@ pub fn print_kept(rt: &impl Print, kept: bool) -> io::Result<()> {
     }
 }
 
-pub fn print_floats(rt: &impl Print, list: &[f32], from: usize, to: usize) -> io::Result<()> {
-    print!(rt; "floats")?;
+// A line of the places of a list from one to another, each written by `show`.
+pub fn print_places<T, F: Fn(&T) -> io::Result<()>>(
+    rt: &impl Print,
+    name: &str,
+    list: &[T],
+    from: usize,
+    to: usize,
+    show: F,
+) -> io::Result<()>
+    requires { F.IsAlwaysCallable show }
+{
+    print!(rt; "{name}")?;
     for x in list.iter().take(to).skip(from) {
-        print!(rt; " {:08x}", float_bits::to_bits(*x))?;
-    }
-    println!(rt; "")
-}
-
-pub fn print_numbers(rt: &impl Print, list: &[u32], from: usize, to: usize) -> io::Result<()> {
-    print!(rt; "numbers")?;
-    for n in list.iter().take(to).skip(from) {
-        print!(rt; " {n}")?;
-    }
-    println!(rt; "")
-}
-
-pub fn print_hashes(rt: &impl Print, list: &[u64], from: usize, to: usize) -> io::Result<()> {
-    print!(rt; "hashes")?;
-    for hash in list.iter().take(to).skip(from) {
-        print!(rt; " {hash:x}")?;
+        show(x)?;
     }
     println!(rt; "")
 }

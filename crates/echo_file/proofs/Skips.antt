@@ -10,18 +10,17 @@ use lib.Dec.{leb}
 use borrow.Author.Tests.{le-leb, lt-leb, leb-true, leb-false}
 use Rattle.lists.specs.Parts.{length_part}
 use Rattle.echo_file.specs.declared.Known.{Known}
-use Rattle.echo_file.specs.declared.skip.Skipped.{Skipped}
-use Rattle.echo_file.specs.declared.skip.Skipped.TheVariants.{Past, To}
+use Rattle.std.specs.Prelude.{Option, None, Some}
 use Rattle.echo_file.specs.Decode.{Decoded, none, found, and_then, split, bytes_value, numbers}
 use Rattle.echo_file.specs.Places.{skipped, NumberAt}
 use Rattle.echo_file.specs.Reads.{bytes_between, patterns_at}
 use Rattle.echo_file.specs.FieldLaws.{numbers-take}
 
-pub cut_when : (size at n : ℕ) → size < at + n → Past ≡ skipped size at n
+pub cut_when : (size at n : ℕ) → size < at + n → None ≡ skipped size at n
 unfolding skipped
 cut_when size at n h = rw (lt-leb (at + n) size h)
 
-pub to_when : (size at n : ℕ) → at + n ≤ size → To (at + n) ≡ skipped size at n
+pub to_when : (size at n : ℕ) → at + n ≤ size → Some (at + n) ≡ skipped size at n
 unfolding skipped
 to_when size at n h = rw (le-leb (at + n) size h)
 
@@ -42,28 +41,28 @@ pub record Ends (file : List ℕ) (at n : ℕ) : Type 0 where
   pub short : length file - at < n
 
 -- what an answer of `skip` tells
-pub went : {r : Skipped} (file : List ℕ) (at n next : ℕ) → r ≡ skipped (length file) at n → r ≡ To next → Skip file at n next
+pub went : (file : List ℕ) (at n : ℕ) {next : ℕ} → Some next ≡ skipped (length file) at n → Skip file at n next
 unfolding skipped
-went file at n next e f = pick (leb (at + n) (length file)) refl (sym f ∙ e)
+went file at n {next} e = pick (leb (at + n) (length file)) refl e
   where
-    pick : (b : Bool) → leb (at + n) (length file) ≡ b → To next ≡ cond b (To (at + n)) Past → Skip file at n next
+    pick : (b : Bool) → leb (at + n) (length file) ≡ b → Some next ≡ cond b (Some (at + n)) None → Skip file at n next
     pick true h e = record { inside = leb-true (at + n) (length file) h; place = cc }
     pick false h e = let z : ◌≡◌ {A = ℕ} 0 1 = cc in absurd (omega arith)
 
-cut_short : {r : Skipped} (file : List ℕ) (at n : ℕ) → r ≡ skipped (length file) at n → r ≡ Past → length file < at + n
+cut_short : (file : List ℕ) (at n : ℕ) → None ≡ skipped (length file) at n → length file < at + n
 unfolding skipped
-cut_short file at n e f = pick (leb (at + n) (length file)) refl (sym f ∙ e)
+cut_short file at n e = pick (leb (at + n) (length file)) refl e
   where
-    pick : (b : Bool) → leb (at + n) (length file) ≡ b → Past ≡ cond b (To (at + n)) Past → length file < at + n
+    pick : (b : Bool) → leb (at + n) (length file) ≡ b → ◌≡◌ {A = Option ℕ} None (cond b (Some (at + n)) None) → length file < at + n
     pick true h e = let z : ◌≡◌ {A = ℕ} 0 1 = cc in absurd (omega arith)
     pick false h e = leb-false (at + n) (length file) h
 
-pub stopped : {r : Skipped} (file : List ℕ) (at n : ℕ) → at ≤ length file → r ≡ skipped (length file) at n → r ≡ Past → Ends file at n
-stopped file at n l e f = let s = cut_short file at n e f in record { short = omega arith }
+pub stopped : (file : List ℕ) (at n : ℕ) → at ≤ length file → None ≡ skipped (length file) at n → Ends file at n
+stopped file at n l e = let s = cut_short file at n e in record { short = omega arith }
 
 -- also from a place past the end, where some byte was asked for
-pub stopped_anywhere : {r : Skipped} (file : List ℕ) (at n : ℕ) → r ≡ skipped (length file) at (suc n) → r ≡ Past → Ends file at (suc n)
-stopped_anywhere file at n e f = let s = cut_short file at (suc n) e f in record { short = omega arith }
+pub stopped_anywhere : (file : List ℕ) (at n : ℕ) → None ≡ skipped (length file) at (suc n) → Ends file at (suc n)
+stopped_anywhere file at n e = let s = cut_short file at (suc n) e in record { short = omega arith }
 
 -- the decoder at a place: m, the count that it reads, is n, the count that was skipped
 pub split_goes : {file : List ℕ} {at m n to : ℕ} → m ≡ n → Skip file at n to → split m (drop at file) ≡ found (bytes_between at to file) (drop to file)

@@ -1,9 +1,8 @@
 -- What the reader answers: `Reads` is the promise of `read_record`.
-use Rattle.std.specs.Prelude.{ℕ, ◌+◌, ◌-◌, ◌*◌, ◌≤◌, ◌<◌, ◌≡◌, List, map, length, drop}
+use Rattle.std.specs.Prelude.{ℕ, ◌+◌, ◌-◌, ◌*◌, ◌≤◌, ◌<◌, ◌≡◌, List, map, length, drop, Option, None, Some}
 use Rattle.lists.specs.Lists.{part}
 use Rattle.echo_file.specs.declared.Known.{Known}
-use Rattle.echo_file.specs.declared.Reading.{Reading}
-use Rattle.echo_file.specs.declared.Reading.TheVariants.{Bad, Found}
+use Rattle.echo_file.specs.declared.Located.{Located}
 use Rattle.echo_file.specs.declared.Located.TheVariants.{Settings, Vector, Filtered, Search}
 use Rattle.echo_file.specs.Format.{FileRecord, settings, vector, filtered, unfiltered, label_bytes, Begins}
 use Rattle.echo_file.specs.Decode.{numbers}
@@ -43,10 +42,10 @@ pub record SearchStands (known : Known) (file : List ℕ) (at k floats_at next :
   pub stands : Stands known file at (unfiltered k (patterns_at known file floats_at)) next
   pub floats_end : floats_at + 4 * known.dimension ≡ next
 
--- The reading of a file at a place: `Bad` exactly where no record begins there ('unknown mark, or it ends inside a record').
-abbrev pub Reads : Known → List ℕ → ℕ → Reading → Type 0
-Reads known file at Bad = (r : FileRecord) (rest : List ℕ) → Begins known (drop at file) r rest → ⊥
-Reads known file at (Found (Settings dimension branching leaf_size ef beam next)) = Stands known file at (settings dimension branching leaf_size ef beam) next
-Reads known file at (Found (Vector document lengths-at labels_at floats_at next)) = VectorStands known file at document lengths-at labels_at floats_at next
-Reads known file at (Found (Filtered k label_at floats_at next)) = FilteredStands known file at k label_at floats_at next
-Reads known file at (Found (Search k floats_at next)) = SearchStands known file at k floats_at next
+-- The reading of a file at a place: `None` exactly where no record begins there ('unknown mark, or it ends inside a record').
+abbrev pub Reads : Known → List ℕ → ℕ → Option Located → Type 0
+Reads known file at None = (r : FileRecord) (rest : List ℕ) → Begins known (drop at file) r rest → ⊥
+Reads known file at (Some (Settings dimension branching leaf_size ef beam next)) = Stands known file at (settings dimension branching leaf_size ef beam) next
+Reads known file at (Some (Vector document lengths-at labels_at floats_at next)) = VectorStands known file at document lengths-at labels_at floats_at next
+Reads known file at (Some (Filtered k label_at floats_at next)) = FilteredStands known file at k label_at floats_at next
+Reads known file at (Some (Search k floats_at next)) = SearchStands known file at k floats_at next

@@ -2,27 +2,16 @@
 ghost use Rattle.std.specs.Prelude.{◌≤◌, length};
 ghost use Rattle.echo_file.specs.Places.{CountedAt};
 
-use crate::skip::Skipped;
 use crate::{number, skip};
+use std::ops::Range;
 
-// The bytes that are counted, by their places, or the file ends inside them.
-#[derive(Clone, Copy)]
-pub enum Counted {
-    Cut,
-    Part { from: usize, to: usize },
-}
-
-// The count at a place, and its bytes.
-pub fn read_counted(file: &[u8], at: usize) -> Counted
+// The places of the bytes that are counted there, or none where the file ends inside them.
+pub fn read_counted(file: &[u8], at: usize) -> Option<Range<usize>>
     requires { at ≤ length file.now }
     ensures { CountedAt file.now at result }
 {
-    let Skipped::To(from) = skip::skip(file.len(), at, 1) else {
-        return Counted::Cut;
-    };
+    let start = skip::skip(file.len(), at, 1)?;
     let count = number::u8_at(file, at);
-    let Skipped::To(to) = skip::skip(file.len(), from, count) else {
-        return Counted::Cut;
-    };
-    Counted::Part { from, to }
+    let end = skip::skip(file.len(), start, count)?;
+    Some(start..end)
 }

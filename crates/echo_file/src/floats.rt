@@ -21,9 +21,7 @@ pub fn read_floats(file: &[u8], at: usize, out: &mut [f32])
     requires { at + 4 * length out.old ≤ length file.now }
     ensures { out.new ≡ map (of_bits binary32) (numbers (length out.old) (drop at file.now)) }
 {
-    let mut i = 0;
-    while i < out.len() {
-        out[i] = float_at(file, at + 4 * i);
-        i += 1;
+    for (i, x) in out.iter_mut().enumerate() {
+        *x = float_at(file, at + 4 * i);
     }
 }

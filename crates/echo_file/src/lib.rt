@@ -1,6 +1,7 @@
 // The records of an echo file (document 01, 'The echo file and its printer'), read one at a time.
 #![tactic(auto)]
 
+ghost use Rattle.echo_file.specs.Places.{IsMark};
 ghost use Rattle.echo_file.specs.Reads.{Reads};
 
 mod body;
@@ -8,8 +9,6 @@ mod counted;
 pub mod floats;
 mod number;
 mod skip;
-
-use skip::Skipped;
 
 // What the reader has to know of the records before: the dimension, 0 before settings.
 #[derive(Clone, Copy)]
@@ -48,41 +47,37 @@ pub enum Located {
     },
 }
 
-// What the reader answers: the record, or that the file has an unknown mark there or ends inside the record (refusal 16).
+// The four marks.
 #[derive(Clone, Copy)]
-pub enum Reading {
-    Bad,
-    Found(Located),
+enum Mark {
+    Settings,
+    Vector,
+    Filtered,
+    Search,
 }
 
-// The marks 5A 01, 5A 02, 5A 04 and 5A 05 as numbers, low byte first.
-const SETTINGS: usize = 0x015A;
+// The mark of two bytes, 5A 01, 5A 02, 5A 04 or 5A 05, as a number, low byte first.
+fn mark_of(number: usize) -> Option<Mark>
+    ensures { IsMark number result }
+{
+    match number {
+        0x015A => Some(Mark::Settings),
+        0x025A => Some(Mark::Vector),
+        0x045A => Some(Mark::Filtered),
+        0x055A => Some(Mark::Search),
+        _ => None,
+    }
+}
 
-const VECTOR: usize = 0x025A;
-
-const FILTERED: usize = 0x045A;
-
-const SEARCH: usize = 0x055A;
-
-// The record that starts at a place.
-pub fn read_record(known: Known, file: &[u8], at: usize) -> Reading
+// The record that starts at a place; none where the file has an unknown mark there or ends inside the record (refusal 16).
+pub fn read_record(known: Known, file: &[u8], at: usize) -> Option<Located>
     ensures { Reads known file.now at result }
 {
-    let Skipped::To(start) = skip::skip(file.len(), at, 2) else {
-        return Reading::Bad;
-    };
-    let mark = number::u16_at(file, at);
-    if mark == SETTINGS {
-        return body::read_settings(file, start);
+    let start = skip::skip(file.len(), at, 2)?;
+    match mark_of(number::u16_at(file, at))? {
+        Mark::Settings => body::read_settings(file, start),
+        Mark::Vector => body::read_vector(known, file, start),
+        Mark::Filtered => body::read_filtered(known, file, start),
+        Mark::Search => body::read_search(known, file, start),
     }
-    if mark == VECTOR {
-        return body::read_vector(known, file, start);
-    }
-    if mark == FILTERED {
-        return body::read_filtered(known, file, start);
-    }
-    if mark == SEARCH {
-        return body::read_search(known, file, start);
-    }
-    Reading::Bad
 }

@@ -3,19 +3,12 @@ ghost use Rattle.std.specs.Prelude.{◌≡◌, ◌+◌, ◌≤◌, ◌<◌, leng
 ghost use Rattle.lists.specs.Lists.{total};
 ghost use Rattle.echo_file.specs.Places.{NumberAt};
 
-// A byte as a size.
-fn wide(byte: u8) -> usize
-    ensures { result ≡ byte }
-{
-    byte as usize
-}
-
 // The number in one byte.
 pub fn u8_at(file: &[u8], at: usize) -> usize
     requires { at < length file.now }
     ensures { NumberAt 1 file.now at result }
 {
-    wide(file[at])
+    usize::from(file[at])
 }
 
 // The number in two bytes.
@@ -23,6 +16,7 @@ pub fn u16_at(file: &[u8], at: usize) -> usize
     requires { at + 2 ≤ length file.now }
     ensures { NumberAt 2 file.now at result }
 {
+    // By hand: `from_le_bytes` wants the bytes as an array, which is no plainer.
     let low = u8_at(file, at);
     let high = u8_at(file, at + 1);
     low + 256 * high
@@ -44,10 +38,8 @@ pub fn total(lengths: &[u8]) -> usize
     ensures { result ≡ total lengths.now }
 {
     let mut sum = 0;
-    let mut i = 0;
-    while i < lengths.len() {
-        sum += wide(lengths[i]);
-        i += 1;
+    for &length in lengths {
+        sum += usize::from(length);
     }
     sum
 }

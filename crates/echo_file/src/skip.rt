@@ -2,32 +2,22 @@
 ghost use Rattle.std.specs.Prelude.{◌≡◌, ◌*◌};
 ghost use Rattle.echo_file.specs.Places.{skipped};
 
-// The place after some bytes, or the file ends before it.
-#[derive(Clone, Copy)]
-pub enum Skipped {
-    Past,
-    To(usize),
-}
-
-// The place after `count` bytes of a file of `len`.
-pub fn skip(len: usize, at: usize, count: usize) -> Skipped
+// The place after `count` bytes of a file of `len`, or none where the file ends before it.
+pub fn skip(len: usize, at: usize, count: usize) -> Option<usize>
     ensures { result ≡ skipped len at count }
 {
-    if len < at {
-        return Skipped::Past;
+    if len < at || len - at < count {
+        return None;
     }
-    if len - at < count {
-        return Skipped::Past;
-    }
-    Skipped::To(at + count)
+    Some(at + count)
 }
 
 // The place after `count` floats.
-pub fn skip_floats(len: usize, at: usize, count: usize) -> Skipped
+pub fn skip_floats(len: usize, at: usize, count: usize) -> Option<usize>
     ensures { result ≡ skipped len at (4 * count) }
 {
     if len / 4 < count {
-        return Skipped::Past;
+        return None;
     }
     skip(len, at, 4 * count)
 }

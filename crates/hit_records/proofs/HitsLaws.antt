@@ -1,12 +1,11 @@
 -- Laws of filling a list of hit records: the loop's steps, and what the result says place by place.
-use Rattle.std.specs.Prelude.{◌≡◌, refl, Bool, true, false, ◌||◌, List, [], ◌∷◌, ◌++◌, ℕ, zero, suc, ◌+◌, ◌-◌, ◌≤◌, ◌<◌, ltb, Float, length, get_or, take, drop, set}
+use Rattle.std.specs.Prelude.{◌≡◌, refl, Bool, true, false, ◌||◌, List, [], ◌∷◌, ℕ, zero, suc, ◌+◌, ◌-◌, ◌≤◌, ◌<◌, ltb, Float, length, get_or, drop, set}
 use Rattle.std.proofs.Common.{sym, ap, ◌∙◌, subst, zero-le, suc-le-suc, zero-add, not-suc-le-zero, le_of_suc-le-suc, le_trans, arith, length-take-le, get_or-take, get_or-drop, get_or-append-add, ltb-false}
 use Rattle.std.proofs.lemmas.Bool.{false≢true}
 use Rattle.std.proofs.Math.ListN.{get_or-append}
-use Rattle.std.proofs.Math.Seq.{paste, paste-zero, paste-suc}
-use Rattle.std.proofs.lemmas.List.Edits.{length-paste}
+use Rattle.std.proofs.Math.Seq.{paste, paste-suc}
 use Rattle.hit_records.specs.declared.Hit.{Hit}
-use Rattle.hit_records.specs.Hits.{pairs, hit_records, hit_record_at, filled_with, list_short, hits_number, hits_stored, hits_left, Fills}
+use Rattle.hit_records.specs.Hits.{pairs, hit_records, hit_record_at, filled_with, list_short, hits_number, hits_left, Fills}
 
 -- ---- the records of two lists
 
@@ -32,15 +31,9 @@ pub record Fit (hits : List Hit) (ids : List ℕ) (distances : List Float) (n : 
   pub in_ids : n ≤ length ids
   pub in_distances : n ≤ length distances
 
-pub fit_le : (hits : List Hit) (ids : List ℕ) (distances : List Float) (m n : ℕ) → m ≤ n → Fit hits ids distances n → Fit hits ids distances m
-fit_le hits ids distances m n h fit = record { in_hits = le_trans h fit.in_hits; in_ids = le_trans h fit.in_ids; in_distances = le_trans h fit.in_distances }
-
 module _ (hits : List Hit) (ids : List ℕ) (distances : List Float) where
   abbrev pub so_far : ℕ → List Hit
   so_far i = paste hits 0 (pairs ids distances) i
-
-  pub so_far_none : so_far 0 ≡ hits
-  so_far_none = sym (paste-zero hits 0 (pairs ids distances))
 
   pub so_far_more : (i : ℕ) → Fit hits ids distances (i + 1) → set (so_far i) i (hit_record_at ids distances i) ≡ so_far (i + 1)
   so_far_more i fit =
@@ -55,15 +48,7 @@ module _ (hits : List Hit) (ids : List ℕ) (distances : List Float) where
       ∙ paste-suc hits 0 (pairs ids distances) i z in_hits (le_pairs (suc i) ids distances in_ids in_distances)
       ∙ ap so_far f
 
-  pub length_so_far : (n : ℕ) → Fit hits ids distances n → length (so_far n) ≡ length hits
-  length_so_far n fit = length-paste hits 0 (pairs ids distances) n (subst (λ (k : ℕ). k ≤ length hits) (sym (zero-add n)) fit.in_hits) (le_pairs n ids distances fit.in_ids fit.in_distances)
-
-  so_far_filled : (n : ℕ) → Fit hits ids distances n → so_far n ≡ filled_with hits (hit_records ids distances n)
-  so_far_filled n fit =
-      let l : length (take n (pairs ids distances)) ≡ n = length-take-le n (pairs ids distances) (le_pairs n ids distances fit.in_ids fit.in_distances) in
-      ap (λ (k : ℕ). take n (pairs ids distances) ++ drop k hits) (zero-add n ∙ sym l)
-
--- ---- how many are stored, and what that leaves
+-- ---- where no list is too short, the records fit
 
 or_false : (a b : Bool) → (a || b) ≡ false → (a ≡ false) × (b ≡ false)
 or_false true b e = absurd (false≢true (sym e))
@@ -78,22 +63,6 @@ module _ (hits : List Hit) (ids : List ℕ) (distances : List Float) (count : �
       let p = or_false (ltb (length hits) count) (ltb (length ids) count || ltb (length distances) count) e in
       let q = or_false (ltb (length ids) count) (ltb (length distances) count) p.1 in
       record { in_hits = ltb-false (length hits) count p.0; in_ids = ltb-false (length ids) count q.0; in_distances = ltb-false (length distances) count q.1 }
-
-  stored-fit_by : (b : Bool) → short ≡ b → Fit hits ids distances (hits_stored (hits_number b) count)
-  stored-fit_by true e = record { in_hits = zero-le; in_ids = zero-le; in_distances = zero-le }
-  stored-fit_by false e = all_fit e
-
-  -- what is stored fits
-  pub stored-fit : Fit hits ids distances (hits_stored (hits_number short) count)
-  stored-fit = stored-fit_by short refl
-
-  left_by : (b : Bool) → short ≡ b → so_far hits ids distances (hits_stored (hits_number b) count) ≡ hits_left b hits (hit_records ids distances count)
-  left_by true e = so_far_none hits ids distances
-  left_by false e = so_far_filled hits ids distances count (all_fit e)
-
-  -- when all that is to be stored is stored, the list is as the result says
-  pub fills_all : Fills hits ids distances count (hits_number short) (so_far hits ids distances (hits_stored (hits_number short) count))
-  fills_all = record { number_is = refl; hits_are = left_by short refl }
 
 -- ---- the result, place by place
 

@@ -1,5 +1,5 @@
 -- Hit records (document 01: "a slice of structs of id and distance is filled"): what a call answers and leaves.
-use Rattle.std.specs.Prelude.{◌≡◌, Bool, cond, ◌||◌, List, [], ◌∷◌, ◌++◌, ℕ, eqb, ltb, Float, length, get_or, take, drop}
+use Rattle.std.specs.Prelude.{◌≡◌, Bool, cond, ◌||◌, List, [], ◌∷◌, ◌++◌, ℕ, ltb, Float, length, get_or, take, drop}
 use Rattle.std.specs.Float.{nan}
 use Rattle.hit_records.specs.declared.Hit.{Hit}
 
@@ -31,10 +31,6 @@ hits_number short = cond short 14 0
 
 abbrev pub hits_left : Bool → List Hit → List Hit → List Hit
 hits_left short hits front = cond short hits (filled_with hits front)
-
--- how many records the code stores, by that number
-abbrev pub hits_stored : ℕ → ℕ → ℕ
-hits_stored number count = cond (eqb number 0) count 0
 
 -- the result in full; "any refusal leaves .. answer lists unchanged"
 pub record Fills (hits : List Hit) (ids : List ℕ) (distances : List Float) (count number : ℕ) (hits' : List Hit) : Type 0 where

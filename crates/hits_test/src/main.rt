@@ -4,10 +4,12 @@
 
 ghost use Rattle.hit_records.specs.Hits.{Fills};
 
-use curator::{Changed, CuratorIndex, Found};
+use curator::CuratorIndex;
 use hit_records::Hit;
+use settings::refusal::Refusal;
 use settings::{Capacities, CuratorParams};
 use std::io;
+use store::Lists;
 
 // The number that filling a list gave, and the list.
 #[derive(Drop)]
@@ -58,10 +60,7 @@ fn added(
     vector: &[f32],
 ) -> CuratorIndex {
     let changed = index.add(floats, numbers, hashes, text, doc_id, vector, &[1, 0], b"a");
-    match changed {
-        Changed::Index(next) => next,
-        Changed::Refused(refusal) => index,
-    }
+    changed.unwrap_or(index)
 }
 
 // Three echoes are added, of 1 and 0, 0 and 2, and 3 and 4, and the index is built.
@@ -72,7 +71,7 @@ fn three_built(
     hashes: &mut [u64; 24],
     text: &mut [u8; 4],
     work: &mut [u32; 27],
-) -> Changed {
+) -> Result<CuratorIndex, Refusal> {
     let one = added(fresh, floats, numbers, hashes, text, 7, &[1.0, 0.0]);
     let two = added(one, floats, numbers, hashes, text, 8, &[0.0, 2.0]);
     let three = added(two, floats, numbers, hashes, text, 9, &[3.0, 4.0]);
@@ -91,21 +90,22 @@ fn print_nearest(
 ) -> io::Result<()> {
     let mut ids = [0u32; 4];
     let mut distances = [0.0f32; 4];
-    let found = search::search(
-        built,
+    let lists = Lists {
         floats,
         numbers,
         hashes,
         text,
+    };
+    if let Ok(searched) = search::search(
+        built,
+        lists,
         work,
         &[1.0, 0.0],
         4,
         &mut ids,
         &mut distances,
-    );
-    match found {
-        Found::Refused(_) => (),
-        Found::Hits { count, .. } => fill_and_print(rt, &ids, &distances, count)?,
+    ) {
+        fill_and_print(rt, &ids, &distances, searched.hits)?;
     }
     fill_and_print(rt, &ids, &distances, 5)
 }
@@ -124,7 +124,7 @@ fn records_of_a_search(rt: &impl Print, fresh: CuratorIndex) -> io::Result<()> {
         &mut text,
         &mut work,
     );
-    let Changed::Index(built) = changed else {
+    let Ok(built) = changed else {
         return Ok(());
     };
     print_nearest(rt, built, &floats, &numbers, &hashes, &text, &mut work)
@@ -138,7 +138,7 @@ fn main(rt: HostRuntime) -> io::Result<()> {
         text: 4,
     };
     let made = CuratorIndex::new(2, CuratorParams::default(), capacities);
-    let Changed::Index(fresh) = made else {
+    let Ok(fresh) = made else {
         return Ok(());
     };
     records_of_a_search(&rt, fresh)

@@ -3,12 +3,11 @@
 // and then the counts of vectors, entries and bytes; after an add or a withdrawal follow the four lists.
 #![tactic(auto)]
 
-ghost use Rattle.std.specs.Prelude.{◌≤◌};
-
-use curator::{Changed, CuratorIndex};
+use curator::CuratorIndex;
+use settings::refusal::Refusal;
 use settings::{Capacities, CuratorParams};
 use std::io;
-use store::Counts;
+use store::{Counts, Lists};
 
 fn print_floats(rt: &impl Print, list: &[f32]) -> io::Result<()> {
     for x in list {
@@ -52,10 +51,10 @@ fn print_lists(
 }
 
 // The number of an answer, and the counts of vectors, entries and bytes where there are any.
-fn print_answer(rt: &impl Print, answer: Changed) -> io::Result<()> {
+fn print_answer(rt: &impl Print, answer: Result<CuratorIndex, Refusal>) -> io::Result<()> {
     match answer {
-        Changed::Refused(refusal) => println!(rt; "{} ", refusal.number()),
-        Changed::Index(index) => {
+        Err(refusal) => println!(rt; "{} ", refusal.number()),
+        Ok(index) => {
             let counts = index.counts;
             println!(rt; "0 {} {} {} ", counts.vectors, counts.entries, counts.bytes)
         }
@@ -101,38 +100,47 @@ fn new_capacities(rt: &impl Print, c: Capacities) -> io::Result<()> {
 }
 
 fn dimensions(rt: &impl Print) -> io::Result<()> {
-    new_dimension(rt, 0)?;
-    new_dimension(rt, 1)?;
-    new_dimension(rt, 128)?;
-    new_dimension(rt, 129)
+    for dimension in [0, 1, 128, 129] {
+        new_dimension(rt, dimension)?;
+    }
+    Ok(())
 }
 
 fn settings(rt: &impl Print) -> io::Result<()> {
-    new_params(rt, params(0, 128, 256, 4))?;
-    new_params(rt, params(1, 128, 256, 4))?;
-    new_params(rt, params(64, 128, 256, 4))?;
-    new_params(rt, params(65, 128, 256, 4))?;
-    new_params(rt, params(16, 0, 0, 0))?;
-    new_params(rt, params(16, 4096, 256, 4))?;
-    new_params(rt, params(16, 4097, 256, 4))?;
-    new_params(rt, params(16, 128, 65537, 4))?;
-    new_params(rt, params(16, 128, 65538, 4))?;
-    new_params(rt, params(16, 128, 256, 65535))?;
-    new_params(rt, params(16, 128, 256, 65536))
+    for p in [
+        params(0, 128, 256, 4),
+        params(1, 128, 256, 4),
+        params(64, 128, 256, 4),
+        params(65, 128, 256, 4),
+        params(16, 0, 0, 0),
+        params(16, 4096, 256, 4),
+        params(16, 4097, 256, 4),
+        params(16, 128, 65537, 4),
+        params(16, 128, 65538, 4),
+        params(16, 128, 256, 65535),
+        params(16, 128, 256, 65536),
+    ] {
+        new_params(rt, p)?;
+    }
+    Ok(())
 }
 
 fn sizes(rt: &impl Print) -> io::Result<()> {
-    new_capacities(rt, capacities(0, 0, 1, 0))?;
-    new_capacities(rt, capacities(4096, 0, 1, 0))?;
-    new_capacities(rt, capacities(4097, 0, 1, 0))?;
-    new_capacities(rt, capacities(1, 16384, 1, 0))?;
-    new_capacities(rt, capacities(1, 16385, 1, 0))?;
-    new_capacities(rt, capacities(1, 0, 0, 0))?;
-    new_capacities(rt, capacities(1, 0, 65537, 0))?;
-    new_capacities(rt, capacities(1, 0, 65538, 0))?;
-    new_capacities(rt, capacities(1, 0, 1, 1))?;
-    new_capacities(rt, capacities(1, 0, 1, 4177920))?;
-    new_capacities(rt, capacities(1, 0, 1, 4177921))?;
+    for c in [
+        capacities(0, 0, 1, 0),
+        capacities(4096, 0, 1, 0),
+        capacities(4097, 0, 1, 0),
+        capacities(1, 16384, 1, 0),
+        capacities(1, 16385, 1, 0),
+        capacities(1, 0, 0, 0),
+        capacities(1, 0, 65537, 0),
+        capacities(1, 0, 65538, 0),
+        capacities(1, 0, 1, 1),
+        capacities(1, 0, 1, 4177920),
+        capacities(1, 0, 1, 4177921),
+    ] {
+        new_capacities(rt, c)?;
+    }
     print_answer(
         rt,
         CuratorIndex::new(0, params(0, 128, 256, 4), capacities(0, 0, 0, 4177921)),
@@ -155,20 +163,47 @@ fn state(vectors: usize, entries: usize, nodes: usize, bytes: usize, built: bool
     }
 }
 
+// How many places of each list are lent, at most all.
+#[derive(Clone, Copy)]
+struct Lent {
+    floats: usize,
+    numbers: usize,
+    hashes: usize,
+    text: usize,
+}
+
+const ALL: Lent = Lent {
+    floats: 10,
+    numbers: 23,
+    hashes: 8,
+    text: 6,
+};
+
+const ENOUGH: Lent = Lent {
+    floats: 8,
+    numbers: 21,
+    hashes: 6,
+    text: 4,
+};
+
+fn places(floats: usize, numbers: usize, hashes: usize, text: usize) -> Lent {
+    Lent {
+        floats,
+        numbers,
+        hashes,
+        text,
+    }
+}
+
 // An add to lists of the lengths given, of document 77.
 fn try_add(
     rt: &impl Print,
     index: CuratorIndex,
-    f: usize,
-    n: usize,
-    h: usize,
-    t: usize,
+    lent: Lent,
     vector: &[f32],
     lengths: &[u8],
     bytes: &[u8],
-) -> io::Result<()>
-    requires { (f ≤ 10) × (n ≤ 23) × (h ≤ 8) × (t ≤ 6) }
-{
+) -> io::Result<()> {
     let mut floats = [9.0f32; 10];
     let mut numbers = [9u32; 23];
     let mut hashes = [9u64; 8];
@@ -176,10 +211,10 @@ fn try_add(
     print_answer(
         rt,
         index.add(
-            &mut floats[..f],
-            &mut numbers[..n],
-            &mut hashes[..h],
-            &mut text[..t],
+            &mut floats[..lent.floats.min(10)],
+            &mut numbers[..lent.numbers.min(23)],
+            &mut hashes[..lent.hashes.min(8)],
+            &mut text[..lent.text.min(6)],
             77,
             vector,
             lengths,
@@ -190,35 +225,40 @@ fn try_add(
 }
 
 fn states(rt: &impl Print, vector: &[f32]) -> io::Result<()> {
-    try_add(rt, state(3, 0, 0, 0, false), 10, 23, 8, 6, vector, b"", b"")?;
-    try_add(rt, state(0, 3, 0, 0, false), 10, 23, 8, 6, vector, b"", b"")?;
-    try_add(rt, state(1, 0, 2, 0, true), 10, 23, 8, 6, vector, b"", b"")?;
-    try_add(rt, state(0, 0, 1, 0, true), 10, 23, 8, 6, vector, b"", b"")?;
-    try_add(rt, state(1, 0, 0, 0, true), 10, 23, 8, 6, vector, b"", b"")?;
-    try_add(rt, state(1, 0, 1, 0, false), 10, 23, 8, 6, vector, b"", b"")?;
-    try_add(rt, state(0, 0, 0, 5, false), 10, 23, 8, 6, vector, b"", b"")?;
-    try_add(rt, state(3, 0, 0, 0, false), 0, 0, 0, 0, vector, b"", b"")
-}
-
-fn lists(rt: &impl Print, vector: &[f32]) -> io::Result<()> {
-    try_add(rt, state(0, 0, 0, 0, false), 7, 21, 6, 4, vector, b"", b"")?;
-    try_add(rt, state(0, 0, 0, 0, false), 8, 20, 6, 4, vector, b"", b"")?;
-    try_add(rt, state(0, 0, 0, 0, false), 8, 21, 5, 4, vector, b"", b"")?;
-    try_add(rt, state(0, 0, 0, 0, false), 8, 21, 6, 3, vector, b"", b"")?;
-    try_add(rt, state(0, 0, 0, 0, false), 8, 21, 6, 4, vector, b"", b"")?;
-    try_add(rt, state(1, 0, 1, 0, true), 8, 21, 5, 4, vector, b"", b"")?;
-    try_add(rt, state(1, 0, 1, 0, true), 8, 21, 6, 3, vector, b"", b"")?;
+    for index in [
+        state(3, 0, 0, 0, false),
+        state(0, 3, 0, 0, false),
+        state(1, 0, 2, 0, true),
+        state(0, 0, 1, 0, true),
+        state(1, 0, 0, 0, true),
+        state(1, 0, 1, 0, false),
+        state(0, 0, 0, 5, false),
+    ] {
+        try_add(rt, index, ALL, vector, b"", b"")?;
+    }
     try_add(
         rt,
-        state(1, 0, 1, 0, true),
-        8,
-        21,
-        6,
-        4,
-        &[3.0f32],
+        state(3, 0, 0, 0, false),
+        places(0, 0, 0, 0),
+        vector,
         b"",
         b"",
     )
+}
+
+fn lists(rt: &impl Print, vector: &[f32]) -> io::Result<()> {
+    for (index, lent) in [
+        (state(0, 0, 0, 0, false), places(7, 21, 6, 4)),
+        (state(0, 0, 0, 0, false), places(8, 20, 6, 4)),
+        (state(0, 0, 0, 0, false), places(8, 21, 5, 4)),
+        (state(0, 0, 0, 0, false), places(8, 21, 6, 3)),
+        (state(0, 0, 0, 0, false), ENOUGH),
+        (state(1, 0, 1, 0, true), places(8, 21, 5, 4)),
+        (state(1, 0, 1, 0, true), places(8, 21, 6, 3)),
+    ] {
+        try_add(rt, index, lent, vector, b"", b"")?;
+    }
+    try_add(rt, state(1, 0, 1, 0, true), ENOUGH, &[3.0f32], b"", b"")
 }
 
 fn vectors(rt: &impl Print) -> io::Result<()> {
@@ -226,171 +266,46 @@ fn vectors(rt: &impl Print) -> io::Result<()> {
     let greatest = 3.4028235e38f32;
     let infinity = greatest * 2.0;
     let nan = infinity - infinity;
+    try_add(rt, state(0, 0, 0, 0, false), ALL, &[3.0f32], b"", b"")?;
     try_add(
         rt,
         state(0, 0, 0, 0, false),
-        10,
-        23,
-        8,
-        6,
-        &[3.0f32],
-        b"",
-        b"",
-    )?;
-    try_add(
-        rt,
-        state(0, 0, 0, 0, false),
-        10,
-        23,
-        8,
-        6,
+        ALL,
         &[nan, nan, nan],
         b"",
         b"",
     )?;
-    try_add(
-        rt,
-        state(0, 0, 0, 0, false),
-        10,
-        23,
-        8,
-        6,
-        &[greatest, 0.0],
-        b"",
-        b"",
-    )?;
-    try_add(
-        rt,
-        state(0, 0, 0, 0, false),
-        10,
-        23,
-        8,
-        6,
-        &[1e30, -1e30],
-        b"",
-        b"",
-    )?;
-    try_add(
-        rt,
-        state(0, 0, 0, 0, false),
-        10,
-        23,
-        8,
-        6,
-        &[0.0, least],
-        b"",
-        b"",
-    )?;
-    try_add(
-        rt,
-        state(0, 0, 0, 0, false),
-        10,
-        23,
-        8,
-        6,
-        &[infinity, 0.0],
-        b"",
-        b"",
-    )?;
-    try_add(
-        rt,
-        state(0, 0, 0, 0, false),
-        10,
-        23,
-        8,
-        6,
-        &[0.0, -infinity],
-        b"",
-        b"",
-    )?;
-    try_add(
-        rt,
-        state(0, 0, 0, 0, false),
-        10,
-        23,
-        8,
-        6,
-        &[0.0, nan],
-        b"\x01",
-        b"",
-    )
+    for vector in [
+        [greatest, 0.0],
+        [1e30, -1e30],
+        [0.0, least],
+        [infinity, 0.0],
+        [0.0, -infinity],
+    ] {
+        try_add(rt, state(0, 0, 0, 0, false), ALL, &vector, b"", b"")?;
+    }
+    try_add(rt, state(0, 0, 0, 0, false), ALL, &[0.0, nan], b"\x01", b"")
 }
 
 // One length, an odd list; two lengths that are not the bytes; two and four that are, with empty parts; three that are, an odd list.
 fn labels(rt: &impl Print, vector: &[f32]) -> io::Result<()> {
+    try_add(rt, state(0, 0, 0, 0, false), ALL, vector, b"\x01", b"a")?;
+    try_add(rt, state(0, 0, 0, 0, false), ALL, vector, b"\x00", b"")?;
+    try_add(rt, state(0, 0, 0, 0, false), ALL, vector, b"\x01\x00", b"")?;
     try_add(
         rt,
         state(0, 0, 0, 0, false),
-        10,
-        23,
-        8,
-        6,
-        vector,
-        b"\x01",
-        b"a",
-    )?;
-    try_add(
-        rt,
-        state(0, 0, 0, 0, false),
-        10,
-        23,
-        8,
-        6,
-        vector,
-        b"\x00",
-        b"",
-    )?;
-    try_add(
-        rt,
-        state(0, 0, 0, 0, false),
-        10,
-        23,
-        8,
-        6,
-        vector,
-        b"\x01\x00",
-        b"",
-    )?;
-    try_add(
-        rt,
-        state(0, 0, 0, 0, false),
-        10,
-        23,
-        8,
-        6,
+        ALL,
         vector,
         b"\x01\x00",
         b"ab",
     )?;
+    try_add(rt, state(0, 0, 0, 0, false), ALL, vector, b"\x01\x00", b"a")?;
+    try_add(rt, state(0, 0, 0, 0, false), ALL, vector, b"\x00\x01", b"a")?;
     try_add(
         rt,
         state(0, 0, 0, 0, false),
-        10,
-        23,
-        8,
-        6,
-        vector,
-        b"\x01\x00",
-        b"a",
-    )?;
-    try_add(
-        rt,
-        state(0, 0, 0, 0, false),
-        10,
-        23,
-        8,
-        6,
-        vector,
-        b"\x00\x01",
-        b"a",
-    )?;
-    try_add(
-        rt,
-        state(0, 0, 0, 0, false),
-        10,
-        23,
-        8,
-        6,
+        ALL,
         vector,
         b"\x01\x01",
         b"ab",
@@ -398,10 +313,7 @@ fn labels(rt: &impl Print, vector: &[f32]) -> io::Result<()> {
     try_add(
         rt,
         state(0, 0, 0, 0, false),
-        10,
-        23,
-        8,
-        6,
+        ALL,
         vector,
         b"\x02\x00",
         b"ab",
@@ -409,10 +321,7 @@ fn labels(rt: &impl Print, vector: &[f32]) -> io::Result<()> {
     try_add(
         rt,
         state(0, 0, 0, 0, false),
-        10,
-        23,
-        8,
-        6,
+        ALL,
         vector,
         b"\x01\x00\x00\x00",
         b"a",
@@ -420,60 +329,24 @@ fn labels(rt: &impl Print, vector: &[f32]) -> io::Result<()> {
     try_add(
         rt,
         state(0, 0, 0, 0, false),
-        10,
-        23,
-        8,
-        6,
+        ALL,
         vector,
         b"\x01\x01\x00",
         b"ab",
     )?;
-    try_add(
-        rt,
-        state(2, 0, 0, 0, false),
-        10,
-        23,
-        8,
-        6,
-        vector,
-        b"",
-        b"a",
-    )?;
-    try_add(
-        rt,
-        state(2, 0, 0, 0, false),
-        10,
-        23,
-        8,
-        6,
-        vector,
-        b"\x01",
-        b"a",
-    )
+    try_add(rt, state(2, 0, 0, 0, false), ALL, vector, b"", b"a")?;
+    try_add(rt, state(2, 0, 0, 0, false), ALL, vector, b"\x01", b"a")
 }
 
 fn room(rt: &impl Print, vector: &[f32]) -> io::Result<()> {
-    try_add(rt, state(1, 0, 0, 0, false), 10, 23, 8, 6, vector, b"", b"")?;
-    try_add(rt, state(2, 0, 0, 0, false), 10, 23, 8, 6, vector, b"", b"")?;
-    try_add(
-        rt,
-        state(2, 2, 0, 0, false),
-        10,
-        23,
-        8,
-        6,
-        vector,
-        b"\x01\x00",
-        b"a",
-    )?;
-    try_add(rt, state(1, 2, 0, 0, false), 10, 23, 8, 6, vector, b"", b"")?;
+    try_add(rt, state(1, 0, 0, 0, false), ALL, vector, b"", b"")?;
+    try_add(rt, state(2, 0, 0, 0, false), ALL, vector, b"", b"")?;
+    try_add(rt, state(2, 2, 0, 0, false), ALL, vector, b"\x01\x00", b"a")?;
+    try_add(rt, state(1, 2, 0, 0, false), ALL, vector, b"", b"")?;
     try_add(
         rt,
         state(1, 1, 0, 0, false),
-        10,
-        23,
-        8,
-        6,
+        ALL,
         vector,
         b"\x01\x01",
         b"ab",
@@ -481,26 +354,13 @@ fn room(rt: &impl Print, vector: &[f32]) -> io::Result<()> {
     try_add(
         rt,
         state(1, 1, 0, 0, false),
-        10,
-        23,
-        8,
-        6,
+        ALL,
         vector,
         b"\x01\x00\x01\x00",
         b"ab",
     )?;
     let three = b"\x00\x00\x00\x00\x00\x00";
-    try_add(
-        rt,
-        state(0, 0, 0, 0, false),
-        10,
-        23,
-        8,
-        6,
-        vector,
-        three,
-        b"",
-    )
+    try_add(rt, state(0, 0, 0, 0, false), ALL, vector, three, b"")
 }
 
 // An add with these labels to a state with so many counts, with all of the lists.
@@ -516,10 +376,7 @@ fn try_text(
     try_add(
         rt,
         state(vectors, entries, 0, held, false),
-        10,
-        23,
-        8,
-        6,
+        ALL,
         &vector,
         lengths,
         bytes,
@@ -562,14 +419,9 @@ fn owned_by(owner: u32, next_owner: u32) -> Entries {
 fn try_take_back(
     rt: &impl Print,
     index: CuratorIndex,
-    f: usize,
-    n: usize,
-    h: usize,
-    t: usize,
+    lent: Lent,
     entries: Entries,
-) -> io::Result<()>
-    requires { (f ≤ 10) × (n ≤ 23) × (h ≤ 8) × (t ≤ 6) }
-{
+) -> io::Result<()> {
     let floats = [9.0f32; 10];
     let mut numbers = [9u32; 23];
     let hashes = [9u64; 8];
@@ -580,22 +432,32 @@ fn try_take_back(
     numbers[16] = entries.next_start;
     print_answer(
         rt,
-        index.take_back(&floats[..f], &numbers[..n], &hashes[..h], &text[..t]),
+        index.take_back(Lists {
+            floats: &floats[..lent.floats.min(10)],
+            numbers: &numbers[..lent.numbers.min(23)],
+            hashes: &hashes[..lent.hashes.min(8)],
+            text: &text[..lent.text.min(6)],
+        }),
     )
 }
 
 fn back_refused(rt: &impl Print) -> io::Result<()> {
     let entries = owned_by(0, 0);
-    try_take_back(rt, state(3, 0, 0, 0, false), 0, 0, 0, 0, entries)?;
-    try_take_back(rt, state(0, 0, 1, 0, false), 10, 23, 8, 6, entries)?;
-    try_take_back(rt, state(0, 0, 0, 5, false), 10, 23, 8, 6, entries)?;
-    try_take_back(rt, state(1, 0, 1, 0, true), 7, 21, 6, 4, entries)?;
-    try_take_back(rt, state(1, 0, 0, 0, false), 8, 20, 6, 4, entries)?;
-    try_take_back(rt, state(0, 0, 0, 0, false), 8, 21, 5, 4, entries)?;
-    try_take_back(rt, state(0, 0, 0, 0, false), 8, 21, 6, 3, entries)?;
-    try_take_back(rt, state(1, 0, 1, 0, true), 8, 21, 6, 4, entries)?;
-    try_take_back(rt, state(0, 0, 0, 0, false), 8, 21, 6, 4, entries)?;
-    try_take_back(rt, state(0, 2, 0, 0, false), 8, 21, 6, 4, entries)
+    for (index, lent) in [
+        (state(3, 0, 0, 0, false), places(0, 0, 0, 0)),
+        (state(0, 0, 1, 0, false), ALL),
+        (state(0, 0, 0, 5, false), ALL),
+        (state(1, 0, 1, 0, true), places(7, 21, 6, 4)),
+        (state(1, 0, 0, 0, false), places(8, 20, 6, 4)),
+        (state(0, 0, 0, 0, false), places(8, 21, 5, 4)),
+        (state(0, 0, 0, 0, false), places(8, 21, 6, 3)),
+        (state(1, 0, 1, 0, true), ENOUGH),
+        (state(0, 0, 0, 0, false), ENOUGH),
+        (state(0, 2, 0, 0, false), ENOUGH),
+    ] {
+        try_take_back(rt, index, lent, entries)?;
+    }
+    Ok(())
 }
 
 // A taking back from a state with so many vectors, entries and bytes.
@@ -606,28 +468,25 @@ fn back_from(
     held: usize,
     stored: Entries,
 ) -> io::Result<()> {
-    try_take_back(
-        rt,
-        state(vectors, entries, 0, held, false),
-        8,
-        21,
-        6,
-        4,
-        stored,
-    )
+    try_take_back(rt, state(vectors, entries, 0, held, false), ENOUGH, stored)
 }
 
 fn back_accepted(rt: &impl Print) -> io::Result<()> {
-    back_from(rt, 1, 0, 4, owned_by(0, 0))?;
-    back_from(rt, 1, 2, 4, owned_by(0, 0))?;
-    back_from(rt, 2, 0, 4, owned_by(1, 1))?;
-    back_from(rt, 2, 1, 4, owned_by(1, 1))?;
-    back_from(rt, 2, 2, 4, owned_by(1, 1))?;
-    back_from(rt, 2, 2, 4, owned_by(0, 1))?;
-    back_from(rt, 2, 2, 4, owned_by(1, 0))?;
-    back_from(rt, 2, 2, 4, owned_by(0, 0))?;
-    back_from(rt, 2, 2, 4, owned_by(1, 2))?;
-    back_from(rt, 2, 2, 4, owned_by(4294967295, 1))
+    for (vectors, entries, stored) in [
+        (1, 0, owned_by(0, 0)),
+        (1, 2, owned_by(0, 0)),
+        (2, 0, owned_by(1, 1)),
+        (2, 1, owned_by(1, 1)),
+        (2, 2, owned_by(1, 1)),
+        (2, 2, owned_by(0, 1)),
+        (2, 2, owned_by(1, 0)),
+        (2, 2, owned_by(0, 0)),
+        (2, 2, owned_by(1, 2)),
+        (2, 2, owned_by(4294967295, 1)),
+    ] {
+        back_from(rt, vectors, entries, 4, stored)?;
+    }
+    Ok(())
 }
 
 // The start of the first entry that goes, against the bytes held.
@@ -653,12 +512,17 @@ fn back_to(
 }
 
 fn back_bytes(rt: &impl Print) -> io::Result<()> {
-    back_to(rt, 4, 0, 0, 5)?;
-    back_to(rt, 4, 0, 0, 4)?;
-    back_to(rt, 4, 0, 9, 0)?;
-    back_to(rt, 4, 1, 2, 0)?;
-    back_to(rt, 4, 1, 4294967295, 0)?;
-    back_to(rt, 0, 0, 0, 3)
+    for (held, owner, start, next_start) in [
+        (4, 0, 0, 5),
+        (4, 0, 0, 4),
+        (4, 0, 9, 0),
+        (4, 1, 2, 0),
+        (4, 1, 4294967295, 0),
+        (0, 0, 0, 3),
+    ] {
+        back_to(rt, held, owner, start, next_start)?;
+    }
+    Ok(())
 }
 
 // The document ids of two vectors, and their live marks.
@@ -683,14 +547,9 @@ fn of_ids(id: u32, next_id: u32, mark: u32, next_mark: u32) -> Documents {
 fn try_withdraw(
     rt: &impl Print,
     index: CuratorIndex,
-    f: usize,
-    n: usize,
-    h: usize,
-    t: usize,
+    lent: Lent,
     stored: Documents,
-) -> io::Result<()>
-    requires { (f ≤ 10) × (n ≤ 23) × (h ≤ 8) × (t ≤ 6) }
-{
+) -> io::Result<()> {
     let floats = [9.0f32; 10];
     let mut numbers = [9u32; 23];
     let hashes = [9u64; 8];
@@ -702,10 +561,10 @@ fn try_withdraw(
     print_answer(
         rt,
         index.withdraw(
-            &floats[..f],
-            &mut numbers[..n],
-            &hashes[..h],
-            &text[..t],
+            &floats[..lent.floats.min(10)],
+            &mut numbers[..lent.numbers.min(23)],
+            &hashes[..lent.hashes.min(8)],
+            &text[..lent.text.min(6)],
             77,
         ),
     )?;
@@ -716,112 +575,42 @@ fn try_withdraw(
 fn withdraw_refused(rt: &impl Print) -> io::Result<()> {
     let both = of_ids(77, 77, 1, 1);
     let none = of_ids(76, 78, 1, 1);
-    try_withdraw(rt, state(3, 0, 0, 0, false), 0, 0, 0, 0, both)?;
-    try_withdraw(rt, state(3, 0, 0, 0, false), 10, 23, 8, 6, none)?;
-    try_withdraw(rt, state(0, 0, 1, 0, false), 10, 23, 8, 6, both)?;
-    try_withdraw(rt, state(2, 0, 0, 0, true), 10, 23, 8, 6, both)?;
-    try_withdraw(rt, state(2, 0, 0, 5, false), 10, 23, 8, 6, both)?;
-    try_withdraw(rt, state(2, 0, 0, 0, false), 7, 21, 6, 4, both)?;
-    try_withdraw(rt, state(2, 0, 1, 0, true), 8, 20, 6, 4, both)?;
-    try_withdraw(rt, state(2, 0, 0, 0, false), 8, 21, 5, 4, none)?;
-    try_withdraw(rt, state(0, 0, 0, 0, false), 8, 21, 6, 3, none)?;
-    try_withdraw(rt, state(0, 0, 0, 0, false), 8, 21, 6, 4, both)?;
-    try_withdraw(rt, state(2, 0, 0, 0, false), 8, 21, 6, 4, none)?;
-    try_withdraw(rt, state(2, 0, 1, 0, true), 10, 23, 8, 6, none)?;
-    try_withdraw(
-        rt,
-        state(1, 0, 0, 0, false),
-        10,
-        23,
-        8,
-        6,
-        of_ids(76, 77, 1, 1),
-    )
+    for (index, lent, stored) in [
+        (state(3, 0, 0, 0, false), places(0, 0, 0, 0), both),
+        (state(3, 0, 0, 0, false), ALL, none),
+        (state(0, 0, 1, 0, false), ALL, both),
+        (state(2, 0, 0, 0, true), ALL, both),
+        (state(2, 0, 0, 5, false), ALL, both),
+        (state(2, 0, 0, 0, false), places(7, 21, 6, 4), both),
+        (state(2, 0, 1, 0, true), places(8, 20, 6, 4), both),
+        (state(2, 0, 0, 0, false), places(8, 21, 5, 4), none),
+        (state(0, 0, 0, 0, false), places(8, 21, 6, 3), none),
+        (state(0, 0, 0, 0, false), ENOUGH, both),
+        (state(2, 0, 0, 0, false), ENOUGH, none),
+        (state(2, 0, 1, 0, true), ALL, none),
+        (state(1, 0, 0, 0, false), ALL, of_ids(76, 77, 1, 1)),
+    ] {
+        try_withdraw(rt, index, lent, stored)?;
+    }
+    Ok(())
 }
 
 // One vector or both, held or not, with marks of any number; 0 stays.
 fn withdraw_accepted(rt: &impl Print) -> io::Result<()> {
-    try_withdraw(
-        rt,
-        state(2, 0, 0, 0, false),
-        8,
-        21,
-        6,
-        4,
-        of_ids(77, 77, 1, 1),
-    )?;
-    try_withdraw(
-        rt,
-        state(2, 0, 1, 0, true),
-        8,
-        21,
-        6,
-        4,
-        of_ids(77, 77, 1, 1),
-    )?;
-    try_withdraw(
-        rt,
-        state(2, 2, 0, 4, false),
-        10,
-        23,
-        8,
-        6,
-        of_ids(77, 78, 1, 1),
-    )?;
-    try_withdraw(
-        rt,
-        state(2, 0, 1, 0, true),
-        10,
-        23,
-        8,
-        6,
-        of_ids(76, 77, 1, 1),
-    )?;
-    try_withdraw(
-        rt,
-        state(1, 0, 0, 0, false),
-        10,
-        23,
-        8,
-        6,
-        of_ids(77, 77, 1, 1),
-    )?;
-    try_withdraw(
-        rt,
-        state(2, 0, 0, 0, false),
-        10,
-        23,
-        8,
-        6,
-        of_ids(77, 77, 2, 4294967295),
-    )?;
-    try_withdraw(
-        rt,
-        state(2, 0, 0, 0, false),
-        10,
-        23,
-        8,
-        6,
-        of_ids(77, 77, 0, 1),
-    )?;
-    try_withdraw(
-        rt,
-        state(2, 0, 1, 0, true),
-        10,
-        23,
-        8,
-        6,
-        of_ids(77, 76, 0, 0),
-    )?;
-    try_withdraw(
-        rt,
-        state(2, 0, 0, 0, false),
-        10,
-        23,
-        8,
-        6,
-        of_ids(65613, 77, 3, 3),
-    )
+    for (index, lent, stored) in [
+        (state(2, 0, 0, 0, false), ENOUGH, of_ids(77, 77, 1, 1)),
+        (state(2, 0, 1, 0, true), ENOUGH, of_ids(77, 77, 1, 1)),
+        (state(2, 2, 0, 4, false), ALL, of_ids(77, 78, 1, 1)),
+        (state(2, 0, 1, 0, true), ALL, of_ids(76, 77, 1, 1)),
+        (state(1, 0, 0, 0, false), ALL, of_ids(77, 77, 1, 1)),
+        (state(2, 0, 0, 0, false), ALL, of_ids(77, 77, 2, 4294967295)),
+        (state(2, 0, 0, 0, false), ALL, of_ids(77, 77, 0, 1)),
+        (state(2, 0, 1, 0, true), ALL, of_ids(77, 76, 0, 0)),
+        (state(2, 0, 0, 0, false), ALL, of_ids(65613, 77, 3, 3)),
+    ] {
+        try_withdraw(rt, index, lent, stored)?;
+    }
+    Ok(())
 }
 
 fn main(rt: HostRuntime) -> io::Result<()> {

@@ -1,60 +1,47 @@
 -- Lemmas of the proofs in `load`.
-use Prim.Native.Nat.{ℕ, ◌-◌, ◌*◌, ◌≤◌, ◌<◌}
+use Prim.Native.Nat.{ℕ, ◌-◌, ◌≤◌}
 use native.Mathlib.Omega.{arith}
-use mathlib.Core.Bool.{Bool, true, false, cond}
-use mathlib.Core.List.{List, [], ◌∷◌, ◌++◌, map}
+use mathlib.Core.Bool.{true}
+use mathlib.Core.List.{List, map}
 use mathlib.Core.Path.{◌≡◌, refl, sym, ap, ap₂, ◌∙◌, subst}
-use borrow.Author.Tests.{lt-ltb, le-ltb, le-leb, lt-leb}
-use lib.Dec.{leb}
-use lib.Ieee.{Float, binary32, of_bits}
-use lib.ListN.{length, take, drop, length-append, length-map}
-use lib.Seq.{take_at}
+use lib.Ieee.{Float}
+use lib.ListN.{length, drop, length-map}
 use Rattle.lists.specs.Lists.{total, pieces}
 use Rattle.lists.specs.Parts.{length_part}
 use Rattle.label.specs.Names.{whole_lengths}
-use Rattle.label.specs.NameLaws.{length_whole, names-whole, whole-fit}
+use Rattle.label.specs.NameLaws.{names-whole, whole-fit}
 use Rattle.curator.specs.declared.CuratorIndex.{CuratorIndex}
-use Rattle.curator.specs.declared.Changed.{Changed}
-use Rattle.curator.specs.declared.Changed.TheVariants as Changed'
-use Rattle.curator.specs.declared.Found.{Found as Reply}
-use Rattle.settings.specs.declared.refusal.Refusal.{Refusal}
-use Rattle.settings.specs.declared.refusal.Refusal.TheVariants.{Settings, Input}
-use Rattle.settings.specs.declared.refusal.SettingsRefusal.TheVariants.{InvalidConfig}
-use Rattle.settings.specs.declared.refusal.InputRefusal.TheVariants.{BadRecord, SettingsOrder, FileTooLong}
-use Rattle.curator.specs.Changes.{Adds, Builds}
-use Rattle.curator.specs.Arguments.{AddCall, add_of, SearchCall}
-use Rattle.curator.specs.Searches.{Searches}
+use Rattle.std.specs.Prelude.{Option, Some, None}
+use Rattle.settings.specs.declared.refusal.Refusal.TheVariants.{Input}
+use Rattle.settings.specs.declared.refusal.InputRefusal.TheVariants.{BadRecord, SettingsOrder}
+use Rattle.curator.specs.Changes.{Adds}
+use Rattle.curator.specs.Arguments.{AddCall, add_of}
 use Rattle.echo_file.specs.Format as format
 use Rattle.echo_file.specs.Format.{Bytes, Begins}
-use Rattle.echo_file.specs.FieldLaws.{bytes_drop, length-numbers, length-label_bytes, pieces-label_bytes}
-use Rattle.echo_file.specs.Decode.{Decoded, numbers, decode}
+use Rattle.echo_file.specs.FieldLaws.{bytes_drop, length-label_bytes, pieces-label_bytes}
+use Rattle.echo_file.specs.Decode.{Decoded, decode}
 use Rattle.text.specs.Lines.{Written}
 use Rattle.echo_file.specs.DecodeLaws.{finds, none_exactly}
 use Rattle.echo_file.specs.declared.Located.{Located}
 use Rattle.echo_file.specs.declared.Located.TheVariants.{Settings as SettingsAt, Vector, Filtered, Search}
-use Rattle.echo_file.specs.declared.Reading.TheVariants.{Found}
 use Rattle.echo_file.specs.Reads.{bytes_between, patterns_at, Stands, Reads}
-use Rattle.load.specs.declared.Loading.{Loading}
-use Rattle.load.specs.declared.Loading.TheVariants.{Unset, Running}
 use Rattle.load.specs.declared.carry.Carried.{Carried}
-use Rattle.load.specs.declared.carry.Carried.TheVariants.{End, Refused, Silent}
-use Rattle.load.specs.File.{floats, add_call}
+use Rattle.load.specs.declared.carry.Carried.TheVariants.{Refused}
+use Rattle.load.specs.File.{add_call}
 use Rattle.load.specs.declared.task.Vector.{Vector as Placed}
-use Rattle.load.specs.declared.task.Task.{Task}
-use Rattle.load.specs.declared.task.Task.TheVariants.{Done, Add, Find}
-use Rattle.load.specs.Step.{LoadLists, known, opened_by, found_by, search_end, SearchesBuilt, KeepsLists, CarriesOut, CarriesRead, CarriesAt, Carries}
-use Rattle.load.specs.Code.{floats_at, add_at, CarriesFirst, CarriesNext, Asks, task_of}
+use Rattle.load.specs.Step.{LoadLists, known, KeepsLists, CarriesOut, CarriesRead}
+use Rattle.load.specs.Code.{floats_at, add_at, CarriesNext, Asks, task_of}
 
 -- ---- the record at a place
 
-pub stands-carried : (file : List ℕ) (at : ℕ) (loading : Loading) (lent : LoadLists) (carried : Carried) (lent' : LoadLists) (r : format.FileRecord) (next : ℕ)
+pub stands-carried : (file : List ℕ) (at : ℕ) (loading : Option CuratorIndex) (lent : LoadLists) (carried : Carried) (lent' : LoadLists) (r : format.FileRecord) (next : ℕ)
     → Stands (known loading) file at r next → CarriesOut loading r next lent carried lent'
     → CarriesRead (decode (known loading) (drop at file)) file at loading lent carried lent'
 stands-carried file at loading lent carried lent' r next s out =
     subst (λ (d : Decoded format.FileRecord). CarriesRead d file at loading lent carried lent')
     (sym (finds (known loading) (drop at file) r (drop next file) s.begins)) (next, refl, s.forward, s.inside, out)
 
-pub bad_carried : (file : List ℕ) (at : ℕ) (loading : Loading) (lent : LoadLists) (carried : Carried) (lent' : LoadLists) → Bytes file
+pub bad_carried : (file : List ℕ) (at : ℕ) (loading : Option CuratorIndex) (lent : LoadLists) (carried : Carried) (lent' : LoadLists) → Bytes file
     → ((r : format.FileRecord) (rest : List ℕ) → Begins (known loading) (drop at file) r rest → ⊥) → KeepsLists lent (Refused (Input BadRecord)) carried lent'
     → CarriesRead (decode (known loading) (drop at file)) file at loading lent carried lent'
 bad_carried file at loading lent carried lent' b never keeps =
@@ -74,11 +61,11 @@ read_names document vector labels {lengths} {bytes} e f =
 
 -- after the settings
 pub task_asks : (index : CuratorIndex) (file : List ℕ) (at : ℕ) (located : Located) → index.dimension ≤ 16
-    → Reads (known (Running index)) file at (Found located) → Asks file (CarriesNext index file at) (task_of index located)
+    → Reads (known (Some index)) file at (Some located) → Asks file (CarriesNext index file at) (task_of index located)
 task_asks index file at (SettingsAt d b l e w next) n s =
-    λ lent. stands-carried file at (Running index) lent (Refused (Input SettingsOrder)) lent (format.settings d b l e w) next s (refl, refl)
+    λ lent. stands-carried file at (Some index) lent (Refused (Input SettingsOrder)) lent (format.settings d b l e w) next s (refl, refl)
 task_asks index file at (Vector document lengths-at labels-at place next) n s =
-    let patterns = patterns_at (known (Running index)) file place in
+    let patterns = patterns_at (known (Some index)) file place in
     let v : Placed = record { doc_id = document; lengths_at = lengths-at; labels_at = labels-at; floats_at = place; next = next } in
     let same : add_at index file v ≡ add_call document s.labels patterns =
     read_names document (floats_at index.dimension file place) s.labels s.lengths s.bytes in
@@ -89,7 +76,7 @@ task_asks index file at (Vector document lengths-at labels-at place next) n s =
       stands = record { narrow = n; lengths_order = s.lengths_order; few = omega (arith, many, s.stands.begins.fits.1); labels_order = s.labels_order; inside = omega (arith, s.floats_end, s.stands.inside) };
       comes = λ lent carried store a.
           let lent' : LoadLists = record { store = store; work = lent.work; ids = lent.ids; distances = lent.distances } in
-          stands-carried file at (Running index) lent carried lent' (format.vector document s.labels patterns) next s.stands
+          stands-carried file at (Some index) lent carried lent' (format.vector document s.labels patterns) next s.stands
           (record {
             answer = a.0;
             adds = subst (λ (x : AddCall). Adds index lent.store x a.0 store) same a.1;
@@ -103,29 +90,29 @@ task_asks index file at (Filtered k label_at place next) n s =
     record {
       stands = record { narrow = n; label_order = s.label_order; inside = omega (arith, s.floats_end, s.stands.inside) };
       comes = λ lent carried lent' a.
-          stands-carried file at (Running index) lent carried lent'
-          (format.filtered k (bytes_between label_at place file) (patterns_at (known (Running index)) file place))
+          stands-carried file at (Some index) lent carried lent'
+          (format.filtered k (bytes_between label_at place file) (patterns_at (known (Some index)) file place))
           next
           s.stands
           a;
     }
 task_asks index file at (Search k place next) n s =
     record {
-      stands = record { narrow = n; label_order = omega arith; inside = omega (arith, s.floats_end, s.stands.inside) };
+      stands = record { narrow = n; label_order = tt; inside = omega (arith, s.floats_end, s.stands.inside) };
       comes = λ lent carried lent' a.
-          stands-carried file at (Running index) lent carried lent' (format.unfiltered k (patterns_at (known (Running index)) file place)) next s.stands a;
+          stands-carried file at (Some index) lent carried lent' (format.unfiltered k (patterns_at (known (Some index)) file place)) next s.stands a;
     }
 
 -- a first record that is not settings
 pub first_misplaced : (file : List ℕ) (at : ℕ) (lent : LoadLists) (carried : Carried) (located : Located)
     → ((d b l e w next : ℕ) → located ≡ SettingsAt d b l e w next → ⊥)
-    → Reads (known Unset) file at (Found located) → carried ≡ Refused (Input SettingsOrder)
-    → CarriesRead (decode (known Unset) (drop at file)) file at Unset lent carried lent
+    → Reads (known None) file at (Some located) → carried ≡ Refused (Input SettingsOrder)
+    → CarriesRead (decode (known None) (drop at file)) file at None lent carried lent
 first_misplaced file at lent carried (SettingsAt d b l e w next) o s k = absurd (o d b l e w next refl)
 first_misplaced file at lent carried (Vector document lengths-at labels-at floats-at next) o s k =
-    stands-carried file at Unset lent carried lent _ next s.stands (k, refl)
-first_misplaced file at lent carried (Filtered n label_at floats-at next) o s k = stands-carried file at Unset lent carried lent _ next s.stands (k, refl)
-first_misplaced file at lent carried (Search n floats-at next) o s k = stands-carried file at Unset lent carried lent _ next s.stands (k, refl)
+    stands-carried file at None lent carried lent _ next s.stands (k, refl)
+first_misplaced file at lent carried (Filtered n label_at floats-at next) o s k = stands-carried file at None lent carried lent _ next s.stands (k, refl)
+first_misplaced file at lent carried (Search n floats-at next) o s k = stands-carried file at None lent carried lent _ next s.stands (k, refl)
 
 -- ---- what is written
 

@@ -2,7 +2,7 @@
 -- and state and store go on standing for the model.
 use Prim.Native.Nat.{ℕ, zero, suc, ◌≤◌, ◌<◌}
 use Rattle.std.proofs.Common.{zero-add, arith, ap₂, ◌∙◌}
-use Rattle.std.specs.Prelude.{Bool, true, false, cond, ◌≡◌, refl, ltb, Float, get_or}
+use Rattle.std.specs.Prelude.{Bool, true, false, cond, ◌≡◌, refl, ltb, Float, get_or, Result, Ok, Err, Option, Some, None, ⊤}
 use mathlib.Core.List.{List, [], ◌++◌, append-nil}
 use Rattle.std.proofs.Math.Path.{sym, ap, subst}
 use Rattle.std.specs.Float.{nan, binary32}
@@ -22,12 +22,7 @@ use Rattle.walk.specs.Answer.{answer, ranked, document_of, distance_of}
 use Rattle.curator.specs.declared.CuratorIndex.{CuratorIndex}
 use Rattle.settings.specs.Given.{params_of}
 use Rattle.settings.specs.declared.CuratorParams.{CuratorParams}
-use Rattle.settings.specs.declared.Check.{Check}
-use Rattle.settings.specs.declared.Check.TheVariants as Check'
-use Rattle.curator.specs.declared.Changed.{Changed}
-use Rattle.curator.specs.declared.Changed.TheVariants as Changed'
-use Rattle.curator.specs.declared.Found.{Found}
-use Rattle.curator.specs.declared.Found.TheVariants as Found'
+use Rattle.walk.specs.declared.Searched.{Searched}
 use Rattle.settings.specs.declared.refusal.Refusal.{Refusal}
 use Rattle.settings.specs.declared.refusal.Refusal.TheVariants.{Settings, Input}
 use Rattle.settings.specs.declared.refusal.SettingsRefusal.TheVariants.{InvalidConfig}
@@ -52,8 +47,6 @@ use Rattle.runs.proofs.Reached.{change-keeps, search-step}
 use Rattle.runs.proofs.Contents.{alike-expected}
 use Rattle.echo_file.specs.Format.{FileRecord, settings, vector, filtered, unfiltered}
 use Rattle.text.specs.Lines.{hit_lines, hit_line_at, hit_line, closing_line, refused_line}
-use Rattle.load.specs.declared.Loading.{Loading}
-use Rattle.load.specs.declared.Loading.TheVariants.{Unset, Running}
 use Rattle.load.specs.declared.carry.Carried.{Carried}
 use Rattle.load.specs.declared.carry.Carried.TheVariants.{Refused, Silent, Answered}
 use Rattle.load.specs.declared.LoadStep.TheVariants.{Next}
@@ -65,22 +58,22 @@ use Rattle.load.specs.Theorem.{Sized}
 use Rattle.curator.specs.OutcomeLaws.{found-is}
 
 -- state and store stand for what the model says of the file so far
-abbrev pub StandsAs : FileProgress → Loading → Store → Type 0
-StandsAs unset Unset store = Unit {0}
-StandsAs unset (Running index) store = ⊥
-StandsAs (running s m) Unset store = ⊥
-StandsAs (running s m) (Running index) store = Allowed s × Invariant s m index store
+abbrev pub StandsAs : FileProgress → Option CuratorIndex → Store → Type 0
+StandsAs unset None store = Unit {0}
+StandsAs unset (Some index) store = ⊥
+StandsAs (running s m) None store = ⊥
+StandsAs (running s m) (Some index) store = Allowed s × Invariant s m index store
 
 -- a record came to what the model says: refused with the same text, or the same text and what stands for the model after it
 abbrev pub Agrees : Outcome → ℕ → Carried → step.LoadLists → Type 0
 Agrees (stops text) next carried lent = (q : Refusal) × (carried ≡ Refused q) × (refused_text q ≡ text)
 Agrees (printed text progress) next carried lent =
-    (loading : Loading) × ((n : ℕ) → step_of carried n ≡ Next loading next n) × (carried_text carried lent.ids lent.distances ≡ text) × StandsAs progress loading lent.store
+    (loading : Option CuratorIndex) × ((n : ℕ) → step_of carried n ≡ Next loading next n) × (carried_text carried lent.ids lent.distances ≡ text) × StandsAs progress loading lent.store
 
 -- ---- whole lists are lent
 
 -- a change of the whole lists
-change-whole : (s : Setting) → Allowed s → (m : Model) (index : CuratorIndex) (lent : step.LoadLists) → Sized lent → (work work' : List ℕ) (store' : Store) (what : Change) (answer : Changed)
+change-whole : (s : Setting) → Allowed s → (m : Model) (index : CuratorIndex) (lent : step.LoadLists) → Sized lent → (work work' : List ℕ) (store' : Store) (what : Change) (answer : Result CuratorIndex Refusal)
     → Invariant s m index lent.store → Changes what index lent.store work answer store' work'
     → ChangeEnds s m fronts (length work) what answer (next_index index answer) store'
 change-whole s allowed m index lent z work work' store' what answer inv by =
@@ -91,24 +84,24 @@ change-whole s allowed m index lent z work work' store' what answer inv by =
 -- ---- settings
 
 open_by : (b : Bool) (index : CuratorIndex) (d : ℕ) (params : CuratorParams) (next : ℕ) (c : Carried) (lent : step.LoadLists)
-    → Creates d params capacities (Changed'.Index index)
-    → c ≡ cond b (Refused (Settings InvalidConfig)) (Silent (Running index) next)
+    → Creates d params capacities (Ok index)
+    → c ≡ cond b (Refused (Settings InvalidConfig)) (Silent (Some index) next)
     → Agrees (cond b (stops (refused_text (Settings InvalidConfig))) (printed [] (running (record { dimension = d; params = params; capacities = capacities }) empty_model))) next c lent
 open_by true index d params next c lent e k = (Settings InvalidConfig, k, refl)
 open_by false index d params next c lent e k =
     let s : Setting = record { dimension = d; params = params; capacities = capacities } in
     let accepted = created-is s index e in (
-      Running index,
+      Some index,
       (λ n. ap (λ (x : Carried). step_of x n) k),
       ap (λ (x : Carried). carried_text x lent.ids lent.distances) k,
       (accepted.1, begins s index lent.store accepted.0),
     )
 
-open_agrees : (answer : Changed) (d : ℕ) (params : CuratorParams) (next : ℕ) (c : Carried) (lent : step.LoadLists) → Creates d params capacities answer
+open_agrees : (answer : Result CuratorIndex Refusal) (d : ℕ) (params : CuratorParams) (next : ℕ) (c : Carried) (lent : step.LoadLists) → Creates d params capacities answer
     → c ≡ opened_by answer d next → Agrees (opened answer d params) next c lent
 unfolding opened
-open_agrees (Changed'.Refused r) d params next c lent e k = (r, k, refl)
-open_agrees (Changed'.Index index) d params next c lent e k = open_by (ltb 16 d) index d params next c lent e k
+open_agrees (Err r) d params next c lent e k = (r, k, refl)
+open_agrees (Ok index) d params next c lent e k = open_by (ltb 16 d) index d params next c lent e k
 
 -- ---- a vector
 
@@ -122,14 +115,14 @@ refused_called zero later h = absurd (omega (arith, h))
 refused_called (suc n) later h = refl
 
 module _ (s : Setting) (allowed : Allowed s) (index : CuratorIndex) where
-  add_by : (m' : Model) (next : ℕ) (c : Carried) (lent : step.LoadLists) (n : ℕ) (answer : Changed) → changed_number answer ≡ n
+  add_by : (m' : Model) (next : ℕ) (c : Carried) (lent : step.LoadLists) (n : ℕ) (answer : Result CuratorIndex Refusal) → changed_number answer ≡ n
       → Invariant s m' (next_index index answer) lent.store → c ≡ added_by answer next → Agrees (called (returns n) (printed [] (running s m'))) next c lent
   unfolding called next_index refused_text
-  add_by m' next c lent (suc n) (Changed'.Index i) e inv k = absurd (omega (arith, e))
-  add_by m' next c lent (suc n) (Changed'.Refused q) e inv k = (q, k, ap refused_line e)
-  add_by m' next c lent zero (Changed'.Refused q) e inv k = no_number q (sym e)
-  add_by m' next c lent zero (Changed'.Index i) e inv k =
-      (Running i, (λ n. ap (λ (x : Carried). step_of x n) k), ap (λ (x : Carried). carried_text x lent.ids lent.distances) k, (allowed, inv))
+  add_by m' next c lent (suc n) (Ok i) e inv k = absurd (omega (arith, e))
+  add_by m' next c lent (suc n) (Err q) e inv k = (q, k, ap refused_line e)
+  add_by m' next c lent zero (Err q) e inv k = no_number q (sym e)
+  add_by m' next c lent zero (Ok i) e inv k =
+      (Some i, (λ n. ap (λ (x : Carried). step_of x n) k), ap (λ (x : Carried). carried_text x lent.ids lent.distances) k, (allowed, inv))
 
   add_agrees : (m : Model) (call : AddCall) (next : ℕ) (lent : step.LoadLists) (c : Carried) (lent' : step.LoadLists) → Sized lent → Invariant s m index lent.store
       → AddsVector index call next lent c lent' → Agrees (outcome_of s m (adding_calls call)) next c lent'
@@ -156,17 +149,17 @@ lines_in_front ids distances newIds newDistances e p q =
     (get_d_front distances newDistances i nan (omega (arith, below, e)) (omega (arith, q, e))))
 
 module _ (s : Setting) (allowed : Allowed s) (m : Model) (index : CuratorIndex) (next : ℕ) (c : Carried) where
-  answer_by_lem : (w : walk.Progress) (call : SearchCall) (lent : step.LoadLists) (reply : Found) → call.k ≤ length call.ids → call.k ≤ length call.distances
+  answer_by_lem : (w : walk.Progress) (call : SearchCall) (lent : step.LoadLists) (reply : Result Searched Refusal) → call.k ≤ length call.ids → call.k ≤ length call.distances
       → AnsweredWith (found (search_end reply lent)) (reply_of (answer (row_live m) call.k w) call) → c ≡ found_by index reply next
       → Invariant s m index lent.store → Agrees (called (answers (answer (row_live m) call.k w)) (printed [] (running s m))) next c lent
   unfolding called before answer answer_text
   answer_by_lem w call lent reply p q h k inv =
       let a = answer (row_live m) call.k w in
       let hits = take call.k (ranked (row_live m) w) in
-      let is : c ≡ Answered index next (length a.ids) a.opened a.complete = k ∙ ap (λ (x : Found). found_by index x next) (found-is _ _ _ _ h.0) in
+      let is : c ≡ Answered index next (length a.ids) a.opened a.complete = k ∙ ap (λ (x : Result Searched Refusal). found_by index x next) (found-is _ _ _ _ h.0) in
       let few : length a.ids ≤ call.k = omega (arith, length-map hits document_of, length-take call.k (ranked (row_live m) w)) in
       let same : length a.distances ≡ length a.ids = length-map hits distance_of ∙ sym (length-map hits document_of) in (
-        Running index,
+        Some index,
         (λ n. ap (λ (x : Carried). step_of x n) is),
         ap (λ (x : Carried). carried_text x lent.ids lent.distances) is
             ∙ ap (λ (t : List ℕ). t ++ closing_line a.complete a.opened)
@@ -176,15 +169,15 @@ module _ (s : Setting) (allowed : Allowed s) (m : Model) (index : CuratorIndex) 
         (allowed, inv),
       )
 
-  search_by : (check : Check) (w : State) (call : SearchCall) (lent : step.LoadLists) (work : List ℕ) (reply : Found)
-      → (check ≡ Check'.Fine → (call.k ≤ length call.ids) × (call.k ≤ length call.distances))
+  search_by : (check : Result ⊤ Refusal) (w : State) (call : SearchCall) (lent : step.LoadLists) (work : List ℕ) (reply : Result Searched Refusal)
+      → (check ≡ Ok tt → (call.k ≤ length call.ids) × (call.k ≤ length call.distances))
       → Matches (searched_by m check call.k w) (search fronts work call) (found (search_end reply lent)) → c ≡ found_by index reply next
       → Invariant s m index lent.store → Agrees (called (searched_by m check call.k w) (printed [] (running s m))) next c lent
   unfolding searched_by answered refused_text
-  search_by Check'.Fine damaged call lent work reply room h k inv = absurd h
-  search_by Check'.Fine (going p) call lent work reply room h k inv = answer_by_lem p call lent reply (room refl).0 (room refl).1 h k inv
-  search_by (Check'.Refused r) w call lent work (Found'.Hits count opened complete) room h k inv = no_number r h.0
-  search_by (Check'.Refused r) w call lent work (Found'.Refused q) room h k inv =
+  search_by (Ok _) damaged call lent work reply room h k inv = absurd h
+  search_by (Ok _) (going p) call lent work reply room h k inv = answer_by_lem p call lent reply (room refl).0 (room refl).1 h k inv
+  search_by (Err r) w call lent work (Ok s) room h k inv = no_number r h.0
+  search_by (Err r) w call lent work (Err q) room h k inv =
       subst (λ (o : Outcome). Agrees o next c lent) (sym (refused_called (number r) (printed [] (running s m)) (number-positive r))) (q, k, ap refused_line h.0)
 
 -- a search with the lists that the code lends, and the file's: alike
@@ -204,7 +197,7 @@ module _ (s : Setting) (m : Model) (k : ℕ) (asked : Asked) (patterns : List �
     },
   )
 
-  search_agrees : (index : CuratorIndex) (next : ℕ) (c : Carried) (lent' : step.LoadLists) (work : List ℕ) (reply : Found) → Allowed s → Lent fronts lent'.store
+  search_agrees : (index : CuratorIndex) (next : ℕ) (c : Carried) (lent' : step.LoadLists) (work : List ℕ) (reply : Result Searched Refusal) → Allowed s → Lent fronts lent'.store
       → length work ≡ work_size largest
       → Invariant s m index lent'.store → Searches index lent'.store work brought (search_end reply lent') → c ≡ found_by index reply next
       → Agrees (called (expected s m (search fronts file.work (search_call k asked patterns))) (printed [] (running s m))) next c lent'
@@ -233,15 +226,15 @@ module _ (s : Setting) (m : Model) (k : ℕ) (asked : Asked) (patterns : List �
 -- a build, and the search after it
 module _ (s : Setting) (allowed : Allowed s) (index : CuratorIndex) (k : ℕ) (asked : Asked) (patterns : List ℕ) (next : ℕ) (c : Carried)
     (lent lent' : step.LoadLists) (z : Sized lent) where
-  build_by : (m' : Model) (n : ℕ) (answer : Changed) (work : List ℕ) → changed_number answer ≡ n → Invariant s m' (next_index index answer) lent'.store
+  build_by : (m' : Model) (n : ℕ) (answer : Result CuratorIndex Refusal) (work : List ℕ) → changed_number answer ≡ n → Invariant s m' (next_index index answer) lent'.store
       → Lent fronts lent'.store → length work ≡ work_size largest
       → AfterBuild answer work (search_with (file.floats patterns) k asked) next lent c lent'
       → Agrees (called (returns n) (called (expected s m' (search fronts file.work (search_call k asked patterns))) (printed [] (running s m')))) next c lent'
   unfolding called next_index refused_text
-  build_by m' (suc n) (Changed'.Index i) work e inv sizes w by = absurd (omega (arith, e))
-  build_by m' (suc n) (Changed'.Refused q) work e inv sizes w by = (q, by.0, ap refused_line e)
-  build_by m' zero (Changed'.Refused q) work e inv sizes w by = no_number q (sym e)
-  build_by m' zero (Changed'.Index i) work e inv sizes w by =
+  build_by m' (suc n) (Ok i) work e inv sizes w by = absurd (omega (arith, e))
+  build_by m' (suc n) (Err q) work e inv sizes w by = (q, by.0, ap refused_line e)
+  build_by m' zero (Err q) work e inv sizes w by = no_number q (sym e)
+  build_by m' zero (Ok i) work e inv sizes w by =
       search_agrees s m' k asked patterns lent z i next c lent' work by.0 allowed sizes w inv by.1 by.2
 
   build_agrees : (m : Model) → Invariant s m index lent.store → SearchesBuilt index (search_with (file.floats patterns) k asked) next lent c lent'
@@ -252,30 +245,30 @@ module _ (s : Setting) (allowed : Allowed s) (index : CuratorIndex) (k : ℕ) (a
       let same = build-lengths index lent.store lent.work a.answer lent'.store a.work a.builds in
       let sizes : Lent fronts lent'.store = sym same.0 ∙ z.store in
       let w : length lent.work ≡ length file.work = z.work ∙ sym (length-replicate {A = ℕ} (work_size largest) 0) in
-      let check : ℕ → Check = λ n. change_check s m fronts n build in
+      let check : ℕ → Result ⊤ Refusal = λ n. change_check s m fronts n build in
       subst (λ (n : ℕ). Agrees (called (returns (check_number (check n))) (called (expected s (changed_by (check n) build m) (search fronts file.work (search_call k asked patterns)))
       (printed [] (running s (changed_by (check n) build m))))) next c lent') w
       (build_by (changed_by (check (length lent.work)) build m) (check_number (check (length lent.work))) a.answer a.work ends.number_is ends.invariant sizes (sym same.1 ∙ z.work) a.searches)
 
 -- ---- every record
 
-pub record_agrees : (progress : FileProgress) (loading : Loading) (r : FileRecord) (next : ℕ) (lent : step.LoadLists) (c : Carried) (lent' : step.LoadLists) → Sized lent
+pub record_agrees : (progress : FileProgress) (loading : Option CuratorIndex) (r : FileRecord) (next : ℕ) (lent : step.LoadLists) (c : Carried) (lent' : step.LoadLists) → Sized lent
     → StandsAs progress loading lent.store → CarriesOut loading r next lent c lent' → Agrees (carried progress r) next c lent'
 unfolding carried
-record_agrees unset Unset (settings d b l e w) next lent c lent' z h out =
+record_agrees unset None (settings d b l e w) next lent c lent' z h out =
     let params = params_of b l e w in
     let o = out.0 in
-    subst (λ (answer : Changed). Agrees (opened answer d params) next c lent') (creates-is d params capacities o.answer o.creates)
+    subst (λ (answer : Result CuratorIndex Refusal). Agrees (opened answer d params) next c lent') (creates-is d params capacities o.answer o.creates)
     (open_agrees o.answer d params next c lent' o.creates o.comes)
-record_agrees unset Unset (vector document labels patterns) next lent c lent' z h out = (Input SettingsOrder, out.0, refl)
-record_agrees unset Unset (filtered k label patterns) next lent c lent' z h out = (Input SettingsOrder, out.0, refl)
-record_agrees unset Unset (unfiltered k patterns) next lent c lent' z h out = (Input SettingsOrder, out.0, refl)
-record_agrees unset (Running index) r next lent c lent' z h out = absurd h
-record_agrees (running s m) Unset r next lent c lent' z h out = absurd h
-record_agrees (running s m) (Running index) (settings d b l e w) next lent c lent' z h out = (Input SettingsOrder, out.0, refl)
-record_agrees (running s m) (Running index) (vector document labels patterns) next lent c lent' z h out =
+record_agrees unset None (vector document labels patterns) next lent c lent' z h out = (Input SettingsOrder, out.0, refl)
+record_agrees unset None (filtered k label patterns) next lent c lent' z h out = (Input SettingsOrder, out.0, refl)
+record_agrees unset None (unfiltered k patterns) next lent c lent' z h out = (Input SettingsOrder, out.0, refl)
+record_agrees unset (Some index) r next lent c lent' z h out = absurd h
+record_agrees (running s m) None r next lent c lent' z h out = absurd h
+record_agrees (running s m) (Some index) (settings d b l e w) next lent c lent' z h out = (Input SettingsOrder, out.0, refl)
+record_agrees (running s m) (Some index) (vector document labels patterns) next lent c lent' z h out =
     add_agrees s h.0 index m (file.add_call document labels patterns) next lent c lent' z h.1 out
-record_agrees (running s m) (Running index) (filtered k label patterns) next lent c lent' z h out =
+record_agrees (running s m) (Some index) (filtered k label patterns) next lent c lent' z h out =
     build_agrees s h.0 index k (labelled label) patterns next c lent lent' z m h.1 out
-record_agrees (running s m) (Running index) (unfiltered k patterns) next lent c lent' z h out =
+record_agrees (running s m) (Some index) (unfiltered k patterns) next lent c lent' z h out =
     build_agrees s h.0 index k everything patterns next c lent lent' z m h.1 out

@@ -1,9 +1,9 @@
 -- What the functions of the code promise; `Steps` is made of it.
-use Rattle.std.specs.Prelude.{ℕ, ◌+◌, ◌*◌, ◌≤◌, Bool, true, false, List, ◌≡◌, Float, length, drop}
+use Rattle.std.specs.Prelude.{ℕ, ◌+◌, ◌*◌, ◌≤◌, List, ◌≡◌, Float, length, drop, Result, Option, Some, None}
 use Rattle.label.specs.Names.{whole_lengths}
 use Rattle.store.specs.Store.{Store}
 use Rattle.curator.specs.declared.CuratorIndex.{CuratorIndex}
-use Rattle.curator.specs.declared.Changed.{Changed}
+use Rattle.settings.specs.declared.refusal.Refusal.{Refusal}
 use Rattle.settings.specs.declared.refusal.Refusal.TheVariants.{Input}
 use Rattle.settings.specs.declared.refusal.InputRefusal.TheVariants.{SettingsOrder}
 use Rattle.store.specs.Lent.{store_of}
@@ -13,8 +13,6 @@ use Rattle.echo_file.specs.declared.Located.{Located}
 use Rattle.echo_file.specs.declared.Located.TheVariants.{Settings, Vector as VectorAt, Filtered, Search}
 use Rattle.echo_file.specs.Decode.{decode}
 use Rattle.echo_file.specs.Reads.{bytes_between, patterns_at}
-use Rattle.load.specs.declared.Loading.{Loading}
-use Rattle.load.specs.declared.Loading.TheVariants.{Unset, Running}
 use Rattle.load.specs.declared.carry.Carried.{Carried}
 use Rattle.load.specs.declared.carry.Carried.TheVariants.{End, Refused, Silent, Answered}
 use Rattle.load.specs.declared.task.Vector.{Vector}
@@ -26,20 +24,22 @@ use Rattle.load.specs.declared.LoadStep.TheVariants.{Ended, Next}
 use Rattle.load.specs.File.{floats}
 use Rattle.load.specs.Step.{LoadLists, known, added_by, SearchesBuilt, search_with, CarriesRead}
 
--- the lists that a step is lent
-abbrev pub lists : List Float → List ℕ → List ℕ → List ℕ → List ℕ → List ℕ → List Float → LoadLists
-lists floats numbers hashes labels work ids distances =
-    record { store = store_of floats numbers hashes labels; work = work; ids = ids; distances = distances }
+-- the lists that a step is lent, over a store and over the lists of one
+abbrev pub over : Store → List ℕ → List ℕ → List Float → LoadLists
+over store work ids distances = record { store = store; work = work; ids = ids; distances = distances }
 
--- what a search asks for: a label where it is filtered
-abbrev pub asked_for : Bool → List ℕ → Asked
-asked_for true label = labelled label
-asked_for false label = everything
+abbrev pub lists : List Float → List ℕ → List ℕ → List ℕ → List ℕ → List ℕ → List Float → LoadLists
+lists floats numbers hashes labels work ids distances = over (store_of floats numbers hashes labels) work ids distances
+
+-- what a search asks for: the label that starts at a place and ends at another, or all
+abbrev pub asked_for : Option ℕ → ℕ → List ℕ → Asked
+asked_for (Some label-at) place file = labelled (bytes_between label-at place file)
+asked_for None place file = everything
 
 -- an index that a load opened: its vectors have at most 16 components
-abbrev pub Narrow : Loading → Type 0
-Narrow Unset = Unit {0}
-Narrow (Running index) = index.dimension ≤ 16
+abbrev pub Narrow : Option CuratorIndex → Type 0
+Narrow None = Unit {0}
+Narrow (Some index) = index.dimension ≤ 16
 
 abbrev pub NarrowStep : LoadStep → Type 0
 NarrowStep (Ended n) = Unit {0}
@@ -54,11 +54,11 @@ HitsFit (Answered index next count opened complete) ids distances = (count ≤ l
 
 -- the first record, which no list is lent to, and one after the settings
 abbrev pub CarriesFirst : List ℕ → ℕ → Carried → Type 0
-CarriesFirst file at carried = (lent : LoadLists) → CarriesRead (decode (known Unset) (drop at file)) file at Unset lent carried lent
+CarriesFirst file at carried = (lent : LoadLists) → CarriesRead (decode (known None) (drop at file)) file at None lent carried lent
 
 abbrev pub CarriesNext : CuratorIndex → List ℕ → ℕ → LoadLists → Carried → LoadLists → Type 0
 CarriesNext index file at lent carried lent' =
-    CarriesRead (decode (known (Running index)) (drop at file)) file at (Running index) lent carried lent'
+    CarriesRead (decode (known (Some index)) (drop at file)) file at (Some index) lent carried lent'
 
 -- ---- what a record asks for, found with no list lent
 
@@ -82,17 +82,22 @@ add_at index file v =
 -- what its add comes to
 abbrev pub AddsAt : CuratorIndex → List ℕ → Vector → Store → Carried → Store → Type 0
 AddsAt index file v store carried store' =
-    (answer : Changed) × Adds index store (add_at index file v) answer store' × (carried ≡ added_by answer v.next)
+    (answer : Result CuratorIndex Refusal) × Adds index store (add_at index file v) answer store' × (carried ≡ added_by answer v.next)
+
+-- a label, if there is one, starts no later than it ends
+abbrev pub LabelOrder : Option ℕ → ℕ → Type 0
+LabelOrder (Some label-at) place = label-at ≤ place
+LabelOrder None place = Unit {0}
 
 -- a search's parts stand in the file
 pub record QueryIn (file : List ℕ) (dimension : ℕ) (q : Query) : Type 0 where
   pub narrow : dimension ≤ 16
-  pub label_order : q.label_at ≤ q.floats_at
+  pub label_order : LabelOrder q.label_at q.floats_at
   pub inside : q.floats_at + 4 * dimension ≤ length file
 
 abbrev pub search_at : ℕ → List ℕ → Query → LoadLists → SearchCall
 search_at dimension file q =
-    search_with (floats_at dimension file q.floats_at) q.k (asked_for q.filtered (bytes_between q.label_at q.floats_at file))
+    search_with (floats_at dimension file q.floats_at) q.k (asked_for q.label_at q.floats_at file)
 
 -- what it comes to after a build
 abbrev pub SearchesAt : CuratorIndex → List ℕ → Query → LoadLists → Carried → LoadLists → Type 0
@@ -117,13 +122,10 @@ Asks file Comes (Add index v) = AsksAdd file Comes index v
 Asks file Comes (Find index q) = AsksFind file Comes index q
 
 -- after the settings, by the kinds of records
-abbrev pub query_of : Bool → ℕ → ℕ → ℕ → ℕ → Query
-query_of filtered k label-at floats-at next =
-    record { filtered = filtered; k = k; label_at = label-at; floats_at = floats-at; next = next }
-
 abbrev pub task_of : CuratorIndex → Located → Task
 task_of index (Settings dimension branching leaf_size ef beam next) = Done (Refused (Input SettingsOrder))
 task_of index (VectorAt document lengths-at labels-at floats-at next) =
     Add index (record { doc_id = document; lengths_at = lengths-at; labels_at = labels-at; floats_at = floats-at; next = next })
-task_of index (Filtered k label-at floats-at next) = Find index (query_of true k label-at floats-at next)
-task_of index (Search k floats-at next) = Find index (query_of false k floats-at floats-at next)
+task_of index (Filtered k label-at floats-at next) =
+    Find index (record { k = k; label_at = Some label-at; floats_at = floats-at; next = next })
+task_of index (Search k floats-at next) = Find index (record { k = k; label_at = None; floats_at = floats-at; next = next })

@@ -1,6 +1,6 @@
 -- The claim of Theorem.antt is not empty: every file has a chain of steps, whatever the store holds. For a record can be carried out whatever index and
 -- lists there are (each call has an outcome: crates/runs/specs/Exists.antt), and a step after which the file goes on leaves fewer bytes of it.
-use Rattle.std.specs.Prelude.{ℕ, zero, suc, ◌+◌, ◌-◌, ◌≤◌, ◌<◌, Bool, true, false, List, [], ◌≡◌, refl, ltb, leb, length, drop, replicate}
+use Rattle.std.specs.Prelude.{ℕ, zero, suc, ◌+◌, ◌-◌, ◌≤◌, ◌<◌, Bool, true, false, List, [], ◌≡◌, refl, ltb, leb, length, drop, replicate, Result, Ok, Err, Option, Some, None}
 use Rattle.std.proofs.Common.{zero-add, arith, sym, ap, ◌∙◌, length-append, length-drop, length-take-le, drop-drop}
 use Rattle.std.specs.Float.{nan}
 use Rattle.std.proofs.lemmas.List.{length-replicate}
@@ -12,8 +12,7 @@ use Rattle.store.specs.Lent.{lengths_of, sizes_of}
 use Rattle.settings.specs.Given.{params_of}
 use Rattle.settings.specs.declared.CuratorParams.{CuratorParams}
 use Rattle.curator.specs.declared.CuratorIndex.{CuratorIndex}
-use Rattle.curator.specs.declared.Changed.{Changed}
-use Rattle.curator.specs.declared.Changed.TheVariants as Changed'
+use Rattle.settings.specs.declared.refusal.Refusal.{Refusal}
 use Rattle.settings.specs.declared.refusal.Refusal.TheVariants.{Input}
 use Rattle.settings.specs.declared.refusal.InputRefusal.TheVariants.{BadRecord, SettingsOrder, FileTooLong}
 use Rattle.curator.proofs.RowLaws.{is-created}
@@ -28,8 +27,6 @@ use Rattle.echo_file.specs.FieldLaws.{bytes_drop}
 use Rattle.echo_file.specs.Decode.{Decoded, none, found, decode}
 use Rattle.echo_file.specs.DecodeLaws.{sound, rest_shorter}
 use Rattle.text.specs.Lines.{Written}
-use Rattle.load.specs.declared.Loading.{Loading}
-use Rattle.load.specs.declared.Loading.TheVariants.{Unset, Running}
 use Rattle.load.specs.declared.carry.Carried.{Carried}
 use Rattle.load.specs.declared.carry.Carried.TheVariants.{End, Refused}
 use Rattle.load.specs.declared.LoadStep.{LoadStep}
@@ -65,21 +62,21 @@ opened dimension params next lent =
     }
 
 -- after a build
-built : (index : CuratorIndex) (call : LoadLists → SearchCall) (next : ℕ) (lent : LoadLists) (answer : Changed) (store : Store) (work : List ℕ)
+built : (index : CuratorIndex) (call : LoadLists → SearchCall) (next : ℕ) (lent : LoadLists) (answer : Result CuratorIndex Refusal) (store : Store) (work : List ℕ)
     → Builds index lent.store lent.work answer store work → lengths_of lent.store ≡ lengths_of store → RecordOutcome (SearchesBuilt index call next lent) lent
-built index call next lent (Changed'.Refused r) store work b same =
+built index call next lent (Err r) store work b same =
     record {
       carried = Refused r;
       lent' = record { store = store; work = work; ids = lent.ids; distances = lent.distances };
-      holds = record { answer = Changed'.Refused r; work = work; builds = b; searches = (refl, refl, refl, refl) };
+      holds = record { answer = Err r; work = work; builds = b; searches = (refl, refl, refl, refl) };
       lengths = same;
     }
-built index call next lent (Changed'.Index ready) store work b same =
+built index call next lent (Ok ready) store work b same =
     let o = search-outcome ready store work (call lent) in
     record {
       carried = found_by ready o.end.answer next;
       lent' = record { store = store; work = o.end.work; ids = o.end.ids; distances = o.end.distances };
-      holds = record { answer = Changed'.Index ready; work = work; builds = b; searches = (o.end.answer, o.searches, refl) };
+      holds = record { answer = Ok ready; work = work; builds = b; searches = (o.end.answer, o.searches, refl) };
       lengths = same;
     }
 
@@ -99,19 +96,19 @@ added index call next lent =
       lengths = (change_laws (add call)).lengths index lent.store [] a.answer a.store' a.work' a.changes;
     }
 
-carried_out_lem : (loading : Loading) (r : FileRecord) (next : ℕ) (lent : LoadLists) → RecordOutcome (CarriesOut loading r next lent) lent
-carried_out_lem Unset (settings d b l e w) next lent = opened d (params_of b l e w) next lent
-carried_out_lem Unset (vector document labels patterns) next lent = kept lent (Refused (Input SettingsOrder))
-carried_out_lem Unset (filtered k label patterns) next lent = kept lent (Refused (Input SettingsOrder))
-carried_out_lem Unset (unfiltered k patterns) next lent = kept lent (Refused (Input SettingsOrder))
-carried_out_lem (Running index) (settings d b l e w) next lent = kept lent (Refused (Input SettingsOrder))
-carried_out_lem (Running index) (vector document labels patterns) next lent = added index (add_call document labels patterns) next lent
-carried_out_lem (Running index) (filtered k label patterns) next lent = looked_up index (search_with (floats patterns) k (labelled label)) next lent
-carried_out_lem (Running index) (unfiltered k patterns) next lent = looked_up index (search_with (floats patterns) k everything) next lent
+carried_out_lem : (loading : Option CuratorIndex) (r : FileRecord) (next : ℕ) (lent : LoadLists) → RecordOutcome (CarriesOut loading r next lent) lent
+carried_out_lem None (settings d b l e w) next lent = opened d (params_of b l e w) next lent
+carried_out_lem None (vector document labels patterns) next lent = kept lent (Refused (Input SettingsOrder))
+carried_out_lem None (filtered k label patterns) next lent = kept lent (Refused (Input SettingsOrder))
+carried_out_lem None (unfiltered k patterns) next lent = kept lent (Refused (Input SettingsOrder))
+carried_out_lem (Some index) (settings d b l e w) next lent = kept lent (Refused (Input SettingsOrder))
+carried_out_lem (Some index) (vector document labels patterns) next lent = added index (add_call document labels patterns) next lent
+carried_out_lem (Some index) (filtered k label patterns) next lent = looked_up index (search_with (floats patterns) k (labelled label)) next lent
+carried_out_lem (Some index) (unfiltered k patterns) next lent = looked_up index (search_with (floats patterns) k everything) next lent
 
 module _ (file : List ℕ) (bytes : Bytes file) where
   -- the record at a place
-  carried-read : (d : Decoded FileRecord) (at : ℕ) (loading : Loading) (lent : LoadLists) → decode (known loading) (drop at file) ≡ d
+  carried-read : (d : Decoded FileRecord) (at : ℕ) (loading : Option CuratorIndex) (lent : LoadLists) → decode (known loading) (drop at file) ≡ d
       → RecordOutcome (CarriesRead d file at loading lent) lent
   carried-read none at loading lent e = kept lent (Refused (Input BadRecord))
   carried-read (found r rest) at loading lent e =
@@ -129,7 +126,7 @@ module _ (file : List ℕ) (bytes : Bytes file) where
         lengths = o.lengths;
       }
 
-  carried-at : (long ended : Bool) (at : ℕ) (loading : Loading) (lent : LoadLists) → RecordOutcome (CarriesAt long ended file at loading lent) lent
+  carried-at : (long ended : Bool) (at : ℕ) (loading : Option CuratorIndex) (lent : LoadLists) → RecordOutcome (CarriesAt long ended file at loading lent) lent
   carried-at true ended at loading lent = kept lent (Refused (Input FileTooLong))
   carried-at false true at loading lent = kept lent End
   carried-at false false at loading lent = carried-read (decode (known loading) (drop at file)) at loading lent refl
@@ -142,7 +139,7 @@ module _ (file : List ℕ) (bytes : Bytes file) where
       let fits : length t ≤ length (sets (replicate (length t) 0) 0 t) = omega (arith, n) in
       record { list = refl; end = sym (zero-add (length t)); within = fits; front = sym (length-take-le (length t) _ fits) }
 
-  record Stepped (at : ℕ) (loading : Loading) (lent : LoadLists) : Type 0 where
+  record Stepped (at : ℕ) (loading : Option CuratorIndex) (lent : LoadLists) : Type 0 where
     step : LoadStep
     lent' : LoadLists
     text : List ℕ
@@ -150,7 +147,7 @@ module _ (file : List ℕ) (bytes : Bytes file) where
     steps : Steps file at loading lent text step lent' text'
     lengths : lengths_of lent.store ≡ lengths_of lent'.store
 
-  stepped : (at : ℕ) (loading : Loading) (lent : LoadLists) → Stepped at loading lent
+  stepped : (at : ℕ) (loading : Option CuratorIndex) (lent : LoadLists) → Stepped at loading lent
   stepped at loading lent =
       let o = carried-at (ltb 65536 (length file)) (leb (length file) at) at loading lent in
       let t = step_text o.carried o.lent' in
@@ -173,19 +170,19 @@ module _ (file : List ℕ) (bytes : Bytes file) where
   sized-onto lent store z same =
       record { store = sym same ∙ z.store; work = z.work; ids = z.ids; distances = z.distances }
 
-  abbrev Goes_on : ℕ → Loading → Store → Type 0
+  abbrev Goes_on : ℕ → Option CuratorIndex → Store → Type 0
   Goes_on at loading store = (texts : List (List ℕ)) × Chain file at loading store texts
 
-  step_by : (left at : ℕ) → length file - at ≤ left → (loading : Loading) (lent : LoadLists) → Sized lent → (step : LoadStep) (lent' : LoadLists) (text text' : List ℕ)
+  step_by : (left at : ℕ) → length file - at ≤ left → (loading : Option CuratorIndex) (lent : LoadLists) → Sized lent → (step : LoadStep) (lent' : LoadLists) (text text' : List ℕ)
       → Steps file at loading lent text step lent' text' → lengths_of lent.store ≡ lengths_of lent'.store → Onward file at step
-      → ((at' : ℕ) (loading' : Loading) (lent' : LoadLists) → length file - at' < left → Sized lent' → Goes_on at' loading' lent'.store)
+      → ((at' : ℕ) (loading' : Option CuratorIndex) (lent' : LoadLists) → length file - at' < left → Sized lent' → Goes_on at' loading' lent'.store)
       → Goes_on at loading lent.store
   step_by left at le loading lent z (Ended n) lent' text text' st same h later = (_, last z st)
   step_by left at le loading lent z (Next loading' at' n) lent' text text' st same h later =
       let r = later at' loading' (onto lent lent'.store) (omega (arith, le, h.0, h.1)) (sized-onto lent lent'.store z same) in
       (_, more z st r.1)
 
-  chain_within : (left at : ℕ) → length file - at ≤ left → (loading : Loading) (lent : LoadLists) → Sized lent → Goes_on at loading lent.store
+  chain_within : (left at : ℕ) → length file - at ≤ left → (loading : Option CuratorIndex) (lent : LoadLists) → Sized lent → Goes_on at loading lent.store
   chain_within zero at le loading lent z =
       let s = stepped at loading lent in
       step_by zero at le loading lent z s.step s.lent' s.text s.text' s.steps s.lengths (steps_onward s.steps)
@@ -196,7 +193,7 @@ module _ (file : List ℕ) (bytes : Bytes file) where
       (λ at' loading' lent' less sized. chain_within left at' (omega (arith, less)) loading' lent' sized)
 
   -- from every place, whatever the load has come to
-  pub chain_from : (at : ℕ) (loading : Loading) (lent : LoadLists) → Sized lent → (texts : List (List ℕ)) × Chain file at loading lent.store texts
+  pub chain_from : (at : ℕ) (loading : Option CuratorIndex) (lent : LoadLists) → Sized lent → (texts : List (List ℕ)) × Chain file at loading lent.store texts
   chain_from at loading lent z = chain_within (length file) at (omega arith) loading lent z
 
 -- ---- every file
@@ -219,7 +216,7 @@ sized-lists =
       },
     )
 
--- Every file has a chain of steps from its beginning, whatever the lists hold; by `Prints` its texts, joined, are `fileText`.
+-- Every file has a chain of steps from its beginning, whatever the lists hold; by `Prints` its texts, joined, are `file_text`.
 pub chain_exists : (file : List ℕ) → Bytes file → (lent : LoadLists) → Sized lent
-    → (texts : List (List ℕ)) × Chain file 0 Unset lent.store texts × (joined (λ text. text) texts ≡ file_text file)
-chain_exists file bytes lent z = let r = chain_from file bytes 0 Unset lent z in (r.0, r.1, prints file lent.store r.0 r.1)
+    → (texts : List (List ℕ)) × Chain file 0 None lent.store texts × (joined (λ text. text) texts ≡ file_text file)
+chain_exists file bytes lent z = let r = chain_from file bytes 0 None lent z in (r.0, r.1, prints file lent.store r.0 r.1)

@@ -1,6 +1,6 @@
 -- Document 01, 'The echo file and its printer': the text that is printed of a file, by the model of all calls (01's book; crates/runs/specs/Model.antt). No
 -- state, no lent list and no answer occurs in it.
-use Rattle.std.specs.Prelude.{ℕ, zero, suc, true, cond, List, [], ◌∷◌, ◌++◌, map, ltb, Float, length, replicate}
+use Rattle.std.specs.Prelude.{ℕ, zero, suc, true, cond, List, [], ◌∷◌, ◌++◌, map, ltb, Float, length, replicate, Result, Ok, Err}
 use Rattle.std.specs.Float.{binary32, nan}
 use Rattle.std.specs.Float.Ieee.{of_bits}
 use Rattle.store.specs.declared.Shape.{Shape}
@@ -11,8 +11,7 @@ use Rattle.walk.specs.Answer.{Answer}
 use Rattle.settings.specs.declared.CuratorParams.{CuratorParams}
 use Rattle.settings.specs.Given.{params_of}
 use Rattle.settings.specs.declared.Capacities.{Capacities}
-use Rattle.curator.specs.declared.Changed.{Changed}
-use Rattle.curator.specs.declared.Changed.TheVariants as Changed'
+use Rattle.curator.specs.declared.CuratorIndex.{CuratorIndex}
 use Rattle.settings.specs.declared.refusal.Refusal.{Refusal}
 use Rattle.settings.specs.declared.refusal.Refusal.TheVariants.{Settings, Input, Store}
 use Rattle.settings.specs.declared.refusal.SettingsRefusal.TheVariants.{InvalidConfig}
@@ -125,10 +124,10 @@ outcome_of s m [] = printed [] (running s m)
 outcome_of s m (call ∷ calls) = called (expected s m call) (outcome_of s (after s m call) calls)
 
 -- a settings record that comes first is put to `new`; 'D from 17 to 128 is printed as refused 2'
-unfoldable pub opened : Changed → ℕ → CuratorParams → Outcome
+unfoldable pub opened : Result CuratorIndex Refusal → ℕ → CuratorParams → Outcome
 unfolding refused_text
-opened (Changed'.Refused r) dimension params = stops (refused_text r)
-opened (Changed'.Index index) dimension params =
+opened (Err r) dimension params = stops (refused_text r)
+opened (Ok index) dimension params =
     cond (ltb 16 dimension) (stops (refused_text (Settings InvalidConfig)))
     (printed [] (running (record { dimension = dimension; params = params; capacities = capacities }) empty_model))
 

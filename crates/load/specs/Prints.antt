@@ -2,7 +2,7 @@
 -- to the same (Agrees), and goes on with the same rest of the file.
 use Prim.Native.Nat.{ℕ, zero, suc, ◌+◌, ◌≤◌, ◌<◌}
 use Rattle.std.proofs.Common.{zero-add, arith, ◌∙◌, leb-false, leb-true}
-use Rattle.std.specs.Prelude.{Bool, cond, ◌≡◌, ltb, leb, take}
+use Rattle.std.specs.Prelude.{Bool, cond, ◌≡◌, ltb, leb, take, Option, Some, None}
 use Rattle.std.proofs.Math.Bool.{true, false}
 use Rattle.std.proofs.lemmas.Bool.{false≢true}
 use mathlib.Core.List.{List, [], ◌∷◌, ◌++◌, append-nil}
@@ -21,8 +21,6 @@ use Rattle.echo_file.specs.Format.{FileRecord}
 use Rattle.echo_file.specs.Decode.{Decoded, none, found, decode}
 use Rattle.text.specs.Lines.{Written}
 use Rattle.text.specs.LinesLaws.{length_line}
-use Rattle.load.specs.declared.Loading.{Loading}
-use Rattle.load.specs.declared.Loading.TheVariants.{Unset, Running}
 use Rattle.load.specs.declared.carry.Carried.{Carried}
 use Rattle.load.specs.declared.carry.Carried.TheVariants.{End, Refused}
 use Rattle.load.specs.declared.LoadStep.{LoadStep}
@@ -40,11 +38,11 @@ written-front {text} {text'} {t} {n} w =
     ap₂ (λ (k : ℕ) (l : List ℕ). take k l) (w.end ∙ zero-add (length t)) (w.list ∙ sets-eq t text 0 fits) ∙ take-append_seam t (drop (0 + length t) text)
 
 -- the reader knows what the definition knows
-same_known : (progress : FileProgress) (loading : Loading) (store : Store) → StandsAs progress loading store → known loading ≡ known_of progress
-same_known unset Unset store h = refl
-same_known unset (Running index) store h = absurd h
-same_known (running s m) Unset store h = absurd h
-same_known (running s m) (Running index) store h =
+same_known : (progress : FileProgress) (loading : Option CuratorIndex) (store : Store) → StandsAs progress loading store → known loading ≡ known_of progress
+same_known unset None store h = refl
+same_known unset (Some index) store h = absurd h
+same_known (running s m) None store h = absurd h
+same_known (running s m) (Some index) store h =
     let e : index.dimension ≡ s.dimension = ap (λ (i : CuratorIndex). i.dimension) h.1.state in
     λ i. record { dimension = e i }
 
@@ -52,7 +50,7 @@ same_known (running s m) (Running index) store h =
 abbrev Comes : Front → List ℕ → ℕ → Carried → LoadLists → Type 0
 Comes (ends text) file at c lent = (q : Refusal) × (c ≡ Refused q) × (refused_text q ≡ text)
 Comes (goes text progress rest) file at c lent =
-    (loading : Loading) × (next : ℕ) × ((n : ℕ) → step_of c n ≡ Next loading next n) × (carried_text c lent.ids lent.distances ≡ text)
+    (loading : Option CuratorIndex) × (next : ℕ) × ((n : ℕ) → step_of c n ≡ Next loading next n) × (carried_text c lent.ids lent.distances ≡ text)
     × StandsAs progress loading lent.store × (rest ≡ drop next file) × (at < next)
 
 outcome-comes : (o : Outcome) (rest file : List ℕ) (at next : ℕ) (c : Carried) (lent : LoadLists) → rest ≡ drop next file → at < next → Agrees o next c lent
@@ -61,14 +59,14 @@ unfolding then
 outcome-comes (stops text) rest file at next c lent e l a = a
 outcome-comes (printed text progress) rest file at next c lent e l a = (a.0, next, a.1, a.2, a.3, e, l)
 
-read-comes : (d : Decoded FileRecord) (file : List ℕ) (at : ℕ) (progress : FileProgress) (loading : Loading) (lent : LoadLists) (c : Carried) (lent' : LoadLists) → Sized lent
+read-comes : (d : Decoded FileRecord) (file : List ℕ) (at : ℕ) (progress : FileProgress) (loading : Option CuratorIndex) (lent : LoadLists) (c : Carried) (lent' : LoadLists) → Sized lent
     → StandsAs progress loading lent.store → CarriesRead d file at loading lent c lent' → Comes (read d progress) file at c lent'
 unfolding read
 read-comes none file at progress loading lent c lent' z h by = (Input BadRecord, by.0, refl)
 read-comes (found r rest) file at progress loading lent c lent' z h by =
     outcome-comes (carried progress r) rest file at by.0 c lent' by.1 by.2 (record_agrees progress loading r by.0 lent c lent' z h by.4)
 
-front-comes : (file : List ℕ) (at : ℕ) (progress : FileProgress) (loading : Loading) (lent : LoadLists) (c : Carried) (lent' : LoadLists) → Sized lent
+front-comes : (file : List ℕ) (at : ℕ) (progress : FileProgress) (loading : Option CuratorIndex) (lent : LoadLists) (c : Carried) (lent' : LoadLists) → Sized lent
     → StandsAs progress loading lent.store → CarriesRead (decode (known loading) (drop at file)) file at loading lent c lent'
     → Comes (front progress (drop at file)) file at c lent'
 unfolding front
@@ -78,8 +76,8 @@ front-comes file at progress loading lent c lent' z h by =
 
 -- ---- what a step says
 
-abbrev loading_of : LoadStep → Loading
-loading_of (Ended n) = Unset
+abbrev loading_of : LoadStep → Option CuratorIndex
+loading_of (Ended n) = None
 loading_of (Next loading at n) = loading
 
 abbrev place_of : LoadStep → ℕ
@@ -90,7 +88,7 @@ abbrev goes_on : LoadStep → Bool
 goes_on (Ended n) = false
 goes_on (Next loading at n) = true
 
-module _ (file : List ℕ) {at : ℕ} {loading : Loading} {lent lent' : LoadLists} {text text' : List ℕ} {step : LoadStep} (st : Steps file at loading lent text step lent' text') where
+module _ (file : List ℕ) {at : ℕ} {loading : Option CuratorIndex} {lent lent' : LoadLists} {text text' : List ℕ} {step : LoadStep} (st : Steps file at loading lent text step lent' text') where
   -- the text of a step
   step-text : take (printed_of step) text' ≡ carried_text st.carried lent'.ids lent'.distances
   step-text =
@@ -164,7 +162,7 @@ onward file at (goes text progress rest) c lent n a e =
       rest = rest;
       is = refl;
       prints = a.3;
-      stands = subst (λ (l : Loading). StandsAs progress l lent.store) (ap loading_of s) a.4;
+      stands = subst (λ (l : Option CuratorIndex). StandsAs progress l lent.store) (ap loading_of s) a.4;
       left = subst (λ (k : ℕ). rest ≡ drop k file) (ap place_of s) a.5;
       further = subst (λ (k : ℕ). at < k) (ap place_of s) a.6;
     }
@@ -177,7 +175,7 @@ module _ (file : List ℕ) (short : ltb 65536 (length file) ≡ false) where
   no_bytes-left : (at : ℕ) → leb (length file) at ≡ true → length (drop at file) ≤ 0
   no_bytes-left at e = let h = leb-true (length file) at e in omega (arith, h, length-drop at file)
 
-  last_from : {at n : ℕ} {loading : Loading} {lent lent' : LoadLists} {text text' : List ℕ} → Sized lent → (st : Steps file at loading lent text (Ended n) lent' text')
+  last_from : {at n : ℕ} {loading : Option CuratorIndex} {lent lent' : LoadLists} {text text' : List ℕ} → Sized lent → (st : Steps file at loading lent text (Ended n) lent' text')
       → (progress : FileProgress) → StandsAs progress loading lent.store → (steps : ℕ) → length (drop at file) ≤ steps → (b : Bool)
       → leb (length file) at ≡ b
       → carried_text st.carried lent'.ids lent'.distances ≡ text_from steps progress (drop at file)
@@ -190,7 +188,7 @@ module _ (file : List ℕ) (short : ltb 65536 (length file) ≡ false) where
       (ap goes_on (sym st.comes))
       ∙ sym (some_left steps progress (drop at file) (bytes_left_lem at e))
 
-  more_from : {at at' n : ℕ} {loading loading' : Loading} {lent lent' : LoadLists} {text text' : List ℕ} (texts : List (List ℕ)) → Sized lent
+  more_from : {at at' n : ℕ} {loading loading' : Option CuratorIndex} {lent lent' : LoadLists} {text text' : List ℕ} (texts : List (List ℕ)) → Sized lent
       → (st : Steps file at loading lent text (Next loading' at' n) lent' text')
       → ((progress : FileProgress) → StandsAs progress loading' lent'.store → (steps : ℕ) → length (drop at' file) ≤ steps
       → joined (λ t. t) texts ≡ text_from steps progress (drop at' file))
@@ -207,7 +205,7 @@ module _ (file : List ℕ) (short : ltb 65536 (length file) ≡ false) where
       onward file at (front progress (drop at file)) st.carried lent' k (step-comes file st short e z progress h) (ap goes_on (sym st.comes)) in
       let place : place_of (step_of st.carried k) ≡ at' = ap place_of (sym st.comes) in
       let stands : StandsAs o.progress loading' lent'.store =
-      subst (λ (l : Loading). StandsAs o.progress l lent'.store) (ap loading_of (sym st.comes)) o.stands in
+      subst (λ (l : Option CuratorIndex). StandsAs o.progress l lent'.store) (ap loading_of (sym st.comes)) o.stands in
       let left : o.rest ≡ drop at' file = o.left ∙ ap (λ (i : ℕ). drop i file) place in
       let fewer : length (drop at' file) ≤ steps =
       (let f = o.further in let b = bytes_left_lem at e in omega (arith, f, b, place, le, length-drop at file, length-drop at' file)) in
@@ -216,7 +214,7 @@ module _ (file : List ℕ) (short : ltb 65536 (length file) ≡ false) where
       ∙ sym (ap (λ (f : Front). text_of f (λ p rest. text_from steps p rest)) o.is)
       ∙ sym (some_left steps progress (drop at file) (bytes_left_lem at e))
 
-  prints_from : {at : ℕ} {loading : Loading} {store : Store} {texts : List (List ℕ)} → Chain file at loading store texts → (progress : FileProgress)
+  prints_from : {at : ℕ} {loading : Option CuratorIndex} {store : Store} {texts : List (List ℕ)} → Chain file at loading store texts → (progress : FileProgress)
       → StandsAs progress loading store
       → (steps : ℕ) → length (drop at file) ≤ steps → joined (λ t. t) texts ≡ text_from steps progress (drop at file)
   unfolding joined
@@ -227,7 +225,7 @@ module _ (file : List ℕ) (short : ltb 65536 (length file) ≡ false) where
       ∙ more_from texts z st (λ p h k l. prints_from chain p h k l) progress h steps le (leb (length file) at) refl
 
 -- a file that is too long is refused at its first step
-long-prints : (file : List ℕ) → ltb 65536 (length file) ≡ true → {at : ℕ} {loading : Loading} {store : Store} {texts : List (List ℕ)}
+long-prints : (file : List ℕ) → ltb 65536 (length file) ≡ true → {at : ℕ} {loading : Option CuratorIndex} {store : Store} {texts : List (List ℕ)}
     → Chain file at loading store texts → joined (λ t. t) texts ≡ refused_text (Input FileTooLong)
 unfolding joined
 long-prints file e (last {at} {n} {loading} {lent} {lent'} {text} {text'} z st) =

@@ -1,13 +1,11 @@
 -- One step of a load in full: what is read, which calls are made of it, and what is printed. It is the contract of `load_record`.
-use Rattle.std.specs.Prelude.{ℕ, ◌≤◌, ◌<◌, Bool, true, false, cond, List, [], ◌++◌, ◌≡◌, ltb, leb, Float, length, drop}
+use Rattle.std.specs.Prelude.{ℕ, ◌≤◌, ◌<◌, Bool, true, false, cond, List, [], ◌++◌, ◌≡◌, ltb, leb, Float, length, drop, Result, Ok, Err, Option, Some, None}
 use Rattle.store.specs.Store.{Store}
 use Rattle.settings.specs.Given.{params_of}
 use Rattle.settings.specs.declared.CuratorParams.{CuratorParams}
 use Rattle.curator.specs.declared.CuratorIndex.{CuratorIndex}
-use Rattle.curator.specs.declared.Changed.{Changed}
-use Rattle.curator.specs.declared.Changed.TheVariants as Changed'
-use Rattle.curator.specs.declared.Found.{Found}
-use Rattle.curator.specs.declared.Found.TheVariants as Found'
+use Rattle.settings.specs.declared.refusal.Refusal.{Refusal}
+use Rattle.walk.specs.declared.Searched.{Searched}
 use Rattle.settings.specs.declared.refusal.Refusal.TheVariants.{Settings, Input}
 use Rattle.settings.specs.declared.refusal.SettingsRefusal.TheVariants.{InvalidConfig}
 use Rattle.settings.specs.declared.refusal.InputRefusal.TheVariants.{BadRecord, SettingsOrder, FileTooLong}
@@ -18,8 +16,6 @@ use Rattle.echo_file.specs.declared.Known.{Known}
 use Rattle.echo_file.specs.Format.{FileRecord, settings, vector, filtered, unfiltered}
 use Rattle.echo_file.specs.Decode.{Decoded, none, found, decode}
 use Rattle.text.specs.Lines.{hit_lines, closing_line, Written}
-use Rattle.load.specs.declared.Loading.{Loading}
-use Rattle.load.specs.declared.Loading.TheVariants.{Unset, Running}
 use Rattle.load.specs.declared.carry.Carried.{Carried}
 use Rattle.load.specs.declared.carry.Carried.TheVariants.{End, Refused, Silent, Answered}
 use Rattle.load.specs.declared.LoadStep.{LoadStep}
@@ -34,30 +30,30 @@ pub record LoadLists : Type 0 where
   pub distances : List Float
 
 -- 'Before settings, D counts as 0 for where a record ends.'
-abbrev pub known : Loading → Known
-known Unset = record { dimension = 0 }
-known (Running index) = record { dimension = index.dimension }
+abbrev pub known : Option CuratorIndex → Known
+known None = record { dimension = 0 }
+known (Some index) = record { dimension = index.dimension }
 
 -- ---- each record
 
 -- a settings record that comes first
-abbrev pub opened_by : Changed → ℕ → ℕ → Carried
-opened_by (Changed'.Refused r) dimension next = Refused r
-opened_by (Changed'.Index index) dimension next = cond (ltb 16 dimension) (Refused (Settings InvalidConfig)) (Silent (Running index) next)
+abbrev pub opened_by : Result CuratorIndex Refusal → ℕ → ℕ → Carried
+opened_by (Err r) dimension next = Refused r
+opened_by (Ok index) dimension next = cond (ltb 16 dimension) (Refused (Settings InvalidConfig)) (Silent (Some index) next)
 
 -- what comes of it: by the answer of `new`
 pub record OpensIndex (dimension : ℕ) (params : CuratorParams) (next : ℕ) (carried : Carried) : Type 0 where
-  pub answer : Changed
+  pub answer : Result CuratorIndex Refusal
   pub creates : Creates dimension params capacities answer
   pub comes : carried ≡ opened_by answer dimension next
 
 -- a vector
-abbrev pub added_by : Changed → ℕ → Carried
-added_by (Changed'.Refused r) next = Refused r
-added_by (Changed'.Index index) next = Silent (Running index) next
+abbrev pub added_by : Result CuratorIndex Refusal → ℕ → Carried
+added_by (Err r) next = Refused r
+added_by (Ok index) next = Silent (Some index) next
 
 pub record AddsVector (index : CuratorIndex) (call : AddCall) (next : ℕ) (lent : LoadLists) (carried : Carried) (lent' : LoadLists) : Type 0 where
-  pub answer : Changed
+  pub answer : Result CuratorIndex Refusal
   pub adds : Adds index lent.store call answer lent'.store
   pub work : lent'.work ≡ lent.work
   pub ids : lent'.ids ≡ lent.ids
@@ -65,27 +61,27 @@ pub record AddsVector (index : CuratorIndex) (call : AddCall) (next : ℕ) (lent
   pub comes : carried ≡ added_by answer next
 
 -- a search
-abbrev pub found_by : CuratorIndex → Found → ℕ → Carried
-found_by index (Found'.Refused r) next = Refused r
-found_by index (Found'.Hits count opened complete) next = Answered index next count opened complete
+abbrev pub found_by : CuratorIndex → Result Searched Refusal → ℕ → Carried
+found_by index (Err r) next = Refused r
+found_by index (Ok s) next = Answered index next s.hits s.opened s.whole
 
 abbrev pub search_with : List Float → ℕ → Asked → LoadLists → SearchCall
 search_with query k asked lent =
     record { question = record { query = query; asked = asked }; k = k; ids = lent.ids; distances = lent.distances }
 
-abbrev pub search_end : Found → LoadLists → SearchEnd
+abbrev pub search_end : Result Searched Refusal → LoadLists → SearchEnd
 search_end answer lent = record { answer = answer; work = lent.work; ids = lent.ids; distances = lent.distances }
 
 -- after a build that was refused, and after one that was not
-abbrev pub AfterBuild : Changed → List ℕ → (LoadLists → SearchCall) → ℕ → LoadLists → Carried → LoadLists → Type 0
-AfterBuild (Changed'.Refused r) work call next lent carried lent' =
+abbrev pub AfterBuild : Result CuratorIndex Refusal → List ℕ → (LoadLists → SearchCall) → ℕ → LoadLists → Carried → LoadLists → Type 0
+AfterBuild (Err r) work call next lent carried lent' =
     (carried ≡ Refused r) × (lent'.work ≡ work) × (lent'.ids ≡ lent.ids) × (lent'.distances ≡ lent.distances)
-AfterBuild (Changed'.Index index) work call next lent carried lent' =
-    (answer : Found) × Searches index lent'.store work (call lent) (search_end answer lent') × (carried ≡ found_by index answer next)
+AfterBuild (Ok index) work call next lent carried lent' =
+    (answer : Result Searched Refusal) × Searches index lent'.store work (call lent) (search_end answer lent') × (carried ≡ found_by index answer next)
 
 -- 'The first search builds': a build of a built index leaves all as it is, so every search builds.
 pub record SearchesBuilt (index : CuratorIndex) (call : LoadLists → SearchCall) (next : ℕ) (lent : LoadLists) (carried : Carried) (lent' : LoadLists) : Type 0 where
-  pub answer : Changed
+  pub answer : Result CuratorIndex Refusal
   pub work : List ℕ
   pub builds : Builds index lent.store lent.work answer lent'.store work
   pub searches : AfterBuild answer work call next lent carried lent'
@@ -94,37 +90,37 @@ abbrev pub KeepsLists : LoadLists → Carried → Carried → LoadLists → Type
 KeepsLists lent what carried lent' = (carried ≡ what) × (lent' ≡ lent)
 
 -- a complete record, after which the file goes on at a place; 17: 'settings not first, or given again'
-abbrev pub CarriesOut : Loading → FileRecord → ℕ → LoadLists → Carried → LoadLists → Type 0
-CarriesOut Unset (settings dimension branching leaf_size ef beam) next lent carried lent' =
+abbrev pub CarriesOut : Option CuratorIndex → FileRecord → ℕ → LoadLists → Carried → LoadLists → Type 0
+CarriesOut None (settings dimension branching leaf_size ef beam) next lent carried lent' =
     OpensIndex dimension (params_of branching leaf_size ef beam) next carried × (lent' ≡ lent)
-CarriesOut Unset (vector document labels patterns) next lent carried lent' = KeepsLists lent (Refused (Input SettingsOrder)) carried lent'
-CarriesOut Unset (filtered k label patterns) next lent carried lent' = KeepsLists lent (Refused (Input SettingsOrder)) carried lent'
-CarriesOut Unset (unfiltered k patterns) next lent carried lent' = KeepsLists lent (Refused (Input SettingsOrder)) carried lent'
-CarriesOut (Running index) (settings dimension branching leaf_size ef beam) next lent carried lent' =
+CarriesOut None (vector document labels patterns) next lent carried lent' = KeepsLists lent (Refused (Input SettingsOrder)) carried lent'
+CarriesOut None (filtered k label patterns) next lent carried lent' = KeepsLists lent (Refused (Input SettingsOrder)) carried lent'
+CarriesOut None (unfiltered k patterns) next lent carried lent' = KeepsLists lent (Refused (Input SettingsOrder)) carried lent'
+CarriesOut (Some index) (settings dimension branching leaf_size ef beam) next lent carried lent' =
     KeepsLists lent (Refused (Input SettingsOrder)) carried lent'
-CarriesOut (Running index) (vector document labels patterns) next lent carried lent' =
+CarriesOut (Some index) (vector document labels patterns) next lent carried lent' =
     AddsVector index (add_call document labels patterns) next lent carried lent'
-CarriesOut (Running index) (filtered k label patterns) next lent carried lent' =
+CarriesOut (Some index) (filtered k label patterns) next lent carried lent' =
     SearchesBuilt index (search_with (floats patterns) k (labelled label)) next lent carried lent'
-CarriesOut (Running index) (unfiltered k patterns) next lent carried lent' =
+CarriesOut (Some index) (unfiltered k patterns) next lent carried lent' =
     SearchesBuilt index (search_with (floats patterns) k everything) next lent carried lent'
 
 -- ---- the record at a place of the file
 
 -- 16: 'unknown mark, or it ends inside a record'; otherwise the file goes on behind the record
-abbrev pub CarriesRead : Decoded FileRecord → List ℕ → ℕ → Loading → LoadLists → Carried → LoadLists → Type 0
+abbrev pub CarriesRead : Decoded FileRecord → List ℕ → ℕ → Option CuratorIndex → LoadLists → Carried → LoadLists → Type 0
 CarriesRead none file at loading lent carried lent' = KeepsLists lent (Refused (Input BadRecord)) carried lent'
 CarriesRead (found r rest) file at loading lent carried lent' =
     (next : ℕ) × (rest ≡ drop next file) × (at < next) × (next ≤ length file) × CarriesOut loading r next lent carried lent'
 
 -- 18: 'over 65,536 bytes', before any record; at the end of the file nothing
-abbrev pub CarriesAt : Bool → Bool → List ℕ → ℕ → Loading → LoadLists → Carried → LoadLists → Type 0
+abbrev pub CarriesAt : Bool → Bool → List ℕ → ℕ → Option CuratorIndex → LoadLists → Carried → LoadLists → Type 0
 CarriesAt true ended file at loading lent carried lent' = KeepsLists lent (Refused (Input FileTooLong)) carried lent'
 CarriesAt false true file at loading lent carried lent' = KeepsLists lent End carried lent'
 CarriesAt false false file at loading lent carried lent' =
     CarriesRead (decode (known loading) (drop at file)) file at loading lent carried lent'
 
-abbrev pub Carries : List ℕ → ℕ → Loading → LoadLists → Carried → LoadLists → Type 0
+abbrev pub Carries : List ℕ → ℕ → Option CuratorIndex → LoadLists → Carried → LoadLists → Type 0
 Carries file at loading lent carried lent' =
     CarriesAt (ltb 65536 (length file)) (leb (length file) at) file at loading lent carried lent'
 
@@ -140,7 +136,7 @@ abbrev pub step_of : Carried → ℕ → LoadStep
 step_of End printed = Ended printed
 step_of (Refused r) printed = Ended printed
 step_of (Silent loading next) printed = Next loading next printed
-step_of (Answered index next count opened complete) printed = Next (Running index) next printed
+step_of (Answered index next count opened complete) printed = Next (Some index) next printed
 
 -- the bytes that a step wrote
 abbrev pub printed_of : LoadStep → ℕ
@@ -151,7 +147,7 @@ abbrev pub step_text : Carried → LoadLists → List ℕ
 step_text carried lent = carried_text carried lent.ids lent.distances
 
 -- the whole result of a step: where the file stands, its lists and the text list at entry; the step and the lists at exit
-pub record Steps (file : List ℕ) (at : ℕ) (loading : Loading) (lent : LoadLists) (text : List ℕ) (step : LoadStep) (lent' : LoadLists) (text' : List ℕ) : Type 0 where
+pub record Steps (file : List ℕ) (at : ℕ) (loading : Option CuratorIndex) (lent : LoadLists) (text : List ℕ) (step : LoadStep) (lent' : LoadLists) (text' : List ℕ) : Type 0 where
   pub carried : Carried
   pub carries : Carries file at loading lent carried lent'
   pub printed : ℕ

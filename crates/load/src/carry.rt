@@ -1,26 +1,29 @@
 // A record carried out on the index.
 ghost use Rattle.std.specs.Prelude.{◌+◌, ◌-◌, ◌*◌, ◌≤◌, length, take, ◌≡◌};
 ghost use Rattle.label.specs.Names.{whole_lengths};
-ghost use Rattle.store.specs.Lent.{lent, store_of};
+ghost use Rattle.store.specs.Lent.{stored, store_of};
 ghost use Rattle.curator.specs.Searches.{Searches};
 ghost use Rattle.search.specs.Lent.{leaving};
 ghost use Rattle.echo_file.specs.Reads.{bytes_between};
 ghost use Rattle.load.specs.Step.{Carries, added_by, found_by};
-ghost use Rattle.load.specs.Code.{lists, Narrow, floats_at, VectorIn, QueryIn, AddsAt, search_at, SearchesAt};
+ghost use Rattle.load.specs.Code.{lists, over, Narrow, floats_at, VectorIn, QueryIn, AddsAt, search_at, SearchesAt};
 
+use crate::task;
 use crate::task::{Query, Task, Vector};
-use crate::{Loading, task};
-use curator::{Changed, CuratorIndex, Found};
+use curator::CuratorIndex;
 use echo_file::floats::read_floats;
 use settings::refusal::Refusal;
+use store::Lists;
+use walk::Searched;
 
-// What came of a record: a refusal, after which the file is left; nothing to print; or an answer. `End` where no record is left.
+// What came of a record: a refusal, after which the file is left; nothing to print; or an answer. `End` where no record is left. Not a Result: each of the four
+// is printed and goes on in its own way.
 #[derive(Clone, Copy)]
 pub enum Carried {
     End,
     Refused(Refusal),
     Silent {
-        loading: Loading,
+        loading: Option<CuratorIndex>,
         next: usize,
     },
     Answered {
@@ -33,32 +36,34 @@ pub enum Carried {
 }
 
 // What an add comes to.
-fn added(answer: Changed, next: usize) -> Carried
+fn added(answer: Result<CuratorIndex, Refusal>, next: usize) -> Carried
     ensures { result ≡ added_by answer next }
 {
     match answer {
-        Changed::Refused(refusal) => Carried::Refused(refusal),
-        Changed::Index(index) => Carried::Silent {
-            loading: Loading::Running(index),
+        Err(refusal) => Carried::Refused(refusal),
+        Ok(index) => Carried::Silent {
+            loading: Some(index),
             next,
         },
     }
 }
 
 // What a search comes to.
-fn found(index: CuratorIndex, answer: Found, next: usize) -> Carried
+fn found(index: CuratorIndex, answer: Result<Searched, Refusal>, next: usize) -> Carried
     ensures { result ≡ found_by index answer next }
 {
     match answer {
-        Found::Refused(refusal) => Carried::Refused(refusal),
-        Found::Hits {
-            count,
-            opened,
-            whole,
-        } => Carried::Answered {
+        Err(refusal) => Carried::Refused(refusal),
+        Ok(
+            Searched {
+                hits,
+                opened,
+                whole,
+            },
+        ) => Carried::Answered {
             index,
             next,
-            count,
+            count: hits,
             opened,
             whole,
         },
@@ -72,7 +77,7 @@ fn floats_at(file: &[u8], at: usize, count: usize) -> [f32; 16]
     ensures room { count ≤ length result }
     ensures front { take count result ≡ floats_at count file.now at }
 {
-    let mut values: [f32; 16] = [0.0; 16];
+    let mut values = [0.0f32; 16];
     read_floats(file, at, &mut values[..count]);
     values
 }
@@ -84,7 +89,7 @@ fn name_lengths(file: &[u8], from: usize, to: usize) -> [u8; 510]
     ensures front { take (2 * (to - from)) result ≡ whole_lengths (bytes_between from to file.now) }
 {
     let count = 2 * (to - from);
-    let mut pairs: [u8; 510] = [0; 510];
+    let mut pairs = [0u8; 510];
     label::names::whole_lengths(&file[from..to], &mut pairs[..count]);
     pairs
 }
@@ -124,61 +129,39 @@ fn add_vector(
     added(answer, vector.next)
 }
 
-// Looks up the nearest: with a label where the search is filtered, else among all.
+// Looks up the nearest: of those with the label, or of all.
 fn find(
     index: CuratorIndex,
     count: usize,
     file: &[u8],
     query: Query,
-    floats: &[f32],
-    numbers: &[u32],
-    hashes: &[u64],
-    labels: &[u8],
+    store: Lists,
     work: &mut [u32],
     ids: &mut [u32],
     distances: &mut [f32],
-) -> Found
+) -> Result<Searched, Refusal>
     requires { QueryIn file.now count query }
-    ensures { Searches index (lent floats.entry numbers.entry hashes.entry labels.entry) work.old
-        (search_at count file.now query
-        (lists floats.now numbers.now hashes.now labels.now work.old ids.old distances.old))
+    ensures { Searches index (stored store.entry) work.old
+        (search_at count file.now query (over (stored store.entry) work.old ids.old distances.old))
         (leaving result work.new ids.new distances.new) }
 {
-    let filtered = query.filtered;
-    let label_at = query.label_at;
     let place = query.floats_at;
-    let k = query.k;
     let components = floats_at(file, place, count);
-    if filtered {
-        let label = &file[label_at..place];
-        let none = &file[place..place];
-        return search::search_filtered(
+    let vector = &components[..count];
+    match query.label_at {
+        Some(label_at) => search::search_filtered(
             index,
-            floats,
-            numbers,
-            hashes,
-            labels,
+            store,
             work,
-            &components[..count],
-            label,
-            none,
-            k,
+            vector,
+            &file[label_at..place],
+            &[],
+            query.k,
             ids,
             distances,
-        );
+        ),
+        None => search::search(index, store, work, vector, query.k, ids, distances),
     }
-    search::search(
-        index,
-        floats,
-        numbers,
-        hashes,
-        labels,
-        work,
-        &components[..count],
-        k,
-        ids,
-        distances,
-    )
 }
 
 // Builds, and looks up the nearest.
@@ -199,19 +182,21 @@ fn look_up(
         (lists floats.old numbers.old hashes.old labels.now work.old ids.old distances.old) result
         (lists floats.new numbers.new hashes.new labels.now work.new ids.new distances.new) }
 {
-    let built = build::build(index, floats, numbers, hashes, labels, work);
-    match built {
-        Changed::Refused(refusal) => Carried::Refused(refusal),
-        Changed::Index(ready) => {
+    match build::build(index, floats, numbers, hashes, labels, work) {
+        Err(refusal) => Carried::Refused(refusal),
+        Ok(ready) => {
+            let store = Lists {
+                floats,
+                numbers,
+                hashes,
+                text: labels,
+            };
             let answer = find(
                 ready,
                 index.dimension,
                 file,
                 query,
-                floats,
-                numbers,
-                hashes,
-                labels,
+                store,
                 work,
                 ids,
                 distances,
@@ -221,9 +206,9 @@ fn look_up(
     }
 }
 
-// The record at a place, if one is left.
+// The record at a place, if one is left; `loading` is the index, none before the settings.
 pub fn carry(
-    loading: Loading,
+    loading: Option<CuratorIndex>,
     file: &[u8],
     at: usize,
     floats: &mut [f32],

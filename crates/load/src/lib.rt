@@ -12,21 +12,15 @@ mod carry;
 mod print;
 mod task;
 
-// How far a file has come: to its settings or not.
-#[derive(Clone, Copy)]
-pub enum Loading {
-    Unset,
-    Running(CuratorIndex),
-}
-
-// How many bytes were printed, and where the file goes on.
+// How many bytes were printed, and where the file goes on: its index, none before the settings. `Next` with no index is not an end, so an Option would hold an
+// Option.
 #[derive(Clone, Copy)]
 pub enum LoadStep {
     Ended {
         printed: usize,
     },
     Next {
-        loading: Loading,
+        loading: Option<CuratorIndex>,
         at: usize,
         printed: usize,
     },
@@ -37,24 +31,24 @@ fn step_of(carried: Carried, printed: usize) -> LoadStep
     ensures { result ≡ step_of carried printed }
 {
     match carried {
-        Carried::End => LoadStep::Ended { printed },
-        Carried::Refused(_) => LoadStep::Ended { printed },
+        Carried::End | Carried::Refused(_) => LoadStep::Ended { printed },
         Carried::Silent { loading, next } => LoadStep::Next {
             loading,
             at: next,
             printed,
         },
         Carried::Answered { index, next, .. } => LoadStep::Next {
-            loading: Loading::Running(index),
+            loading: Some(index),
             at: next,
             printed,
         },
     }
 }
 
-// The record at a place of a file. `labels` is the store's list of label text; `text`, which is printed, has room for a line of each place of an answer.
+// The record at a place of a file; `loading` is the index, none before the settings. `labels` is the store's list of label text; `text`, which is printed, has
+// room for a line of each place of an answer.
 pub fn load_record(
-    loading: Loading,
+    loading: Option<CuratorIndex>,
     file: &[u8],
     at: usize,
     floats: &mut [f32],

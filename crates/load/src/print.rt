@@ -13,9 +13,8 @@ pub fn write_carried(out: &mut [u8], carried: Carried, ids: &[u32], distances: &
     ensures { Written out.old 0 (carried_text carried ids.now distances.now) out.new result }
 {
     match carried {
-        Carried::End => 0,
+        Carried::End | Carried::Silent { .. } => 0,
         Carried::Refused(refusal) => text::write_refused(out, 0, refusal.number()),
-        Carried::Silent { .. } => 0,
         Carried::Answered {
             count,
             opened,

@@ -1,12 +1,11 @@
 // What a record asks for: found with no list lent.
 ghost use Rattle.std.specs.Prelude.{◌≡◌, ◌≤◌};
 ghost use Rattle.load.specs.Step.{Carries, OpensIndex};
-ghost use Rattle.load.specs.Code.{Narrow, CarriesFirst, CarriesNext, Asks, query_of, task_of};
+ghost use Rattle.load.specs.Code.{Narrow, CarriesFirst, CarriesNext, Asks, task_of};
 
-use crate::Loading;
 use crate::carry::Carried;
-use curator::{Changed, CuratorIndex};
-use echo_file::{Known, Located, Reading, read_record};
+use curator::CuratorIndex;
+use echo_file::{Known, Located, read_record};
 use settings::refusal::{InputRefusal, Refusal, SettingsRefusal};
 use settings::{Capacities, CuratorParams};
 
@@ -20,17 +19,16 @@ pub struct Vector {
     pub next: usize,
 }
 
-// A search, for a label where it is filtered: where its label and floats start, and where the file goes on.
+// A search: where its label, if it is for one, and its floats start, and where the file goes on.
 #[derive(Clone, Copy)]
 pub struct Query {
-    pub filtered: bool,
     pub k: usize,
-    pub label_at: usize,
+    pub label_at: Option<usize>,
     pub floats_at: usize,
     pub next: usize,
 }
 
-// What there is to do of a record: no more than what came of it, an add or a search.
+// What there is to do of a record: no more than what came of it, an add or a search. Three, as each is lent other lists.
 #[derive(Clone, Copy)]
 pub enum Task {
     Done(Carried),
@@ -48,18 +46,15 @@ fn open(dimension: usize, params: CuratorParams, next: usize) -> Carried
         nodes: 512,
         text: 65_280,
     };
-    let answer = CuratorIndex::new(dimension, params, room);
-    match answer {
-        Changed::Refused(refusal) => Carried::Refused(refusal),
-        Changed::Index(index) => {
-            if 16 < dimension {
-                return Carried::Refused(Refusal::Settings(SettingsRefusal::InvalidConfig));
-            }
-            Carried::Silent {
-                loading: Loading::Running(index),
-                next,
-            }
+    match CuratorIndex::new(dimension, params, room) {
+        Err(refusal) => Carried::Refused(refusal),
+        Ok(_) if 16 < dimension => {
+            Carried::Refused(Refusal::Settings(SettingsRefusal::InvalidConfig))
         }
+        Ok(index) => Carried::Silent {
+            loading: Some(index),
+            next,
+        },
     }
 }
 
@@ -67,8 +62,7 @@ fn open(dimension: usize, params: CuratorParams, next: usize) -> Carried
 fn read_first(file: &[u8], at: usize) -> Carried
     ensures { CarriesFirst file.now at result }
 {
-    let reading = read_record(Known { dimension: 0 }, file, at);
-    let Reading::Found(located) = reading else {
+    let Some(located) = read_record(Known { dimension: 0 }, file, at) else {
         return Carried::Refused(Refusal::Input(InputRefusal::BadRecord));
     };
     let Located::Settings {
@@ -89,18 +83,6 @@ fn read_first(file: &[u8], at: usize) -> Carried
         beam_width,
     };
     open(dimension, params, next)
-}
-
-fn query_of(filtered: bool, k: usize, label_at: usize, floats_at: usize, next: usize) -> Query
-    ensures { result ≡ query_of filtered k label_at floats_at next }
-{
-    Query {
-        filtered,
-        k,
-        label_at,
-        floats_at,
-        next,
-    }
 }
 
 // Of a record after the settings.
@@ -132,10 +114,24 @@ fn task_of(index: CuratorIndex, located: Located) -> Task
             label_at,
             floats_at,
             next,
-        } => Task::Find(index, query_of(true, k, label_at, floats_at, next)),
-        Located::Search { k, floats_at, next } => {
-            Task::Find(index, query_of(false, k, floats_at, floats_at, next))
-        }
+        } => Task::Find(
+            index,
+            Query {
+                k,
+                label_at: Some(label_at),
+                floats_at,
+                next,
+            },
+        ),
+        Located::Search { k, floats_at, next } => Task::Find(
+            index,
+            Query {
+                k,
+                label_at: None,
+                floats_at,
+                next,
+            },
+        ),
     }
 }
 
@@ -147,15 +143,14 @@ fn read_next(index: CuratorIndex, file: &[u8], at: usize) -> Task
     let known = Known {
         dimension: index.dimension,
     };
-    let reading = read_record(known, file, at);
-    let Reading::Found(located) = reading else {
+    let Some(located) = read_record(known, file, at) else {
         return Task::Done(Carried::Refused(Refusal::Input(InputRefusal::BadRecord)));
     };
     task_of(index, located)
 }
 
-// The record at a place, if one is left.
-pub fn task_at(loading: Loading, file: &[u8], at: usize) -> Task
+// The record at a place, if one is left; `loading` is the index, none before the settings.
+pub fn task_at(loading: Option<CuratorIndex>, file: &[u8], at: usize) -> Task
     requires { Narrow loading }
     ensures { Asks file.now (Carries file.now at loading) result }
 {
@@ -166,7 +161,7 @@ pub fn task_at(loading: Loading, file: &[u8], at: usize) -> Task
         return Task::Done(Carried::End);
     }
     match loading {
-        Loading::Unset => Task::Done(read_first(file, at)),
-        Loading::Running(index) => read_next(index, file, at),
+        None => Task::Done(read_first(file, at)),
+        Some(index) => read_next(index, file, at),
     }
 }

@@ -1,6 +1,6 @@
--- What is printed of a file (`fileText`, crates/load/specs/File.antt), text by text: each text that is handed on to be written is the next part of it. So
+-- What is printed of a file (`file_text`, crates/load/specs/File.antt), text by text: each text that is handed on to be written is the next part of it. So
 -- long as a chain of steps goes on, whatever it prints is the rest; and every chain does (crates/load/specs/Exists.antt).
-use Rattle.std.specs.Prelude.{ℕ, ◌+◌, ◌≡◌, refl}
+use Rattle.std.specs.Prelude.{ℕ, ◌+◌, ◌≡◌, refl, Option, None}
 use mathlib.Core.List.{List, [], ◌∷◌, ◌++◌, append_assoc, append-nil}
 use Rattle.std.proofs.Math.Path.{sym, ap, subst}
 use Rattle.std.proofs.Common.{◌∙◌}
@@ -8,8 +8,7 @@ use Rattle.std.proofs.Math.ListN.{length, take, length-append}
 use Rattle.lists.specs.Lists.{joined}
 use Rattle.store.specs.Store.{Store}
 use Rattle.echo_file.specs.Format.{Bytes}
-use Rattle.load.specs.declared.Loading.{Loading}
-use Rattle.load.specs.declared.Loading.TheVariants.{Unset}
+use Rattle.curator.specs.declared.CuratorIndex.{CuratorIndex}
 use Rattle.load.specs.declared.LoadStep.{LoadStep}
 use Rattle.load.specs.declared.LoadStep.TheVariants.{Ended, Next}
 use Rattle.load.specs.File.{file_text}
@@ -26,16 +25,16 @@ pub record Due (file : List ℕ) (done : ℕ) (text : List ℕ) : Type 0 where
   pub whole : file_text file ≡ before ++ (text ++ after)
 
 -- How far a file has been printed: its first `done` bytes, and whatever steps go on from here, their texts are the rest.
-pub record Reached (file : List ℕ) (done at : ℕ) (loading : Loading) (store : Store) : Type 0 where
+pub record Reached (file : List ℕ) (done at : ℕ) (loading : Option CuratorIndex) (store : Store) : Type 0 where
   pub before : List ℕ
   pub count : length before ≡ done
   pub rest : (texts : List (List ℕ)) → Chain file at loading store texts → file_text file ≡ before ++ joined (λ text. text) texts
 
-pub due-begins : (file : List ℕ) (store : Store) → Reached file 0 0 Unset store
+pub due-begins : (file : List ℕ) (store : Store) → Reached file 0 0 None store
 due-begins file store = record { before = []; count = refl; rest = λ texts chain. sym (prints file store texts chain) }
 
 -- a step from there, whose text is handed on
-module _ {file : List ℕ} {done at : ℕ} {loading : Loading} {lent lent' : LoadLists} {text text' : List ℕ} (here : Reached file done at loading lent.store)
+module _ {file : List ℕ} {done at : ℕ} {loading : Option CuratorIndex} {lent lent' : LoadLists} {text text' : List ℕ} (here : Reached file done at loading lent.store)
     (z : Sized lent) where
   -- its text comes next: after the last step nothing does, and after any other some chain goes on
   pub text-due : Bytes file → Sized lent' → (step : LoadStep) → Steps file at loading lent text step lent' text' → Due file done (take (printed_of step) text')
@@ -52,7 +51,7 @@ module _ {file : List ℕ} {done at : ℕ} {loading : Loading} {lent lent' : Loa
       }
 
   -- how far the file has been printed with it
-  pub goes_on_lem : {step : LoadStep} {loading' : Loading} {at' n done' : ℕ} → Steps file at loading lent text step lent' text' → step ≡ Next loading' at' n
+  pub goes_on_lem : {step : LoadStep} {loading' : Option CuratorIndex} {at' n done' : ℕ} → Steps file at loading lent text step lent' text' → step ≡ Next loading' at' n
       → done' ≡ done + length (take (printed_of step) text') → Reached file done' at' loading' lent'.store
   unfolding joined
   goes_on_lem {step} {loading'} {at'} {n} {done'} st e d =

@@ -6,7 +6,7 @@ ghost use Rattle.load.specs.File.{file_text};
 ghost use Rattle.load.specs.Step.{printed_of};
 ghost use Rattle.printer.specs.Due.{Due};
 
-use load::{LoadStep, Loading};
+use load::LoadStep;
 use std::io;
 
 // The bytes that a step wrote.
@@ -14,12 +14,7 @@ fn printed_of(step: LoadStep) -> usize
     ensures { result ≡ printed_of step }
 {
     match step {
-        LoadStep::Ended { printed } => printed,
-        LoadStep::Next {
-            loading,
-            at,
-            printed,
-        } => printed,
+        LoadStep::Ended { printed } | LoadStep::Next { printed, .. } => printed,
     }
 }
 
@@ -45,9 +40,10 @@ pub fn print_file(rt: &impl Print, file: &[u8]) -> io::Result<usize>
     let mut ids = [0u32; 256];
     let mut distances = [0.0f32; 256];
     let mut text = [0u8; 5147];
-    let mut loading = Loading::Unset;
+    let mut loading = None;
     let mut at = 0;
     let mut done = 0;
+    // By hand: only its step says whether a record was left.
     loop {
         let step = load::load_record(
             loading,

@@ -1,31 +1,16 @@
--- One turn of the two loops that write, and the end of each. What is still to be written from here is one byte and the rest; at the end it
--- is nothing.
+-- One turn of the loop that writes digits, and its end. What is still to be written from here is one digit and the rest; at the end it is nothing.
 use Prim.Native.Nat.{ℕ, zero, suc, ◌+◌, ◌-◌, ◌/◌, ◌%◌, ◌≤◌, ◌<◌}
 use native.Mathlib.Nat.{not-suc-le-zero}
 use native.Mathlib.Omega.{arith}
 use mathlib.Core.Path.{◌≡◌, refl, sym, ap, ◌∙◌}
 use mathlib.Core.List.{List}
-use lib.ListN.{length, get_or, set, drop, drop_of_length-le}
-use lib.Seq.{sets, drop-cons}
+use lib.ListN.{length, set}
+use lib.Seq.{sets}
 use Rattle.lists.specs.Parts.{sets_snoc, set-sets-after}
 use Rattle.text.specs.Digits.{digit_char, last_digits}
 use Rattle.text.specs.DigitsLaws.{length-last_digits}
 use Rattle.text.specs.Lines.{Written}
 use Rattle.text.specs.LinesLaws.{line_written}
-
-pub byte_step : (l text : List ℕ) (at i : ℕ) → i < length text
-    → sets l (at + i) (drop i text) ≡ sets (set l (at + i) (get_or text i 0)) (at + (i + 1)) (drop (i + 1) text)
-byte_step l text at i h =
-    let e : suc i ≡ i + 1 = omega arith in
-    let f : suc (at + i) ≡ at + (i + 1) = omega arith in
-    ap (λ (r : List ℕ). sets l (at + i) r) (drop-cons text i 0 h)
-    ∙ ap (λ (k : ℕ). sets (set l (at + i) (get_or text i 0)) k (drop (suc i) text)) f
-    ∙ ap (λ (k : ℕ). sets (set l (at + i) (get_or text i 0)) (at + (i + 1)) (drop k text)) e
-
-pub bytes-end : (l₀ l text : List ℕ) (at i : ℕ) → at + length text ≤ length l₀ → length text ≤ i → sets l (at + i) (drop i text) ≡ sets l₀ at text
-    → Written l₀ at text l (at + length text)
-bytes-end l₀ l text at i room h e =
-    line_written l₀ at text l (at + length text) (sym (ap (λ (r : List ℕ). sets l (at + i) r) (drop_of_length-le text h)) ∙ e) refl room
 
 digit_before : (l : List ℕ) (at base i n : ℕ)
     → sets l at (last_digits base (suc i) n) ≡ sets (set l (at + i) (digit_char (n % base))) at (last_digits base i (n / base))

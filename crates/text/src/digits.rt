@@ -8,6 +8,7 @@ fn digit_char(d: u64) -> u8
     requires { d < 16 }
     ensures { result ≡ digit_char d }
 {
+    // By hand: `char::from_digit` gives an Option of a `char`, which is no plainer.
     if d < 10 {
         b'0' + d as u8
     } else {
@@ -19,13 +20,7 @@ fn digit_char(d: u64) -> u8
 fn decimal_places(n: u64) -> usize
     ensures { result ≡ digit_places n }
 {
-    let mut count = 1;
-    let mut rest = n / 10;
-    while 0 < rest {
-        rest /= 10;
-        count += 1;
-    }
-    count
+    n.max(1).ilog10() as usize + 1
 }
 
 // The last digits of a number in a base up to 16, so many as count says, from the last to the first.
@@ -34,10 +29,8 @@ fn write_digits(out: &mut [u8], at: usize, base: u64, count: usize, n: u64) -> u
     requires count_in_bounds { at + count ≤ length out.old }
     ensures { Written out.old at (last_digits base count n) out.new result }
 {
-    let mut i = count;
     let mut rest = n;
-    while 0 < i {
-        i -= 1;
+    for i in (0..count).rev() {
         out[at + i] = digit_char(rest % base);
         rest /= base;
     }

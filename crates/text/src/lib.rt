@@ -1,4 +1,5 @@
 // The printed lines: a hit, the closing line of an answer, a refusal. Each is written into a lent list of bytes from a place on; the place after it is returned.
+// No heap: so no line is made by `format!`.
 #![tactic(auto)]
 
 mod digits;
@@ -14,12 +15,9 @@ pub fn write_bytes(out: &mut [u8], at: usize, text: &[u8]) -> usize
     requires { at + length text.now ≤ length out.old }
     ensures { Written out.old at text.now out.new result }
 {
-    let mut i = 0;
-    while i < text.len() {
-        out[at + i] = text[i];
-        i += 1;
-    }
-    at + text.len()
+    let end = at + text.len();
+    out[at..end].copy_from_slice(text);
+    end
 }
 
 // A hit: document id and the bits of its distance.
@@ -41,10 +39,8 @@ pub fn write_hits(out: &mut [u8], at: usize, ids: &[u32], distances: &[f32], cou
     ensures { Written out.old at (hit_lines ids.now distances.now count) out.new result }
 {
     let mut place = at;
-    let mut i = 0;
-    while i < count {
+    for i in 0..count {
         place = write_hit(out, place, ids[i], float_bits::to_bits(distances[i]));
-        i += 1;
     }
     place
 }
@@ -65,9 +61,10 @@ fn write_closing_word(out: &mut [u8], at: usize, whole: bool) -> usize
     ensures { Written out.old at (closing_word whole) out.new result }
 {
     if whole {
-        return write_bytes(out, at, b"whole ");
+        write_bytes(out, at, b"whole ")
+    } else {
+        write_bytes(out, at, b"cut ")
     }
-    write_bytes(out, at, b"cut ")
 }
 
 // The closing line of an answer: whether it is whole, and the nodes opened.

@@ -5,7 +5,7 @@
 
 ghost use Rattle.std.specs.Prelude.{◌≤◌, ◌<◌, ◌^◌, min};
 
-use curator::{Changed, CuratorIndex};
+use curator::CuratorIndex;
 use settings::refusal::Refusal;
 use settings::{Capacities, CuratorParams};
 use std::io;
@@ -18,12 +18,6 @@ struct Step {
     index: CuratorIndex,
 }
 
-fn wide(b: u8) -> u32
-    ensures { result < 256 }
-{
-    b as u32
-}
-
 // The number of four bytes at a place, low byte first; 0 where the list ends before.
 fn number_at(s: &[u8], at: usize) -> u32 {
     if s.len() < 4 {
@@ -32,7 +26,7 @@ fn number_at(s: &[u8], at: usize) -> u32 {
     if s.len() - 4 < at {
         return 0;
     }
-    wide(s[at]) + 256 * wide(s[at + 1]) + 65536 * wide(s[at + 2]) + 16777216 * wide(s[at + 3])
+    u32::from_le_bytes([s[at], s[at + 1], s[at + 2], s[at + 3]])
 }
 
 fn size_at(s: &[u8], at: usize) -> usize
@@ -45,7 +39,7 @@ fn byte_at(s: &[u8], at: usize) -> usize
     ensures { result < 256 }
 {
     if at < s.len() {
-        return wide(s[at]) as usize;
+        return s[at] as usize;
     }
     0
 }
@@ -67,33 +61,25 @@ fn forward(end: usize, at: usize, n: usize) -> usize
 fn at_most(n: usize, most: usize) -> usize
     ensures { result ≤ most }
 {
-    if n < most {
-        return n;
-    }
-    most
+    n.min(most)
 }
 
 fn print_number(rt: &impl Print, n: u64) -> io::Result<()> {
     print!(rt; " {n:x}")
 }
 
-fn print_numbers(rt: &impl Print, list: &[u32], from: usize, count: usize) -> io::Result<()> {
-    for n in list.iter().skip(from).take(count) {
-        print_number(rt, u64::from(*n))?;
-    }
-    println!(rt; "")
-}
-
-fn print_hashes(rt: &impl Print, list: &[u64], from: usize, count: usize) -> io::Result<()> {
-    for n in list.iter().skip(from).take(count) {
-        print_number(rt, *n)?;
-    }
-    println!(rt; "")
-}
-
-fn print_floats(rt: &impl Print, list: &[f32], from: usize, count: usize) -> io::Result<()> {
+// The rest of a line: so many places of a list from one on, as the numbers that `number` makes of them.
+fn print_places<T, F: Fn(&T) -> u64>(
+    rt: &impl Print,
+    list: &[T],
+    from: usize,
+    count: usize,
+    number: F,
+) -> io::Result<()>
+    requires { F.IsAlwaysCallable number }
+{
     for x in list.iter().skip(from).take(count) {
-        print_number(rt, u64::from(float_bits::to_bits(*x)))?;
+        print_number(rt, number(x))?;
     }
     println!(rt; "")
 }
@@ -111,16 +97,7 @@ fn float_at(s: &[u8], at: usize, i: usize) -> f32
 }
 
 fn vector_at(s: &[u8], at: usize) -> [f32; 8] {
-    [
-        float_at(s, at, 0),
-        float_at(s, at, 1),
-        float_at(s, at, 2),
-        float_at(s, at, 3),
-        float_at(s, at, 4),
-        float_at(s, at, 5),
-        float_at(s, at, 6),
-        float_at(s, at, 7),
-    ]
+    std::array::from_fn(|i| float_at(s, at, i))
 }
 
 // The bytes of a label in two parts, whose lengths stand at a place.
@@ -162,7 +139,6 @@ fn add_one(
     let lengths = forward(s.len(), at, 5);
     let bytes = forward(s.len(), lengths, 2 * labels);
     let place = forward(s.len(), bytes, text_size(s, lengths, labels));
-    let start = 0;
     let dimension = at_most(index.dimension, 8);
     let vector = vector_at(s, place);
     let next = forward(s.len(), place, 4 * dimension);
@@ -172,16 +148,16 @@ fn add_one(
         hashes,
         text,
         number_at(s, at),
-        &vector[start..dimension],
+        &vector[..dimension],
         &s[lengths..bytes],
         &s[bytes..place],
     );
     match added {
-        Changed::Index(grown) => Ok(Step {
+        Ok(grown) => Ok(Step {
             at: next,
             index: grown,
         }),
-        Changed::Refused(refusal) => {
+        Err(refusal) => {
             print_refusal(rt, refusal)?;
             Ok(Step { at: next, index })
         }
@@ -221,7 +197,7 @@ fn number_in(list: &[u32], at: usize) -> usize
     ensures { result < 2 ^ 32 }
 {
     if at < list.len() {
-        return store::wide(list[at]);
+        return list[at] as usize;
     }
     0
 }
@@ -289,21 +265,33 @@ fn print_index(
     let components = product(dimension, nodes);
     println!(rt; "nodes {nodes:x}")?;
     print!(rt; "order")?;
-    print_numbers(rt, numbers, 192, index.counts.vectors)?;
+    print_places(rt, numbers, 192, index.counts.vectors, |n| u64::from(*n))?;
     print!(rt; "six")?;
-    print_numbers(rt, numbers, 256, 6 * nodes)?;
+    print_places(rt, numbers, 256, 6 * nodes, |n| u64::from(*n))?;
     print!(rt; "links")?;
     if 0 < nodes {
-        print_numbers(rt, numbers, 256 + 6 * room, nodes - 1)?;
+        print_places(rt, numbers, 256 + 6 * room, nodes - 1, |n| u64::from(*n))?;
     }
     print!(rt; "entries")?;
-    print_numbers(rt, numbers, 256 + 7 * room, index.counts.entries)?;
+    print_places(
+        rt,
+        numbers,
+        256 + 7 * room,
+        index.counts.entries,
+        |n| u64::from(*n),
+    )?;
     print!(rt; "filters")?;
-    print_hashes(rt, hashes, 128, 4 * nodes)?;
+    print_places(rt, hashes, 128, 4 * nodes, |hash| *hash)?;
     print!(rt; "pools")?;
     print_pools(rt, numbers, hashes, nodes, room)?;
     print!(rt; "centroids")?;
-    print_floats(rt, floats, centroids, components)
+    print_places(
+        rt,
+        floats,
+        centroids,
+        components,
+        |x| u64::from(float_bits::to_bits(*x)),
+    )
 }
 
 fn settings_at(s: &[u8], at: usize) -> CuratorParams {
@@ -328,7 +316,7 @@ fn capacities_at(s: &[u8], at: usize) -> Capacities {
 // One case; where the next one starts.
 fn run_case(rt: &impl Print, s: &[u8], at: usize) -> io::Result<usize> {
     let made = CuratorIndex::new(size_at(s, at), settings_at(s, at), capacities_at(s, at));
-    let Changed::Index(fresh) = made else {
+    let Ok(fresh) = made else {
         return Ok(s.len());
     };
     let mut floats = [0.0f32; 9824];
@@ -359,8 +347,8 @@ fn run_case(rt: &impl Print, s: &[u8], at: usize) -> io::Result<usize> {
         &mut work,
     );
     match built {
-        Changed::Refused(refusal) => print_refusal(rt, refusal)?,
-        Changed::Index(done) => print_index(rt, done, &floats, &numbers, &hashes)?,
+        Err(refusal) => print_refusal(rt, refusal)?,
+        Ok(done) => print_index(rt, done, &floats, &numbers, &hashes)?,
     }
     Ok(step.at)
 }

@@ -8,19 +8,21 @@ use float_bits::{from_bits, to_bits};
 use std::io;
 use std::io::Read;
 
-fn wide(b: u8) -> u32
-    ensures { result < 256 }
-{
-    b as u32
-}
-
 // Number i of a record.
 fn number(r: &[u8], i: usize) -> u32
     requires r_len { length r.now ≡ 40 }
     requires i_bound { i < 9 }
 {
     let at = 4 * i + 4;
-    wide(r[at]) + 256 * wide(r[at + 1]) + 65536 * wide(r[at + 2]) + 16777216 * wide(r[at + 3])
+    u32::from_le_bytes([r[at], r[at + 1], r[at + 2], r[at + 3]])
+}
+
+// The number of eight bytes that are number i and the next one.
+fn long(r: &[u8], i: usize) -> u64
+    requires r_len { length r.now ≡ 40 }
+    requires i_bound { i < 8 }
+{
+    number(r, i) as u64 + 4294967296 * number(r, i + 1) as u64
 }
 
 // A byte of a record, at most `most`.
@@ -29,11 +31,7 @@ fn byte(r: &[u8], at: usize, most: usize) -> usize
     requires at_bound { at < 40 }
     ensures { result ≤ most }
 {
-    let n = wide(r[at]) as usize;
-    if n < most {
-        return n;
-    }
-    most
+    (r[at] as usize).min(most)
 }
 
 // The count of a record, at most `most`.
@@ -77,9 +75,8 @@ fn norm(rt: &impl Print, r: &[u8]) -> io::Result<()>
     requires { length r.now ≡ 40 }
 {
     let v = four(r, 0);
-    let start = 0;
     let n = count(r, 4);
-    print_float(rt, vector::norm(&v[start..n]))
+    print_float(rt, vector::norm(&v[..n]))
 }
 
 // 3: what is stored of a vector of four components.
@@ -90,10 +87,10 @@ fn stored(rt: &impl Print, r: &[u8]) -> io::Result<()>
     let mut out = [0.0f32; 4];
     let scanned = vector::scan(&v);
     vector::normalize(&v, scanned.squares, &mut out);
-    print_float(rt, out[0])?;
-    print_float(rt, out[1])?;
-    print_float(rt, out[2])?;
-    print_float(rt, out[3])
+    for x in out {
+        print_float(rt, x)?;
+    }
+    Ok(())
 }
 
 // 4: the distance of two vectors of `count` components.
@@ -102,12 +99,8 @@ fn between(rt: &impl Print, r: &[u8]) -> io::Result<()>
 {
     let a = four(r, 0);
     let b = four(r, 4);
-    let start = 0;
     let n = count(r, 4);
-    print_float(
-        rt,
-        distance::cosine_distance_normalized(&a[start..n], &b[start..n]),
-    )
+    print_float(rt, distance::cosine_distance_normalized(&a[..n], &b[..n]))
 }
 
 // 5: the key of a value, and the value back from it.
@@ -134,7 +127,7 @@ fn hash(rt: &impl Print, r: &[u8]) -> io::Result<()>
 fn carried_on(rt: &impl Print, r: &[u8]) -> io::Result<()>
     requires { length r.now ≡ 40 }
 {
-    let start = number(r, 0) as u64 + 4294967296 * number(r, 1) as u64;
+    let start = long(r, 0);
     let end = 12 + count(r, 28);
     let hash = label::hash_label(start, &r[12..end]);
     println!(rt; "{hash:016x}")
@@ -144,8 +137,8 @@ fn carried_on(rt: &impl Print, r: &[u8]) -> io::Result<()>
 fn filter(rt: &impl Print, r: &[u8]) -> io::Result<()>
     requires { length r.now ≡ 40 }
 {
-    let hash = number(r, 0) as u64 + 4294967296 * number(r, 1) as u64;
-    let other = number(r, 2) as u64 + 4294967296 * number(r, 3) as u64;
+    let hash = long(r, 0);
+    let other = long(r, 2);
     let mut words = [0u64; 4];
     bloom::insert(&mut words, hash);
     for word in &words {
@@ -163,9 +156,8 @@ fn scanned(rt: &impl Print, r: &[u8]) -> io::Result<()>
     requires { length r.now ≡ 40 }
 {
     let v = four(r, 0);
-    let start = 0;
     let n = count(r, 4);
-    let scanned = vector::scan(&v[start..n]);
+    let scanned = vector::scan(&v[..n]);
     if scanned.finite {
         print!(rt; "finite ")?;
     } else {
@@ -177,8 +169,7 @@ fn scanned(rt: &impl Print, r: &[u8]) -> io::Result<()>
 fn answer(rt: &impl Print, r: &[u8]) -> io::Result<()>
     requires { length r.now ≡ 40 }
 {
-    let asked = r[0];
-    match asked {
+    match r[0] {
         1 => root(rt, r),
         2 => norm(rt, r),
         3 => stored(rt, r),

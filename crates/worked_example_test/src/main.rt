@@ -4,10 +4,12 @@
 // two labels of one hash, and live marks (02's K10).
 #![tactic(auto)]
 
-use curator::{Changed, CuratorIndex, Found};
+use curator::CuratorIndex;
 use settings::refusal::Refusal;
 use settings::{Capacities, CuratorParams};
 use std::io;
+use store::Lists;
+use walk::Searched;
 
 fn print_refusal(rt: &impl Print, refusal: Refusal) -> io::Result<()> {
     let mut line = [0u8; 19];
@@ -16,10 +18,14 @@ fn print_refusal(rt: &impl Print, refusal: Refusal) -> io::Result<()> {
 }
 
 // The index from now on; a refusal is printed, and the index stays.
-fn kept(rt: &impl Print, index: CuratorIndex, changed: Changed) -> io::Result<CuratorIndex> {
+fn kept(
+    rt: &impl Print,
+    index: CuratorIndex,
+    changed: Result<CuratorIndex, Refusal>,
+) -> io::Result<CuratorIndex> {
     match changed {
-        Changed::Index(next) => Ok(next),
-        Changed::Refused(refusal) => {
+        Ok(next) => Ok(next),
+        Err(refusal) => {
             print_refusal(rt, refusal)?;
             Ok(index)
         }
@@ -49,21 +55,28 @@ fn print_closing(rt: &impl Print, whole: bool, opened: usize) -> io::Result<()> 
 
 fn print_found(
     rt: &impl Print,
-    found: Found,
+    found: Result<Searched, Refusal>,
     ids: &[u32; 4],
     distances: &[f32; 4],
 ) -> io::Result<()> {
     match found {
-        Found::Refused(refusal) => print_refusal(rt, refusal),
-        Found::Hits {
-            count,
-            opened,
-            whole,
-        } => {
-            print_hits(rt, count, ids, distances)?;
-            print_closing(rt, whole, opened)
+        Err(refusal) => print_refusal(rt, refusal),
+        Ok(searched) => {
+            print_hits(rt, searched.hits, ids, distances)?;
+            print_closing(rt, searched.whole, searched.opened)
         }
     }
+}
+
+// A name in two parts.
+#[derive(Clone, Copy)]
+struct Name<'a> {
+    first: &'a [u8],
+    second: &'a [u8],
+}
+
+fn in_parts<'a>(first: &'a [u8], second: &'a [u8]) -> Option<Name<'a>> {
+    Some(Name { first, second })
 }
 
 // Two places of the numbers, and what is written there; a place past the end writes nothing.
@@ -81,7 +94,7 @@ fn overwrite(numbers: &mut [u32; 63], place: usize, value: u32) {
     }
 }
 
-fn fresh_index(ef_search: usize) -> Changed {
+fn fresh_index(ef_search: usize) -> Result<CuratorIndex, Refusal> {
     let params = CuratorParams {
         branching_factor: 2,
         max_leaf_size: 1,
@@ -268,43 +281,31 @@ fn look_up(
     hashes: &[u64; 24],
     text: &[u8; 24],
     work: &mut [u32; 27],
-    filtered: bool,
-    first: &[u8],
-    second: &[u8],
+    name: Option<Name>,
 ) -> io::Result<()> {
     let query = [1.0f32, 0.0];
     let mut ids = [0u32; 4];
     let mut distances = [0.0f32; 4];
-    let found: Found;
-    if filtered {
-        found = search::search_filtered(
+    let lists = Lists {
+        floats,
+        numbers,
+        hashes,
+        text,
+    };
+    let found = match name {
+        Some(name) => search::search_filtered(
             index,
-            floats,
-            numbers,
-            hashes,
-            text,
+            lists,
             work,
             &query,
-            first,
-            second,
+            name.first,
+            name.second,
             4,
             &mut ids,
             &mut distances,
-        );
-    } else {
-        found = search::search(
-            index,
-            floats,
-            numbers,
-            hashes,
-            text,
-            work,
-            &query,
-            4,
-            &mut ids,
-            &mut distances,
-        );
-    }
+        ),
+        None => search::search(index, lists, work, &query, 4, &mut ids, &mut distances),
+    };
     print_found(rt, found, &ids, &distances)
 }
 
@@ -314,13 +315,11 @@ fn example(
     rt: &impl Print,
     ef_search: usize,
     echoes: Echoes,
-    filtered: bool,
-    first: &[u8],
-    second: &[u8],
+    name: Option<Name>,
     damage: Damage,
 ) -> io::Result<()> {
     let made = fresh_index(ef_search);
-    let Changed::Index(fresh) = made else {
+    let Ok(fresh) = made else {
         return println!(rt; "refused by new");
     };
     let mut floats = [0.0f32; 22];
@@ -341,7 +340,7 @@ fn example(
     overwrite(&mut numbers, damage.first, damage.first_value);
     overwrite(&mut numbers, damage.second, damage.second_value);
     look_up(
-        rt, index, &floats, &numbers, &hashes, &text, &mut work, filtered, first, second,
+        rt, index, &floats, &numbers, &hashes, &text, &mut work, name,
     )
 }
 
@@ -349,7 +348,7 @@ fn example(
 fn one_place_at(
     rt: &impl Print,
     ef_search: usize,
-    filtered: bool,
+    name: Option<Name>,
     place: usize,
     value: u32,
 ) -> io::Result<()> {
@@ -357,9 +356,7 @@ fn one_place_at(
         rt,
         ef_search,
         Echoes::Three,
-        filtered,
-        b"a",
-        b"",
+        name,
         Damage {
             first: place,
             first_value: value,
@@ -369,38 +366,40 @@ fn one_place_at(
     )
 }
 
-fn one_place(rt: &impl Print, filtered: bool, place: usize, value: u32) -> io::Result<()> {
-    one_place_at(rt, 5, filtered, place, value)
+fn one_place(rt: &impl Print, name: Option<Name>, place: usize, value: u32) -> io::Result<()> {
+    one_place_at(rt, 5, name, place, value)
 }
 
 // The last four are found at the root, also where the nodes are more than `ef_search`.
 fn children(rt: &impl Print) -> io::Result<()> {
-    one_place(rt, true, 42, 0)?;
-    one_place(rt, true, 42, 5)?;
-    one_place(rt, true, 43, 1)?;
-    one_place(rt, true, 45, 2)?;
-    one_place(rt, true, 45, 5)?;
-    one_place(rt, true, 45, 3)?;
-    one_place(rt, true, 13, 6)?;
-    one_place(rt, true, 12, 4)?;
-    one_place(rt, true, 24, 4)?;
-    one_place(rt, true, 12, 4294967295)?;
-    one_place_at(rt, 4, true, 42, 0)?;
-    one_place_at(rt, 4, true, 42, 5)?;
-    one_place_at(rt, 4, true, 43, 1)?;
-    one_place_at(rt, 1, false, 13, 6)
+    for (place, value) in [
+        (42, 0),
+        (42, 5),
+        (43, 1),
+        (45, 2),
+        (45, 5),
+        (45, 3),
+        (13, 6),
+        (12, 4),
+        (24, 4),
+        (12, 4294967295),
+    ] {
+        one_place(rt, in_parts(b"a", b""), place, value)?;
+    }
+    one_place_at(rt, 4, in_parts(b"a", b""), 42, 0)?;
+    one_place_at(rt, 4, in_parts(b"a", b""), 42, 5)?;
+    one_place_at(rt, 4, in_parts(b"a", b""), 43, 1)?;
+    one_place_at(rt, 1, None, 13, 6)
 }
 
 fn leaves(rt: &impl Print) -> io::Result<()> {
-    one_place(rt, true, 47, 3)?;
-    one_place(rt, true, 49, 3)?;
-    one_place(rt, true, 4, 3)?;
-    one_place(rt, true, 6, 3)?;
-    one_place(rt, true, 23, 4)?;
-    one_place(rt, true, 40, 3)?;
-    one_place(rt, false, 8, 3)?;
-    one_place(rt, false, 10, 3)?;
-    one_place(rt, false, 21, 4)
+    for (place, value) in [(47, 3), (49, 3), (4, 3), (6, 3), (23, 4), (40, 3)] {
+        one_place(rt, in_parts(b"a", b""), place, value)?;
+    }
+    for (place, value) in [(8, 3), (10, 3), (21, 4)] {
+        one_place(rt, None, place, value)?;
+    }
+    Ok(())
 }
 
 // Three entries with the label in node 1 and one in node 4: a fourth hit where three entries are held. Then garbage that is not read: the list of node 3, which
@@ -410,9 +409,7 @@ fn other(rt: &impl Print) -> io::Result<()> {
         rt,
         5,
         Echoes::Three,
-        true,
-        b"a",
-        b"",
+        in_parts(b"a", b""),
         Damage {
             first: 23,
             first_value: 3,
@@ -420,17 +417,15 @@ fn other(rt: &impl Print) -> io::Result<()> {
             second_value: 0,
         },
     )?;
-    one_place(rt, true, 48, 99)?;
-    one_place(rt, true, 8, 99)?;
-    one_place(rt, false, 47, 99)?;
-    one_place(rt, true, 18, 4294967295)?;
+    one_place(rt, in_parts(b"a", b""), 48, 99)?;
+    one_place(rt, in_parts(b"a", b""), 8, 99)?;
+    one_place(rt, None, 47, 99)?;
+    one_place(rt, in_parts(b"a", b""), 18, 4294967295)?;
     example(
         rt,
         0,
         Echoes::Three,
-        true,
-        b"a",
-        b"",
+        in_parts(b"a", b""),
         Damage {
             first: 13,
             first_value: 99,
@@ -454,9 +449,7 @@ fn labelled(rt: &impl Print, ef_search: usize, first: &[u8], second: &[u8]) -> i
         rt,
         ef_search,
         Echoes::Three,
-        true,
-        first,
-        second,
+        in_parts(first, second),
         undamaged(),
     )
 }
@@ -475,7 +468,7 @@ fn budgets(rt: &impl Print) -> io::Result<()> {
 }
 
 fn named(rt: &impl Print, first: &[u8], second: &[u8]) -> io::Result<()> {
-    example(rt, 5, Echoes::Parted, true, first, second, undamaged())
+    example(rt, 5, Echoes::Parted, in_parts(first, second), undamaged())
 }
 
 // Names in other parts: the first empty; each part of 300 bytes; `ab` and `ba`, parted in every way.
@@ -494,21 +487,25 @@ fn parts(rt: &impl Print) -> io::Result<()> {
 // Start or length of the first `a`, of which three bytes are held: it passes them by one, by far; another length; the bytes of `b`, then those of the other
 // `a`. Those of `b` are not read, nor are any without a label.
 fn texts(rt: &impl Print) -> io::Result<()> {
-    one_place(rt, true, 51, 3)?;
-    one_place(rt, true, 51, 4294967295)?;
-    one_place(rt, true, 55, 4)?;
-    one_place(rt, true, 55, 4294967295)?;
-    one_place(rt, true, 55, 0)?;
-    one_place(rt, true, 55, 3)?;
-    one_place(rt, true, 51, 1)?;
-    one_place(rt, true, 51, 2)?;
-    one_place(rt, true, 52, 4294967295)?;
-    one_place(rt, true, 56, 4294967295)?;
-    one_place(rt, false, 51, 4294967295)
+    for (place, value) in [
+        (51, 3),
+        (51, 4294967295),
+        (55, 4),
+        (55, 4294967295),
+        (55, 0),
+        (55, 3),
+        (51, 1),
+        (51, 2),
+        (52, 4294967295),
+        (56, 4294967295),
+    ] {
+        one_place(rt, in_parts(b"a", b""), place, value)?;
+    }
+    one_place(rt, None, 51, 4294967295)
 }
 
 fn of_one_hash(rt: &impl Print, first: &[u8], second: &[u8]) -> io::Result<()> {
-    example(rt, 5, Echoes::OneHash, true, first, second, undamaged())
+    example(rt, 5, Echoes::OneHash, in_parts(first, second), undamaged())
 }
 
 // Each label finds its own echo, however it is parted.
@@ -522,7 +519,7 @@ fn one_hash(rt: &impl Print) -> io::Result<()> {
 // A search where two places are other than they were taught.
 fn two_places(
     rt: &impl Print,
-    filtered: bool,
+    name: Option<Name>,
     first: usize,
     first_value: u32,
     second: usize,
@@ -532,9 +529,7 @@ fn two_places(
         rt,
         5,
         Echoes::Three,
-        filtered,
-        b"a",
-        b"",
+        name,
         Damage {
             first,
             first_value,
@@ -547,19 +542,19 @@ fn two_places(
 // The marks of 7, 8 and 9 stand from 59 on, and one that is not held: 0 is withdrawn, any other number live. Then 9 is another echo of 7, with 7's mark 0, which
 // hides it, and with its own.
 fn marks(rt: &impl Print) -> io::Result<()> {
-    one_place(rt, true, 59, 0)?;
-    one_place(rt, false, 59, 0)?;
-    one_place(rt, true, 60, 0)?;
-    one_place(rt, false, 61, 0)?;
-    one_place(rt, true, 59, 2)?;
-    one_place(rt, true, 59, 4294967295)?;
-    one_place(rt, true, 62, 9)?;
-    one_place_at(rt, 2, true, 59, 0)?;
-    one_place_at(rt, 4, true, 59, 0)?;
-    two_places(rt, true, 59, 0, 61, 0)?;
-    two_places(rt, true, 2, 7, 59, 0)?;
-    two_places(rt, false, 2, 7, 59, 0)?;
-    two_places(rt, true, 2, 7, 61, 0)
+    one_place(rt, in_parts(b"a", b""), 59, 0)?;
+    one_place(rt, None, 59, 0)?;
+    one_place(rt, in_parts(b"a", b""), 60, 0)?;
+    one_place(rt, None, 61, 0)?;
+    one_place(rt, in_parts(b"a", b""), 59, 2)?;
+    one_place(rt, in_parts(b"a", b""), 59, 4294967295)?;
+    one_place(rt, in_parts(b"a", b""), 62, 9)?;
+    one_place_at(rt, 2, in_parts(b"a", b""), 59, 0)?;
+    one_place_at(rt, 4, in_parts(b"a", b""), 59, 0)?;
+    two_places(rt, in_parts(b"a", b""), 59, 0, 61, 0)?;
+    two_places(rt, in_parts(b"a", b""), 2, 7, 59, 0)?;
+    two_places(rt, None, 2, 7, 59, 0)?;
+    two_places(rt, in_parts(b"a", b""), 2, 7, 61, 0)
 }
 
 fn main(rt: HostRuntime) -> io::Result<()> {

@@ -1,14 +1,12 @@
-use Rattle.std.proofs.Common.{ℕ, ◌+◌, ◌*◌, ◌-◌, ◌≤◌, ◌≡◌, refl, sym, ap, ◌∙◌, subst, List, Float, length, take, arith, length-take-le}
+use Rattle.std.proofs.Common.{ℕ, ◌+◌, ◌≤◌, ◌≡◌, refl, ap, ◌∙◌, List, Float, length, take, arith, length-take-le}
 use Rattle.echo_file.specs.Format.{Bytes}
 use Rattle.echo_file.specs.ReadsLaws.{bytes_of}
-use Rattle.load.specs.declared.Loading.{Loading}
-use Rattle.load.specs.declared.LoadStep.{LoadStep}
-use Rattle.load.specs.declared.LoadStep.TheVariants.{Ended, Next}
-use Rattle.load.specs.Step.{LoadLists, Steps, printed_of}
-use Rattle.load.specs.Code.{Narrow, NarrowStep, lists}
+use Rattle.load.specs.declared.LoadStep.TheVariants.{Next}
+use Rattle.load.specs.Step.{printed_of}
+use Rattle.load.specs.Code.{lists}
 use Rattle.load.specs.Onward.{Onward, steps_onward, steps_printed}
 use Rattle.load.specs.Theorem.{Sized}
-use Rattle.printer.specs.Due.{Due, Reached, due-begins, text-due, goes_on_lem, all-printed}
+use Rattle.printer.specs.Due.{due-begins, text-due, goes_on_lem, all-printed}
 use Rattle.printer.proofs.print_file.Goals as goal
 
 -- the lists keep their lengths

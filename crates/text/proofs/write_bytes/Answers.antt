@@ -1,26 +1,18 @@
-use Prim.Native.Nat.{ℕ, ◌+◌}
-use native.Mathlib.Nat.{add-zero}
-use mathlib.Core.Path.{refl, sym, ap, ◌∙◌}
+-- The text is copied over the places that it takes.
+use Prim.Native.Nat.{◌+◌}
+use mathlib.Core.Path.{refl, ap, ◌∙◌}
 use native.Mathlib.Omega.{arith}
-use lib.ListN.{get_or, length-set}
+use lib.ListN.{length}
 use lib.Seq.{sets}
-use Rattle.text.proofs.Steps.{byte_step, bytes-end}
+use Rattle.lists.specs.Parts.{lent-part}
+use Rattle.text.specs.LinesLaws.{line_written}
 use Rattle.text.proofs.write_bytes.Goals as goal
-
-pub loop-i-init : goal.loop-i-init
-loop-i-init c = (omega arith, refl, ap (λ (k : ℕ). sets c.args.out.now k c.args.text.now) (add-zero c.args.at))
-
-pub loop-i-preserved : goal.loop-i-preserved
-loop-i-preserved c =
-    let a = c.args in
-    let l = c.loop-i in (
-      omega arith,
-      length-set l.out (a.at + l.i) (get_or a.text.now l.i 0) ∙ l.invariant.1,
-      sym (byte_step l.out a.text.now a.at l.i (omega arith)) ∙ l.invariant.2,
-    )
 
 pub returns : goal.returns
 returns c =
     let a = c.args in
-    let l = c.loop-i in
-    bytes-end a.out.now l.out a.text.now a.at l.i (omega arith) (omega arith) l.invariant.2
+    let copy = c.copy_from_slice in
+    line_written a.out.now a.at a.text.now _ (a.at + length a.text.now)
+    (lent-part a.out.now a.at (a.at + length a.text.now) copy.new.self (omega arith) (omega arith) (ap length copy.ensures.after ∙ omega arith)
+    ∙ ap (sets a.out.now a.at) copy.ensures.after)
+    refl (omega arith)

@@ -10,8 +10,8 @@ returns-then-whole c =
     let w = c.write_bytes in
     subst (λ (b : Bool). Written c.args.out.now c.args.at (closing_word b) w.new.out w.result) (sym c.if-whole.true) w.ensures
 
-pub returns : goal.returns
+pub returns-else-whole : goal.returns-else-whole
 unfolding closing_word codes
-returns c =
-    let w = c.write_bytes-2 in
+returns-else-whole c =
+    let w = c.write_bytes-else-whole in
     subst (λ (b : Bool). Written c.args.out.now c.args.at (closing_word b) w.new.out w.result) (sym c.if-whole.false) w.ensures

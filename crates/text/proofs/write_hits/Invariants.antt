@@ -1,11 +1,7 @@
 -- The lines of the first i hits stand in the list, and have at most 20 bytes each.
 use Rattle.text.specs.Lines.{hit_lines, Written}
-use Prim.Native.Nat.{◌+◌, ◌*◌, ◌≤◌, ◌-◌}
+use Prim.Native.Nat.{◌+◌, ◌*◌, ◌≤◌}
 use Rattle.text.proofs.write_hits.Given as goal
 
 abbrev pub invariant-loop-i : goal.invariant-loop-i
-invariant-loop-i l =
-    (l.i ≤ l.count) × (l.place ≤ l.at + 20 * l.i) × Written l.initial.out l.at (hit_lines l.ids l.distances l.i) l.out l.place
-
-abbrev pub decreases-loop-i : goal.decreases-loop-i
-decreases-loop-i l = l.count - l.i
+invariant-loop-i l = (l.place ≤ l.at + 20 * l.i) × Written l.initial.out l.at (hit_lines l.ids l.distances l.i) l.out l.place

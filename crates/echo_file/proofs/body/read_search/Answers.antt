@@ -5,26 +5,26 @@ use Rattle.echo_file.proofs.Skips.{went, stopped, skip-end}
 use Rattle.echo_file.proofs.Bodies.{bad, search_cut, search_cut_floats, search-shows}
 use Rattle.echo_file.proofs.body.read_search.Goals as goal
 
-pub returns-in_default : goal.returns-in_default
-returns-in_default c =
-    let file = c.args.file.now in
-    bad c.args.known file c.args.at
-    (search_cut c.args.known file c.args.at (stopped file c.args.at 2 c.requires c.skip.ensures c.in_default.is))
+pub returns-in_err-floats_at : goal.returns-in_err-floats_at
+returns-in_err-floats_at c =
+    let a = c.args in
+    rw c.from_residual.ensures
+    (bad a.known a.file.now a.at (search_cut a.known a.file.now a.at (stopped a.file.now a.at 2 c.requires c.in_err-floats_at.ensures)))
 
-pub returns-in_default-skip_floats : goal.returns-in_default-skip_floats
-returns-in_default-skip_floats c =
-    let args = c.args in
-    let file = args.file.now in
-    let k = (went c.args.file.now c.args.at 2 c.in-To.floats_at c.skip.ensures c.in-To.is) in
-    bad args.known file args.at
-    (search_cut_floats args.known file args.at k
-    (stopped file (c.in-To.floats_at) (4 * args.known.dimension) (skip-end k) c.skip_floats.ensures
-    c.in_default-skip_floats.is))
+pub returns-in_err-next : goal.returns-in_err-next
+returns-in_err-next c =
+    let a = c.args in
+    let k = went a.file.now a.at 2 c.in_ok-floats_at.ensures in
+    rw c.from_residual-in_err-next.ensures
+    (bad a.known a.file.now a.at
+    (search_cut_floats a.known a.file.now a.at k
+    (stopped a.file.now _ (4 * a.known.dimension) (skip-end k) c.in_err-next.ensures)))
 
 pub u16_at-requires : goal.u16_at-requires
-u16_at-requires c = omega (arith, (went c.args.file.now c.args.at 2 c.in-To.floats_at c.skip.ensures c.in-To.is).inside)
+u16_at-requires c = omega (arith, (went c.args.file.now c.args.at 2 c.in_ok-floats_at.ensures).inside)
 
 pub returns : goal.returns
 returns c =
-    let args = c.args in
-    search-shows args.known args.file.now args.at (went c.args.file.now c.args.at 2 c.in-To.floats_at c.skip.ensures c.in-To.is) (went c.args.file.now c.in-To.floats_at (4 * c.args.known.dimension) c.in-To-skip_floats.next c.skip_floats.ensures c.in-To-skip_floats.is) c.u16_at.ensures
+    let a = c.args in
+    search-shows a.known a.file.now a.at (went a.file.now a.at 2 c.in_ok-floats_at.ensures)
+    (went a.file.now _ (4 * a.known.dimension) c.in_ok-next.ensures) c.u16_at.ensures

@@ -4,19 +4,19 @@ use Rattle.echo_file.proofs.Skips.{went, stopped, skip-end}
 use Rattle.echo_file.proofs.Bodies.{counted_cut_count, counted_cut, counted-bytes}
 use Rattle.echo_file.proofs.counted.read_counted.Goals as goal
 
-pub returns-in_default : goal.returns-in_default
-returns-in_default c =
-    counted_cut_count (stopped c.args.file.now c.args.at 1 c.requires c.skip.ensures c.in_default.is)
+pub returns-in_err-start : goal.returns-in_err-start
+returns-in_err-start c = rw c.from_residual.ensures (counted_cut_count (stopped c.args.file.now c.args.at 1 c.requires c.in_err-start.ensures))
 
 pub u8_at-count-requires : goal.u8_at-count-requires
-u8_at-count-requires c = omega (arith, (went c.args.file.now c.args.at 1 c.in-To.from c.skip.ensures c.in-To.is).inside)
+u8_at-count-requires c = omega (arith, (went c.args.file.now c.args.at 1 c.in_ok-start.ensures).inside)
 
-pub returns-in_default-skip : goal.returns-in_default-skip
-returns-in_default-skip c =
-    counted_cut (went c.args.file.now c.args.at 1 c.in-To.from c.skip.ensures c.in-To.is) c.u8_at-count.ensures
-    (stopped (c.args.file.now) (c.in-To.from) c.u8_at-count.result (skip-end (went c.args.file.now c.args.at 1 c.in-To.from c.skip.ensures c.in-To.is)) c.skip-2.ensures c.in_default-skip.is)
+pub returns-in_err-end : goal.returns-in_err-end
+returns-in_err-end c =
+    let one = went c.args.file.now c.args.at 1 c.in_ok-start.ensures in
+    rw c.from_residual-in_err-end.ensures
+    (counted_cut one c.u8_at-count.ensures (stopped c.args.file.now _ c.u8_at-count.result (skip-end one) c.in_err-end.ensures))
 
 pub returns : goal.returns
 returns c =
-    counted-bytes (went c.args.file.now c.args.at 1 c.in-To.from c.skip.ensures c.in-To.is) c.u8_at-count.ensures
-    (went (c.args.file.now) (c.in-To.from) c.u8_at-count.result _ c.skip-2.ensures c.in-To-skip.is)
+    let one = went c.args.file.now c.args.at 1 c.in_ok-start.ensures in
+    counted-bytes one c.u8_at-count.ensures (went c.args.file.now _ c.u8_at-count.result c.in_ok-end.ensures)

@@ -1,5 +1,4 @@
 -- Invariant: the floats before i are written, and the list is otherwise as it was.
-use Prim.Native.Nat.{◌-◌, ◌≤◌}
 use mathlib.Core.Path.{◌≡◌}
 use lib.ListN.{length}
 use lib.Seq.{paste}
@@ -7,7 +6,4 @@ use Rattle.echo_file.proofs.Steps.{floats_at}
 use Rattle.echo_file.proofs.floats.read_floats.Given as goal
 
 abbrev pub invariant-loop-i : goal.invariant-loop-i
-invariant-loop-i l = (l.i ≤ length l.initial.out) × (length l.out ≡ length l.initial.out) × (l.out ≡ paste l.initial.out 0 (floats_at l.file l.at (length l.initial.out)) l.i)
-
-abbrev pub decreases-loop-i : goal.decreases-loop-i
-decreases-loop-i l = length l.initial.out - l.i
+invariant-loop-i l = l.out ≡ paste l.initial.out 0 (floats_at l.file l.at (length l.initial.out)) l.i

@@ -8,6 +8,6 @@ pub returns : goal.returns
 returns c =
     let args = c.args in
     record {
-      is = c.wide.ensures ∙ sym (value-one args.at args.file.now c.requires);
-      below = omega (arith, c.type_inv.file args.at, c.wide.ensures);
+      is = c.from.ensures ∙ sym (value-one args.at args.file.now c.requires);
+      below = omega (arith, c.type_inv.file args.at, c.from.ensures);
     }

@@ -6,8 +6,5 @@ use Rattle.echo_file.proofs.skip.skip.Goals as goal
 pub returns-then-len-at : goal.returns-then-len-at
 returns-then-len-at c = let a = c.args in cut_when a.len a.at a.count (omega arith)
 
-pub returns-then-len-at-2 : goal.returns-then-len-at-2
-returns-then-len-at-2 c = let a = c.args in cut_when a.len a.at a.count (omega arith)
-
 pub returns : goal.returns
 returns c = let a = c.args in to_when a.len a.at a.count (omega arith)
