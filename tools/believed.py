@@ -191,7 +191,7 @@ class Source:
         text = re.sub(r"^\s*//.*\n", "", file.read_text(), flags=re.M)
         self.uses = uses_in("\n".join(re.findall(r"^ghost use .*$", text, re.M)))
         self.paths = {path.split("::")[-1]: path.split("::") for path in re.findall(r"^(?:pub )?use ([\w:]+);", text, re.M)}
-        for found in re.finditer(r"^(?:pub )?(struct|enum) (\w+)(?: \{\n(.*?)^\}|.*?;$)", text, re.M | re.S):
+        for found in re.finditer(r"^(?:pub )?(struct|enum) (\w+)(?:<[^>\n]*>)?(?: \{\n(.*?)^\}|.*?;$)", text, re.M | re.S):
             named = types_named(re.sub(r"^    \w+", "", found[3], flags=re.M) if found[1] == "enum" else found[0].split(found[2], 1)[1])
             self.made[found[2]] = Definition(file, found[2], found[0].count("\n") + 1, [([], named, set())])
         for found in re.finditer(r"^( *)pub (?:extern \"C\" )?fn (\w+).*?(?=\n\1\{$| \{$)", text, re.M | re.S):
