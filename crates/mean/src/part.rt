@@ -17,15 +17,16 @@ pub fn zero(floats: &mut [f32], to: usize, dimension: usize)
     floats[to..end].fill(0.0);
 }
 
-// Copies the part at `from`, which ends before the one at `to`.
+// Copies the part at `from`, which ends before the one at `to`. By hand: the library's copy of a length that is not constant calls C's memmove, which the
+// archive does not ask of its callers.
 pub fn copy(floats: &mut [f32], from: usize, to: usize, dimension: usize)
     requires dimension_bound { from + dimension ≤ to }
     requires dimension_in_bounds { to + dimension ≤ length floats.old }
     ensures { floats.new ≡ sets floats.old to (part from dimension floats.old) }
 {
-    let end = from + dimension;
-    let (front, back) = floats.split_at_mut(to);
-    back[..dimension].copy_from_slice(&front[from..end]);
+    for i in 0..dimension {
+        floats[to + i] = floats[from + i];
+    }
 }
 
 // Adds the part at `from`, which ends before the one at `to`, to that one.

@@ -78,6 +78,16 @@ fn divide_into(v: &[f32], n: f32, out: &mut [f32])
     }
 }
 
+// By hand: the library's copy of a length that is not constant calls C's memmove, which the archive does not ask of its callers.
+fn copy_into(v: &[f32], out: &mut [f32])
+    requires { length out.old ≡ length v.now }
+    ensures { out.new ≡ v.now }
+{
+    for (i, &x) in v.iter().enumerate() {
+        out[i] = x;
+    }
+}
+
 // Writes to `out` what is stored of v, the sum of whose squares is `squares`: a norm above 1e-10
 // divides each component.
 pub fn normalize(v: &[f32], squares: f32, out: &mut [f32])
@@ -88,6 +98,6 @@ pub fn normalize(v: &[f32], squares: f32, out: &mut [f32])
     if n > 1e-10 {
         divide_into(v, n, out);
     } else {
-        out.copy_from_slice(v);
+        copy_into(v, out);
     }
 }

@@ -27,5 +27,5 @@ returns-else-n c =
     record {
       norm = c.sqrt-n.result;
       root = c.sqrt-n.ensures;
-      stored = undivided _ _ _ c.if-n.false c.copy_from_slice.ensures.after;
+      stored = undivided _ _ _ c.if-n.false c.copy_into.ensures;
     }
