@@ -165,14 +165,30 @@ fn gather_entries(
     gather_rest(counts, lists, found, total, hash, owners_at, rest)
 }
 
-// Whether the bytes from a place on are those of a name.
+// Whether two lists of bytes of one length, of N to twice as many, are equal: their first N and their last N. N is a constant, so that each is one comparison.
+fn same_ends<const N: usize>(bytes: &[u8], name: &[u8]) -> bool
+    requires same_length { length bytes.now ≡ length name.now }
+    requires length_bounds { (N ≤ length name.now) × (length name.now ≤ N + N) }
+    ensures { result ≡ same_list bytes.now name.now }
+{
+    let from = name.len() - N;
+    bytes.starts_with(&name[..N]) && bytes.ends_with(&name[from..])
+}
+
+// Whether the bytes from a place on are those of a name. `==` calls a function where there are four bytes or more, which takes longer than a short name.
 #[tactic(auto, using(crate::proofs::Names::equal_bytes))]
 fn same_bytes(text: &[u8], start: usize, name: &[u8]) -> bool
     requires { start + length name.now ≤ length text.now }
     ensures { result ≡ same_list (part start (length name.now) text.now) name.now }
 {
     let end = start + name.len();
-    &text[start..end] == name
+    let bytes = &text[start..end];
+    match name.len() {
+        4..=8 => same_ends::<4>(bytes, name),
+        9..=16 => same_ends::<8>(bytes, name),
+        17..=32 => same_ends::<16>(bytes, name),
+        _ => bytes == name,
+    }
 }
 
 // Whether the bytes of a part of the text are a label's name.
