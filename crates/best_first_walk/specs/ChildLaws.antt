@@ -1,9 +1,9 @@
 -- The children of an inner node, tested and pushed one by one. Assumes nothing.
-use Rattle.std.specs.Prelude.{ℕ, ◌+◌, ◌<◌, ◌≡◌, refl, Bool, true, false, ◌&&◌, cond, List, [], ◌∷◌, ltb, eqb, length, get_or, take, drop, ◌-◌}
+use Rattle.std.specs.Prelude.{ℕ, ◌+◌, ◌≤◌, ◌<◌, ◌≡◌, refl, Bool, true, false, ◌&&◌, cond, List, [], ◌∷◌, ltb, eqb, length, get_or, take, drop, ◌-◌}
 use Rattle.std.proofs.Common.{sym, ap, ap₂, ◌∙◌, subst}
 use Rattle.lists.specs.Lists.{part, is_in}
 use Rattle.lists.specs.Tests.{all_pass, all_pass-nil, all_pass-cons}
-use Rattle.lists.specs.Parts.{lent-run}
+use Rattle.lists.specs.Parts.{length_part, get_d_part, lent-run}
 use Rattle.store.specs.declared.Shape.{Shape}
 use Rattle.store.specs.declared.Counts.{Counts}
 use Rattle.store.specs.Store.{Store, marks_at}
@@ -47,13 +47,18 @@ module _ (view : View) (test : ℕ → Bool) where
   checked_fresh c cs p t e =
       ap₂ (λ (b : Bool) (st : State). cond b st damaged) (all_pass-cons test c cs ∙ ap (λ (b : Bool). b && all_pass test cs) t) (push_all-fresh view c cs p e)
 
--- the next child of a block, as a loop over the block's part reads it
+-- the next child of a block
+pub next_child : (numbers : List ℕ) (start count j x : ℕ) → j < count → start + count ≤ length numbers → x ≡ get_or numbers (start + j) 0
+    → (j < length (part start count numbers)) × (get_or (part start count numbers) j 0 ≡ x)
+next_child numbers start count j x h room e = (rw (length_part start count numbers room) h, get_d_part start count numbers j 0 h ∙ sym e)
+
+-- the same, as a loop over the block's part reads it
 abbrev pub block_part : List ℕ → ℕ → ℕ → List ℕ
 block_part numbers start count = take (start + count - start) (drop start numbers)
 
-pub next_child : (numbers : List ℕ) (start count j : ℕ) → j < length (block_part numbers start count)
+pub next_read : (numbers : List ℕ) (start count j : ℕ) → j < length (block_part numbers start count)
     → (j < length (part start count numbers)) × (get_or (part start count numbers) j 0 ≡ get_or (block_part numbers start count) j 0)
-next_child numbers start count j h = (
+next_read numbers start count j h = (
   subst (λ (l : List ℕ). j < length l) (lent-run start count numbers) h,
   ap (λ (l : List ℕ). get_or l j 0) (sym (lent-run start count numbers)),
 )

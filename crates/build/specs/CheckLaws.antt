@@ -1,9 +1,9 @@
 -- What the rows of a build come to, from what they come to with row 13 left open; and what their passing says, as plain facts.
-use Rattle.std.specs.Prelude.{ℕ, zero, suc, ◌+◌, ◌≤◌, ◌<◌, Bool, true, false, not, ◌&&◌, List, [], ◌∷◌, ◌++◌, ◌≡◌, refl, ltb, eqb, length, get_or}
+use Rattle.std.specs.Prelude.{ℕ, zero, suc, ◌+◌, ◌-◌, ◌≤◌, ◌<◌, Bool, true, false, not, ◌&&◌, List, [], ◌∷◌, ◌++◌, ◌≡◌, refl, ltb, eqb, length, get_or}
 use Rattle.std.proofs.Common.{sym, ap, ◌∙◌, subst, not-suc-le-zero, le_of_suc-le-suc, arith, ltb-true}
 use Rattle.std.proofs.lemmas.Bool.{not-false, eqb-false}
 use Rattle.lists.specs.Lists.{part}
-use Rattle.lists.specs.Parts.{length_part, get_d_part}
+use Rattle.lists.specs.Parts.{length_part, get_d_part, part-cons}
 use Rattle.lists.specs.Frame.{Freed, freed_self}
 use Rattle.store.specs.declared.Shape.{Shape}
 use Rattle.store.specs.Store.{Store, owners_at, work_size, work_part}
@@ -119,6 +119,37 @@ unfolding all_pass
 all-pass-at test [] k h b = absurd (not-suc-le-zero b)
 all-pass-at test (x ∷ xs) zero h b = (and_both (test x) (all_pass test xs) h).0
 all-pass-at test (x ∷ xs) (suc k) h b = all-pass-at test xs k (and_both (test x) (all_pass test xs) h).1 (le_of_suc-le-suc b)
+
+pub from_first : (test : ℕ → Bool) (l : List ℕ) (at count : ℕ) → all_pass test (part at count l) ≡ all_pass test (part (at + 0) (count - 0) l)
+from_first test l at count =
+    let e : at + 0 ≡ at = omega arith in
+    let f : count - 0 ≡ count = omega arith in
+    sym (ap (λ (n : ℕ). all_pass test (part (at + 0) n l)) f ∙ ap (λ (a : ℕ). all_pass test (part a count l)) e)
+
+-- one element more of a part that is asked from a place on: it passes, it fails, and there is none
+pub passed_here : (test : ℕ → Bool) (l : List ℕ) (at i count : ℕ) → i < count → at + count ≤ length l → test (get_or l (at + i) 0) ≡ true
+    → all_pass test (part (at + i) (count - i) l) ≡ all_pass test (part (at + (i + 1)) (count - (i + 1)) l)
+unfolding all_pass
+passed_here test l at i count h room e =
+    let k : count - i ≡ suc (count - (i + 1)) = omega arith in
+    let f : at + (i + 1) ≡ suc (at + i) = omega arith in
+    ap (λ (n : ℕ). all_pass test (part (at + i) n l)) k
+    ∙ ap (all_pass test) (part-cons (at + i) (count - (i + 1)) l 0 (omega arith))
+    ∙ ap (λ (b : Bool). b && all_pass test (part (suc (at + i)) (count - (i + 1)) l)) e
+    ∙ ap (λ (n : ℕ). all_pass test (part n (count - (i + 1)) l)) (sym f)
+
+pub failed_here : (test : ℕ → Bool) (l : List ℕ) (at i count : ℕ) → i < count → at + count ≤ length l → test (get_or l (at + i) 0) ≡ false
+    → all_pass test (part (at + i) (count - i) l) ≡ false
+unfolding all_pass
+failed_here test l at i count h room e =
+    let k : count - i ≡ suc (count - (i + 1)) = omega arith in
+    ap (λ (n : ℕ). all_pass test (part (at + i) n l)) k
+    ∙ ap (all_pass test) (part-cons (at + i) (count - (i + 1)) l 0 (omega arith))
+    ∙ ap (λ (b : Bool). b && all_pass test (part (suc (at + i)) (count - (i + 1)) l)) e
+
+pub passed-all : (test : ℕ → Bool) (l : List ℕ) (at i count : ℕ) → count ≤ i → all_pass test (part (at + i) (count - i) l) ≡ true
+unfolding all_pass
+passed-all test l at i count h = let k : count - i ≡ 0 = omega arith in ap (λ (n : ℕ). all_pass test (part (at + i) n l)) k
 
 -- owners that pass are below n
 owners-below : (index : CuratorIndex) (numbers : List ℕ) → owners_bad index numbers ≡ false

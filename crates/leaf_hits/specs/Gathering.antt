@@ -2,7 +2,8 @@
 use Rattle.std.specs.Prelude.{ℕ, suc, ◌+◌, ◌≤◌, ◌<◌, ◌≡◌, refl, ◌⊎◌, Bool, true, false, ◌&&◌, cond, List, [], ◌∷◌, ◌++◌, map, length, get_or, take, drop, set, ltb, Result, Ok, Err}
 use Rattle.std.proofs.Common.{add-one, arith, sym, ap, ap₂, ◌∙◌, subst, inl, inr, append_assoc, append-nil, length-append, length-set, take-append-drop, lt-ltb, le-ltb, take_all, take-suc, drop-cons, take-suc-set}
 use Rattle.std.proofs.lemmas.List.{map-append, length-map, take-set-le}
-use Rattle.lists.specs.Lists.{keep}
+use Rattle.lists.specs.Lists.{part, keep}
+use Rattle.lists.specs.Parts.{length_part, get_d_part}
 use Rattle.lists.specs.Counting.{keep-nil, keep-pass, keep_fail, keep_append, length-keep_le}
 use Rattle.lists.specs.Tests.{which, and_false, all_pass, all_pass-nil, all_pass-cons, all_pass-append}
 use Rattle.walk.specs.declared.Damaged.{Damaged}
@@ -194,6 +195,13 @@ module _ (x owner : ℕ) where
 
   pub entry-held : (read entries vectors : ℕ) → read ≡ owner → x < entries → read < vectors → (ltb x entries && ltb owner vectors) ≡ true
   entry-held read entries vectors e h held = ap₂ ◌&&◌ (lt-ltb x entries h) (lt-ltb owner vectors (subst (λ (n : ℕ). n < vectors) e held))
+
+-- number j of a block
+pub block-at : (numbers : List ℕ) (start count j x : ℕ) → j < count → x ≡ get_or numbers (start + j) 0 → get_or (part start count numbers) j 0 ≡ x
+block-at numbers start count j x h e = get_d_part start count numbers j 0 h ∙ sym e
+
+pub block_room : (numbers : List ℕ) (start count j : ℕ) → start + count ≤ length numbers → j < count → j < length (part start count numbers)
+block_room numbers start count j room h = rw (length_part start count numbers room) h
 
 -- ---- two tests, one after the other
 

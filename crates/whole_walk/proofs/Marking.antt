@@ -83,7 +83,7 @@ module _ (s : Shape) (c : Counts) (found parent : ℕ) (l work₀ : List ℕ) (w
       test : child_test c parent child ≡ true
       test = and_left (child_test c parent child) (eqb (get_or work (marks_at s + child) 0) 0) fresh
 
-      child_low : child < c.nodes
+      pub child_low : child < c.nodes
       child_low = ltb-true child c.nodes (and_right (ltb parent child) (ltb child c.nodes) test)
 
       pub marks-next : Marks s c found parent l work₀ (j + 1) (set work (marks_at s + child) 1)

@@ -24,7 +24,7 @@ use Rattle.best_first_walk.specs.Walks.{hits_part, found_in, found_part}
 use Rattle.best_first_walk.specs.WalksLaws.{looks_about, few-hits, length_found, length-hits, marks-room}
 use Rattle.best_first_walk.specs.MarkLaws.{works-found, hits-lent, found-lent, hits_back}
 use Rattle.best_first_walk.specs.GatherLaws.{most-is, vectors-held}
-use Rattle.best_first_walk.specs.ChildLaws.{children-shown, block_part, next_child, fresh-is}
+use Rattle.best_first_walk.specs.ChildLaws.{children-shown, block_part, next_read, fresh-is}
 use Rattle.best_first_walk.proofs.Walking.{Waits, few_wait, opens, opens-below, waits_from, waits_start, opens-damage, leaf_damage, leaf_hits_lem, ends-damaged, ends-whole, ends_cut}
 use Rattle.best_first_walk.proofs.Marking.{Marks, marks-start, child_damage, child_marked, children-room, children-held, children-pushed}
 use Rattle.best_first_walk.proofs.best_first_walk.Goals as goal
@@ -315,7 +315,7 @@ loop-number-preserved c =
     let kept = c.loop-number.invariant in
     let child = get_or (block_part c.args.lists.numbers.now c.in-Inner.children.start c.in-Inner.children.count) c.loop-number.number-index 0 in
     subst (λ (at : ℕ). Marks s n (hit b) (view b) ef work node l (j + 1) (set marked (at + child) 1) waits found more) (sym c.marks_at-marks_at.ensures)
-    (child_marked s n (hit b) (view b) ef work limits nodes some (below b) node l j child marked waits found more kept (next_child c.args.lists.numbers.now c.in-Inner.children.start c.in-Inner.children.count j c.loop-number-test.true)
+    (child_marked s n (hit b) (view b) ef work limits nodes some (below b) node l j child marked waits found more kept (next_read c.args.lists.numbers.now c.in-Inner.children.start c.in-Inner.children.count j c.loop-number-test.true)
     (fresh-is s n marked node child c.marks_at-marks_at.result c.fresh_child.result true c.marks_at-marks_at.ensures c.fresh_child.ensures c.if-not-fresh_child.false)
     (omega (arith, few_wait s n (hit b) (view b) ef first limits nodes some (below b) c.walk.work c.walk.waiting c.walk.hits c.walk.opened c.walk.invariant)))
 
@@ -503,7 +503,7 @@ returns-then-not-fresh_child c =
     let kept = c.loop-number.invariant in
     let child = get_or (block_part c.args.lists.numbers.now c.in-Inner.children.start c.in-Inner.children.count) c.loop-number.number-index 0 in
     record {
-      ends = ends-damaged s n (hit b) (view b) ef first limits nodes some (below b) marked (child_damage s n (hit b) (view b) ef work limits nodes some (below b) node l j child marked waits found more kept (next_child c.args.lists.numbers.now c.in-Inner.children.start c.in-Inner.children.count j c.loop-number-test.true)
+      ends = ends-damaged s n (hit b) (view b) ef first limits nodes some (below b) marked (child_damage s n (hit b) (view b) ef work limits nodes some (below b) node l j child marked waits found more kept (next_read c.args.lists.numbers.now c.in-Inner.children.start c.in-Inner.children.count j c.loop-number-test.true)
           (fresh-is s n marked node child c.marks_at-marks_at.result c.fresh_child.result false c.marks_at-marks_at.ensures c.fresh_child.ensures c.if-not-fresh_child.true));
       works = works-after b marked (works_trans s first work marked opened.1.works kept.2.works);
     }

@@ -1,7 +1,7 @@
 use Rattle.std.proofs.Common.{ℕ, ◌+◌, ◌≤◌, List, arith, sym, subst, length, get_or, true, false, set}
 use Rattle.lists.specs.Lists.{part}
 use Rattle.lists.specs.Parts.{lent-run}
-use Rattle.best_first_walk.specs.ChildLaws.{block_part, next_child, fresh-is}
+use Rattle.best_first_walk.specs.ChildLaws.{block_part, next_read, fresh-is}
 use Rattle.whole_walk.proofs.Marking.{Marks, marks-none, marks-all, marks-damage, marks-next}
 use Rattle.whole_walk.proofs.mark_children.Goals as goal
 
@@ -23,7 +23,7 @@ loop-number-preserved c =
     λ found.
     subst (λ (at : ℕ). Marks a.shape a.counts found a.parent l a.work.now (j + 1) (set marked (at + child) 1)) (sym c.marks_at-marks_at.ensures)
     (marks-next a.shape a.counts found a.parent l a.work.now c.requires.within c.requires.work_enough j marked (c.loop-number.invariant found) child
-    (next_child a.numbers.now a.children.start a.children.count j c.loop-number-test.true)
+    (next_read a.numbers.now a.children.start a.children.count j c.loop-number-test.true)
     (fresh-is a.shape a.counts marked a.parent child c.marks_at-marks_at.result c.fresh_child.result true c.marks_at-marks_at.ensures c.fresh_child.ensures c.if-not-fresh_child.false))
 
 pub returns-then-not-fresh_child : goal.returns-then-not-fresh_child
@@ -36,7 +36,7 @@ returns-then-not-fresh_child c =
     record {
       gives = λ hit view store p found n.
           marks-damage a.shape a.counts found a.parent l a.work.now c.requires.within c.requires.work_enough j marked (c.loop-number.invariant found) child
-          (next_child a.numbers.now a.children.start a.children.count j c.loop-number-test.true)
+          (next_read a.numbers.now a.children.start a.children.count j c.loop-number-test.true)
           (fresh-is a.shape a.counts marked a.parent child c.marks_at-marks_at.result c.fresh_child.result false c.marks_at-marks_at.ensures c.fresh_child.ensures c.if-not-fresh_child.true)
           hit view store p n;
       works = (c.loop-number.invariant 0).works;
