@@ -11,8 +11,8 @@ use Rattle.lists.specs.Lists.{part, same_list}
 use Rattle.lists.specs.Parts.{length_part, part-append-parts}
 use Rattle.lists.specs.Same.{same-equal, equal-same, differ_same}
 use Rattle.std.proofs.lemmas.Bool.{false≢true}
-use Rattle.std.proofs.Common.{le_of_eq, take-append-drop, take_all, drop-drop, length-take-le, length-drop}
-use Rattle.std.specs.List.{ends_with}
+use Rattle.std.proofs.Common.{le_of_eq, take-append-drop, take_all, drop-drop, length-drop}
+use Rattle.std.proofs.Math.Seq.{take-add}
 
 -- `==` of two lists of bytes
 pub equal_bytes : (xs ys : List ℕ) → pointwise eqb xs ys ≡ same_list xs ys
@@ -35,56 +35,52 @@ same-append (x ∷ xs) (y ∷ ys) us vs e =
 pub cut_from : (n : ℕ) (l : List ℕ) → take (length l - n) (drop n l) ≡ drop n l
 cut_from n l = take_all (length l - n) (drop n l) (le_of_eq (length-drop n l))
 
--- ---- the first n bytes
+-- ---- n bytes from a place on
 
-module _ (n : ℕ) (xs ys : List ℕ) (low : n ≤ length ys) where
-  abbrev pub front : List ℕ → List ℕ
-  front l = take n l
+module _ (n at : ℕ) (xs ys : List ℕ) (low : at + n ≤ length xs) where
+  -- the test of the library, as the code cuts both
+  pub same-at : (k : ℕ) → k ≡ n → (t : Bool)
+      → t ≡ pointwise eqb (take k (drop at xs)) (take (length (take k (drop at xs))) (take (length ys - at) (drop at ys)))
+      → t ≡ same_list (part at n xs) (part at n ys)
+  same-at k e t is =
+      is
+      ∙ ap₂ (λ (k : ℕ) (l : List ℕ). pointwise eqb (take k (drop at xs)) (take (length (take k (drop at xs))) l)) e (cut_from at ys)
+      ∙ equal_bytes (part at n xs) (take (length (part at n xs)) (drop at ys))
+      ∙ ap (λ (k : ℕ). same_list (part at n xs) (take k (drop at ys))) (length_part at n xs low)
 
-  -- the test of the library
-  front_test : pointwise eqb (front ys) (take (length (front ys)) xs) ≡ same_list (front ys) (front xs)
-  front_test = equal_bytes (front ys) (take (length (front ys)) xs) ∙ ap (λ (k : ℕ). same_list (front ys) (take k xs)) (length-take-le n ys low)
+-- where the first bytes are equal, and the next n too, all of these are
+pub fronts_more : (n at : ℕ) (xs ys : List ℕ) → same_list (part at n xs) (part at n ys) ≡ true → take at xs ≡ take at ys
+    → take (at + n) xs ≡ take (at + n) ys
+fronts_more n at xs ys e f =
+    take-add at n xs ∙ ap₂ ◌++◌ f (same-equal (part at n xs) (part at n ys) e) ∙ sym (take-add at n ys)
 
-  pub fronts : pointwise eqb (front ys) (take (length (front ys)) xs) ≡ true → front ys ≡ front xs
-  fronts f = same-equal (front ys) (front xs) (sym front_test ∙ f)
+-- where a part differs, so does the whole
+pub part_differs : (n at : ℕ) (xs ys : List ℕ) → same_list (part at n xs) (part at n ys) ≡ false → same_list xs ys ≡ false
+part_differs n at xs ys f =
+    differ_same xs ys (λ d. false≢true (sym f ∙ equal-same (part at n xs) (part at n ys) (ap (λ (l : List ℕ). part at n l) d)))
 
-  pub front_differs : (t : Bool) → t ≡ pointwise eqb (front ys) (take (length (front ys)) xs) → t ≡ false → t ≡ same_list xs ys
-  front_differs t e f =
-      f ∙ sym (differ_same xs ys (λ d. false≢true (sym f ∙ e ∙ front_test ∙ equal-same (front ys) (front xs) (ap front (sym d)))))
+-- ---- the last n bytes, which begin no later than a place before which all are equal
 
--- ---- the first n bytes and the last n of a list that has no more than both
+module _ (n at from : ℕ) (xs ys : List ℕ) (same : length xs ≡ length ys) (last : from + n ≡ length ys) (meets : from ≤ at) where
+  -- what stands from the place on stands at the end of the last n
+  behind : (l : List ℕ) → length l ≡ length ys → drop at l ≡ drop (at - from) (part from n l)
+  behind l long =
+      let e : from + (at - from) ≡ at = omega arith in
+      sym (ap (drop (at - from)) (take_all n (drop from l) (le_of_eq (length-drop from l ∙ omega (arith, long, last))))
+      ∙ drop-drop (at - from) from l ∙ ap (λ (k : ℕ). drop k l) e)
 
-module _ (n : ℕ) (xs ys : List ℕ) (same : length xs ≡ length ys) (low : n ≤ length ys) (high : length ys ≤ n + n) where
-  abbrev pub back : List ℕ → List ℕ
-  back l = drop (length ys - n) l
-
-  -- what is behind the first n stands at the end of the last n
-  behind : (l : List ℕ) → drop n l ≡ drop (n - (length ys - n)) (back l)
-  behind l =
-      let e : length ys - n + (n - (length ys - n)) ≡ n = omega arith in
-      sym (drop-drop (n - (length ys - n)) (length ys - n) l ∙ ap (λ (k : ℕ). drop k l) e)
-
-  meet : take n ys ≡ take n xs → back ys ≡ back xs → xs ≡ ys
+  meet : take at xs ≡ take at ys → part from n xs ≡ part from n ys → xs ≡ ys
   meet f b =
-      sym (take-append-drop n xs)
-      ∙ ap₂ ◌++◌ (sym f) (behind xs ∙ ap (drop (n - (length ys - n))) (sym b) ∙ sym (behind ys))
-      ∙ take-append-drop n ys
+      sym (take-append-drop at xs)
+      ∙ ap₂ ◌++◌ f (behind xs same ∙ ap (drop (at - from)) b ∙ sym (behind ys refl))
+      ∙ take-append-drop at ys
 
-  -- the test of the library
-  back_test : ends_with eqb xs (take (length ys - (length ys - n)) (back ys)) ≡ same_list (back ys) (back xs)
-  back_test =
-      let e : length xs - length (back ys) ≡ length ys - n = rw (length-drop (length ys - n) ys) (omega (arith, same, low)) in
-      ap (ends_with eqb xs) (cut_from (length ys - n) ys)
-      ∙ equal_bytes (back ys) (drop (length xs - length (back ys)) xs)
-      ∙ ap (λ (k : ℕ). same_list (back ys) (drop k xs)) e
-
-  pub ends-same : (t : Bool) → pointwise eqb (take n ys) (take (length (take n ys)) xs) ≡ true
-      → t ≡ ends_with eqb xs (take (length ys - (length ys - n)) (back ys)) → t ≡ same_list xs ys
-  ends-same t f e = by t refl
+  pub ends-same : take at xs ≡ take at ys → (t : Bool) → t ≡ same_list (part from n xs) (part from n ys) → t ≡ same_list xs ys
+  ends-same f t e = by t refl
     where
       by : (b : Bool) → t ≡ b → t ≡ same_list xs ys
-      by true b = b ∙ sym (equal-same xs ys (meet (fronts n xs ys low f) (same-equal (back ys) (back xs) (sym (e ∙ back_test) ∙ b))))
-      by false b = b ∙ sym (differ_same xs ys (λ d. false≢true (sym b ∙ e ∙ back_test ∙ equal-same (back ys) (back xs) (ap back (sym d)))))
+      by true b = b ∙ sym (equal-same xs ys (meet f (same-equal (part from n xs) (part from n ys) (sym e ∙ b))))
+      by false b = b ∙ sym (part_differs n from xs ys (sym e ∙ b))
 
 -- ---- a name in two parts
 

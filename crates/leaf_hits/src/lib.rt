@@ -165,17 +165,39 @@ fn gather_entries(
     gather_rest(counts, lists, found, total, hash, owners_at, rest)
 }
 
-// Whether two lists of bytes of one length, of N to twice as many, are equal: their first N and their last N. N is a constant, so that each is one comparison.
-fn same_ends<const N: usize>(bytes: &[u8], name: &[u8]) -> bool
-    requires same_length { length bytes.now ≡ length name.now }
-    requires length_bounds { (N ≤ length name.now) × (length name.now ≤ N + N) }
-    ensures { result ≡ same_list bytes.now name.now }
+// Whether N bytes of a name are those that stand at the same places of another list. N is a constant, so that this is one comparison in place; `==` of two
+// parts would call a function from four bytes on.
+#[inline(always)]
+fn same_at<const N: usize>(bytes: &[u8], name: &[u8], at: usize) -> bool
+    requires positive { 0 < N }
+    requires bytes_in_bounds { at + N ≤ length bytes.now }
+    requires name_in_bounds { at + N ≤ length name.now }
+    ensures { result ≡ same_list (part at N bytes.now) (part at N name.now) }
 {
-    let from = name.len() - N;
-    bytes.starts_with(&name[..N]) && bytes.ends_with(&name[from..])
+    name[at..].starts_with(&bytes[at..at + N])
 }
 
-// Whether the bytes from a place on are those of a name. `==` calls a function where there are four bytes or more, which takes longer than a short name.
+// Whether two lists of bytes of one length, of N or more, are equal: N bytes a turn, and then their last N, some of them perhaps again.
+#[inline(always)]
+fn same_by<const N: usize>(bytes: &[u8], name: &[u8]) -> bool
+    requires positive { 0 < N }
+    requires same_length { length bytes.now ≡ length name.now }
+    requires length_bound { N ≤ length name.now }
+    ensures { result ≡ same_list bytes.now name.now }
+{
+    let mut at = 0;
+    // By hand: a turn takes N bytes, and the last N are compared whatever is left.
+    while N < name.len() - at {
+        if !same_at::<N>(bytes, name, at) {
+            return false;
+        }
+        at += N;
+    }
+    same_at::<N>(bytes, name, name.len() - N)
+}
+
+// Whether the bytes from a place on are those of a name. `==` is taken where it compares in place, which is below four bytes.
+#[inline(always)]
 #[tactic(auto, using(crate::proofs::Names::equal_bytes))]
 fn same_bytes(text: &[u8], start: usize, name: &[u8]) -> bool
     requires { start + length name.now ≤ length text.now }
@@ -184,14 +206,14 @@ fn same_bytes(text: &[u8], start: usize, name: &[u8]) -> bool
     let end = start + name.len();
     let bytes = &text[start..end];
     match name.len() {
-        4..=8 => same_ends::<4>(bytes, name),
-        9..=16 => same_ends::<8>(bytes, name),
-        17..=32 => same_ends::<16>(bytes, name),
-        _ => bytes == name,
+        0..=3 => bytes == name,
+        4..=7 => same_by::<4>(bytes, name),
+        _ => same_by::<8>(bytes, name),
     }
 }
 
-// Whether the bytes of a part of the text are a label's name.
+// Whether the bytes of a part of the text are a label's name. All that it calls is inlined, and it is not, so that an entry takes one call.
+#[inline(never)]
 #[tactic(auto, using(crate::proofs::Names::name_longer, crate::proofs::Names::halves))]
 pub fn named(text: &[u8], start: usize, size: usize, label: Label) -> bool
     requires { start + size ≤ length text.now }
